@@ -51,8 +51,8 @@ as-made {old} {mid} {new} {result} {whole} {all} is x m = record {
   too_large = λ e. subst (λ (n : Made). HasTooMany n.draft) (sym is) (m.too_large e);
 }
 
-pub by-choice : {old new : Drafted} {result : Result ℕ EncodeFault} {all : Made} {value : (ℕ → Bool) → Bool}
-    {Needs : Type 0} → MakesGates old new result all value Needs → MakesLiteral old new result all
+pub by-choice : {old new : Drafted} {result : Result ℕ EncodeFault} {all : Made} {value : (ℕ → Bool) → Bool} →
+    MakesGates old new result all value → MakesLiteral old new result all
 by-choice m = record { extends = m.extends; held = m.held; made = m.made; too_large = m.above }
 
 -- the entry of a tested proposition, in the table of the inputs' literals

@@ -55,15 +55,15 @@ fn least_letter(alloc: Global, store: &mut Store) -> Result<Option<u64>, AllocEr
 }
 
 /// Two numbers for the diagram that has a leaf 1 only at the letter 3: the number of its leaves, and the number of
-/// classes of letters that `classes_from` computes for it.
-fn leaves_and_classes(alloc: Global, store: &mut Store) -> Result<(usize, usize), AllocError> {
+/// classes of letters that `classes_in_copy` computes for it.
+fn leaves_and_classes(store: &mut Store) -> Result<(usize, usize), AllocError> {
     if store.propositions() != 2 {
         return Ok((0, 0));
     }
     let node = store.of_letter(3)?;
     let leaves = store.leaves(node)?.len();
-    let mut made = Store::new(alloc, 2);
-    let classes = made.classes_from(store, node, 1)?;
+    let mut made = store.copy()?;
+    let classes = made.classes_in_copy(store, node, 1)?;
     Ok((leaves, classes.list.len()))
 }
 
@@ -122,7 +122,7 @@ fn answers_of(alloc: Global, store: &mut Store) -> Result<Answered, AllocError> 
         clashes: clashes(store)?,
         least_letter: least_letter(alloc, store)?,
         relabelled_from: relabelled_from(alloc, store)?,
-        leaves_and_classes: leaves_and_classes(alloc, store)?,
+        leaves_and_classes: leaves_and_classes(store)?,
         copied_propositions: store.copy()?.propositions(),
     })
 }

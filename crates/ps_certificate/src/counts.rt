@@ -1,6 +1,6 @@
 //! The counts of an entry that is being made.
 
-ghost use Rattle.std.specs.Prelude.{◌≡◌, ◌++◌, ◌∷◌, ◌-◌, ◌<◌, ◌≤◌, ◌^◌, ◌+◌, [], length, replicate, OnOk};
+ghost use Rattle.std.specs.Prelude.{◌≡◌, ◌++◌, ◌∷◌, ◌-◌, ◌<◌, ◌≤◌, ◌^◌, ◌+◌, [], length, replicate, IfOk, OnOk};
 
 use crate::row::Row;
 use ps_game::NonzeroCount;
@@ -34,6 +34,17 @@ impl Counts {
             width: 0,
             placed: Vec::new(alloc),
         }
+    }
+
+    /// The given counts. Fails if out of memory.
+    pub(crate) fn of(alloc: Global, list: &[u64]) -> Result<Self, AllocError>
+        ensures { IfOk result (λ counts. counts ≡ list.now) }
+    {
+        let mut counts = Counts::new(alloc);
+        for count in list {
+            counts.push(*count)?;
+        }
+        Ok(counts)
     }
 
     /// Removes all counts.

@@ -14,9 +14,8 @@ use Rattle.ps_components.proofs.Places.{slice_get-append_left, slice_get-push, s
 use Rattle.ps_circuit.specs.declared.builder.Sides.{Sides}
 use Rattle.ps_circuit.specs.contracts.builder.SidesPartialEq.TheImpl as sides_eq
 use Rattle.ps_circuit.specs.Literals.{variable, negated}
-use Rattle.ps_circuit.specs.Building.{Drafted, AreSides, Extends, IsChoice, IsFull, IsHeld, IsNew, IsSoundDraft}
+use Rattle.ps_circuit.specs.Building.{Drafted, AreSides, Extends, IsFull, IsHeld, IsSoundDraft}
 use Rattle.ps_circuit.specs.Building.{MeetsEquations}
-use Rattle.ps_circuit.specs.Building.{NeedsChoice, NeedsGate, for_either}
 use Rattle.ps_circuit.specs.Building.{bit, variables_of}
 
 -- a truth value is true or false
@@ -92,10 +91,6 @@ absent d s none k t e same =
     let within : k < length d.gates = slice_get_within d.gates k t e in
     let at : get_or d.gates k s ≡ t = get_or_from_slice_get d.gates k t s e in
     grind (arith, true_is_not_false, list_any_at, sides_same)
-
-pub new-absent : (d : Drafted) (s : Sides) → list_any ((sides_eq.eq-value).it s) d.gates ≡ false →
-    IsNew d s.first s.second
-new-absent d s none k t e both = absent d s none k t e (sides_are s t (sym both.0) (sym both.1))
 
 -- the gates after a gate with the two literals was made, if there was none
 abbrev pub with_gate : List Sides → Sides → List Sides
@@ -195,14 +190,6 @@ placed-held d s place at =
     let half : 2 * (d.given + 1 + place) / 2 ≡ d.given + 1 + place = omega arith in
     omega (arith, within, half)
 
--- a pair of literals that no existing gate has, and that is allowed for a gate, needs a new gate
-pub needs : (d : Drafted) (own : ℕ) (s : Sides) → IsSoundDraft d → AreSides own s → IsNew d s.first s.second →
-    NeedsGate d s.first s.second
-needs d own s is a new = search rules
-
-pub needs-turned : {d : Drafted} {x y : ℕ} → NeedsGate d x y → NeedsGate d y x
-needs-turned n = search rules
-
 de_morgan : (a b : Bool) → not (not a && not b) ≡ (a || b)
 de_morgan a b = search (rules, not-not)
 
@@ -222,26 +209,6 @@ pub chosen_bits : (v : ℕ → Bool) (s h l : ℕ) {ns : ℕ} (high low result :
     bit v high ≡ (bit v s && bit v h) → bit v low ≡ (bit v ns && bit v l) → bit v result ≡ (bit v high || bit v low) →
     bit v result ≡ cond (bit v s) (bit v h) (bit v l)
 chosen_bits v s h l high low result e eh el er = er ∙ chosen_either v s h l high low e eh el
-
--- if `high` or `low` is the constant true, the multiplexer is a disjunction: of `s` and `low` if `high` is true, of not
--- `s` and `high` if `low` is true
-bit_one : {d : Drafted} (v : ℕ → Bool) → MeetsEquations d v → bit v 1 ≡ true
-bit_one v m = ap not m.constant
-
-either_high : (d : Drafted) (s high low : ℕ) → high ≡ 1 → IsChoice d s high low s low
-either_high d s high low e v m = grind (arith, bit_one {d = d} v m)
-
-pub needs-high : {d : Drafted} {s high low : ℕ} → high ≡ 1 → NeedsGate d (negated s) (negated low) →
-    NeedsChoice d s high low
-needs-high {d} {s} {high} {low} e n = for_either s low (either_high d s high low e) n
-
-either_low : (d : Drafted) (s high low not_s : ℕ) → not_s ≡ negated s → low ≡ 1 →
-    IsChoice d s high low not_s high
-either_low d s high low not_s n e v m = grind (arith, bit-negated, bit_one {d = d} v m)
-
-pub needs-low : {d : Drafted} {s high low not_s : ℕ} → not_s ≡ negated s → low ≡ 1 →
-    NeedsGate d (negated not_s) (negated high) → NeedsChoice d s high low
-needs-low {d} {s} {high} {low} {not_s} n e g = for_either not_s high (either_low d s high low not_s n e) g
 
 -- if a function returns the fault of a call unchanged, its fault equals that of the call
 pub passed : {X : Type 0} (result : Result X EncodeFault) (fault other : EncodeFault) →

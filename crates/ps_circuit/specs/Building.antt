@@ -6,11 +6,11 @@
 -- - `Extends old new`: all gates of `old` are also in `new`, with the same variables
 -- - `IsSoundDraft d`: the invariant of a circuit builder: its gates are well formed and different from each other, and
 --   the literals of all variables fit into 32 bits
-use Rattle.std.specs.Prelude.{◌≡◌, ◌≢◌, ℕ, ◌+◌, ◌^◌, ◌<◌, ◌≤◌, ◌&&◌, ◌||◌, Bool, false, not, if◌then◌else◌, List}
+use Rattle.std.specs.Prelude.{◌≡◌, ◌≢◌, ℕ, ◌+◌, ◌^◌, ◌<◌, ◌≤◌, ◌&&◌, Bool, false, not, if◌then◌else◌, List}
 use Rattle.std.specs.Prelude.{length}
 use Rattle.std.specs.Prelude.{slice_get, Some}
 use Rattle.ps_circuit.specs.declared.builder.Sides.{Sides}
-use Rattle.ps_circuit.specs.Literals.{is_negated, negated, variable}
+use Rattle.ps_circuit.specs.Literals.{is_negated, variable}
 
 pub record Drafted : Type 0 where
   pub given : ℕ
@@ -59,30 +59,3 @@ IsFull d = variables_of d ≡ 2147483647
 -- there are so many variables that their literals do not all fit into 32 bits
 abbrev pub HasTooMany : Drafted → Type 0
 HasTooMany d = 2147483647 < variables_of d
-
--- no existing gate has the two given literals in this order
-abbrev pub IsNew : Drafted → ℕ → ℕ → Type 0
-IsNew d x y = (k : ℕ) (s : Sides) → slice_get d.gates k ≡ Some s → ¬ ((s.first ≡ x) × (s.second ≡ y))
-
--- a conjunction needs a new gate: its two literals have different variables, neither of them is constant, and no
--- existing gate has both
-pub record NeedsGate (d : Drafted) (x y : ℕ) : Type 0 where
-  pub first_varies : 0 < variable x
-  pub second_varies : 0 < variable y
-  pub different : variable x ≢ variable y
-  pub is_new : IsNew d x y
-  pub is_new_too : IsNew d y x
-
--- whenever the variables' values satisfy the equations of the gates, the disjunction of the literals x and y has the
--- value of a multiplexer: that of `high` if `s` is true, and that of `low` if `s` is false
-abbrev pub IsChoice : Drafted → (s high low x y : ℕ) → Type 0
-IsChoice d s high low x y =
-    (v : ℕ → Bool) → MeetsEquations d v → (bit v x || bit v y) ≡ (if bit v s then bit v high else bit v low)
-
--- A multiplexer consists of three conjunctions: `s` and `high`; not `s` and `low`; and the conjunction of the negations
--- of these two, whose own negation is the result. A multiplexer needs a new gate if one of its three conjunctions needs
--- one.
-pub data NeedsChoice (d : Drafted) (s high low : ℕ) : Type 0 where
-  for_high : NeedsGate d s high → NeedsChoice d s high low
-  for_low : NeedsGate d (negated s) low → NeedsChoice d s high low
-  for_either : (x y : ℕ) → IsChoice d s high low x y → NeedsGate d (negated x) (negated y) → NeedsChoice d s high low

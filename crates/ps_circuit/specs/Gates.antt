@@ -63,15 +63,14 @@ mux_of d s high low =
 -- after the call, and the call would return the literal of `all`. If the call succeeds, the builder has the gates of
 -- `all`, and the call returns the literal of `all`. If the variables' values v satisfy the equations of the gates, this
 -- literal has the value `value v`.
-pub record MakesGates (old new : Drafted) (result : Result ℕ EncodeFault) (all : Made) (value : (ℕ → Bool) → Bool)
-    (Needs : Type 0) : Type 0 where
+pub record MakesGates (old new : Drafted) (result : Result ℕ EncodeFault) (all : Made)
+    (value : (ℕ → Bool) → Bool) : Type 0 where
   -- the existing gates remain, even if the call fails
   pub extends : Extends old new
   pub held : IfOk result (IsHeld new)
   pub bit : IfOk result (λ literal. (v : ℕ → Bool) → MeetsEquations new v → bit v literal ≡ value v)
   pub made : IfOk result (λ literal. all ≡ record { draft = new; literal = literal })
-  -- if the call fails because no variable is left, three things hold: 2147483647 variables exist; a new gate is needed;
-  -- and with all gates of `all`, more than 2147483647 variables would exist
+  -- if the call fails because no variable is left, 2147483647 variables exist, and with all gates of `all` there would
+  -- be more: a gate of `all` is missing
   pub too_large : result ≡ Err CircuitTooLarge → IsFull new
-  pub needed : result ≡ Err CircuitTooLarge → Needs
   pub above : result ≡ Err CircuitTooLarge → HasTooMany all.draft

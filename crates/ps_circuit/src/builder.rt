@@ -5,9 +5,7 @@ ghost use Rattle.std.specs.Prelude.{slice_get, All, Some, IfOk};
 ghost use Rattle.std.specs.Cmp.Rules.{hashing};
 ghost use Rattle.std.specs.List.{list_any};
 ghost use Rattle.std.proofs.Common.{rules};
-ghost use Rattle.ps_circuit.specs.Building.{Drafted, AreSides, Extends, IsFull, IsHeld, IsNew, IsSoundDraft};
-ghost use Rattle.ps_circuit.specs.Building.{MeetsEquations};
-ghost use Rattle.ps_circuit.specs.Building.{NeedsChoice, NeedsGate, bit, variables_of};
+ghost use Rattle.ps_circuit.specs.Building.{Drafted, AreSides, IsHeld, IsSoundDraft, bit, variables_of};
 ghost use Rattle.ps_circuit.specs.Literals.{negated};
 ghost use Rattle.ps_circuit.specs.Gates.{MakesGates, and_of, chosen_of, gate_of, has_sides, mux_of, or_of};
 
@@ -108,7 +106,7 @@ impl Builder {
     pub fn and(&mut self, x: Literal, y: Literal) -> Result<Literal, EncodeFault>
         requires { All (IsHeld self.old) (x ∷ y ∷ []) }
         ensures { MakesGates self.old self.new result (and_of self.old x y)
-            (λ v. bit v x && bit v y) (NeedsGate self.new x y) }
+            (λ v. bit v x && bit v y) }
     {
         if x == Literal::FALSE || y == Literal::FALSE || x == y.negated() {
             return Ok(Literal::FALSE);
@@ -137,7 +135,7 @@ impl Builder {
     pub fn or(&mut self, x: Literal, y: Literal) -> Result<Literal, EncodeFault>
         requires { All (IsHeld self.old) (x ∷ y ∷ []) }
         ensures { MakesGates self.old self.new result (or_of self.old x y)
-            (λ v. bit v x || bit v y) (NeedsGate self.new (negated x) (negated y)) }
+            (λ v. bit v x || bit v y) }
     {
         let neither = self.and(x.negated(), y.negated())?;
         Ok(neither.negated())
@@ -149,7 +147,7 @@ impl Builder {
     pub fn mux(&mut self, s: Literal, high: Literal, low: Literal) -> Result<Literal, EncodeFault>
         requires { All (IsHeld self.old) (s ∷ high ∷ low ∷ []) }
         ensures { MakesGates self.old self.new result (mux_of self.old s high low)
-            (λ v. cond (bit v s) (bit v high) (bit v low)) (NeedsChoice self.new s high low) }
+            (λ v. cond (bit v s) (bit v high) (bit v low)) }
     {
         if high == low {
             return Ok(high);
@@ -180,7 +178,7 @@ impl Builder {
     fn chosen(&mut self, s: Literal, high: Literal, low: Literal) -> Result<Literal, EncodeFault>
         requires { All (IsHeld self.old) (s ∷ high ∷ low ∷ []) }
         ensures { MakesGates self.old self.new result (chosen_of self.old s high low)
-            (λ v. cond (bit v s) (bit v high) (bit v low)) (NeedsChoice self.new s high low) }
+            (λ v. cond (bit v s) (bit v high) (bit v low)) }
     {
         let where_true = self.and(s, high)?;
         let where_false = self.and(s.negated(), low)?;
@@ -191,7 +189,7 @@ impl Builder {
     fn gate(&mut self, sides: Sides) -> Result<Literal, EncodeFault>
         requires { AreSides (variables_of self.old + 1) sides }
         ensures { MakesGates self.old self.new result (gate_of self.old sides)
-            (λ v. bit v sides.first && bit v sides.second) (NeedsGate self.new sides.first sides.second) }
+            (λ v. bit v sides.first && bit v sides.second) }
     {
         let variables = self.given + self.gates.len() as u32;
         if variables == MOST_VARIABLES && !contains(&self.gates, &sides) {

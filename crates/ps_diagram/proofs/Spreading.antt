@@ -6,7 +6,7 @@ use Rattle.std.proofs.Math.Nat.{lt-div-mul-add}
 use Rattle.std.proofs.lemmas.Nat.{pow_pos}
 use Rattle.ps_label.specs.Truth.{is_in}
 use Rattle.ps_diagram.specs.Letters.{assignment}
-use Rattle.ps_diagram.specs.Tree.{Tree, empty, final, choice, leaf_at, IsBlind, IsFrom, IsTestOf}
+use Rattle.ps_diagram.specs.Tree.{Tree, empty, final, choice, IsBlind, IsFrom, IsTestOf}
 use Rattle.ps_diagram.specs.Table.{Table, IsNode, Keeps, MakesTree, tree_of}
 use Rattle.ps_diagram.specs.Inner.Rests.{mixed, IsCofactor, IsDivided, IsSpread, IsUnread}
 use Rattle.ps_diagram.proofs.Canon.{blind-from, from-blind}

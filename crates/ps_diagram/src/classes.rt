@@ -45,7 +45,7 @@ pub struct Classes {
 impl Store {
     /// Divides the letters over the propositions of `split` into classes. Two letters are in one class exactly if, for
     /// all truth values of the other propositions, they lead to the same leaf, or both to none. This call copies the
-    /// store to read the node from it; `classes_from` and `classes_in_copy` read the node from a borrowed store.
+    /// store to read the node from it; `classes_in_copy` reads the node from a borrowed store.
     pub fn classes(&mut self, node: Node, split: u64) -> Result<Classes, AllocError>
         requires held { IsNode self.old node }
         ensures keeps { Keeps self.old self.new }
@@ -56,23 +56,9 @@ impl Store {
         Ok(classes)
     }
 
-    /// Like `classes`, but for a node of the store `other`. The diagrams of the classes are made in the store `self`.
-    pub fn classes_from(
-        &mut self,
-        other: &Store,
-        node: Node,
-        split: u64,
-    ) -> Result<Classes, AllocError>
-        requires held { IsNode other.now node }
-        requires letters { self.old.propositions ≡ other.now.propositions }
-        ensures keeps { Keeps self.old self.new }
-        ensures classes { IfOk result (λ c. AreClasses other.now self.new node split c.places c.list.items) }
-    {
-        self.classes_of(other, node, split, false)
-    }
-
-    /// Like `classes_from`, if this store is a copy of the store `other`, perhaps with more nodes. A node of `other`
-    /// that depends on no proposition of `split` is a node of this store, too, so its diagram is not made again.
+    /// Like `classes`, but for a node of the store `other`, of which this store is a copy, perhaps with more nodes. A
+    /// node of `other` that depends on no proposition of `split` is a node of this store, too, so its diagram is not
+    /// made again.
     pub fn classes_in_copy(
         &mut self,
         other: &Store,
@@ -84,25 +70,8 @@ impl Store {
         ensures keeps { Keeps self.old self.new }
         ensures classes { IfOk result (λ c. AreClasses other.now self.new node split c.places c.list.items) }
     {
-        self.classes_of(other, node, split, true)
-    }
-
-    /// Like `classes_from`. The flag `is_kept` states whether this store has the nodes of the store `other`.
-    fn classes_of(
-        &mut self,
-        other: &Store,
-        node: Node,
-        split: u64,
-        is_kept: bool,
-    ) -> Result<Classes, AllocError>
-        requires held { IsNode other.now node }
-        requires letters { self.old.propositions ≡ other.now.propositions }
-        requires kept { IsTrue is_kept → Keeps other.now self.old }
-        ensures keeps { Keeps self.old self.new }
-        ensures classes { IfOk result (λ c. AreClasses other.now self.new node split c.places c.list.items) }
-    {
         let _ = other.allocator();
-        let divided = self.rests(other, node, split, is_kept)?;
+        let divided = self.rests(other, node, split)?;
         let leaves = self.found_below(divided)?;
         let classes = self.classes_of_leaves(divided, &leaves)?;
         Ok(classes)
@@ -110,24 +79,18 @@ impl Store {
 
     /// A diagram over the propositions of `split`. The leaf at a letter is the number of a node: what remains of the
     /// given node after the letter has been read.
-    fn rests(
-        &mut self,
-        other: &Store,
-        node: Node,
-        split: u64,
-        is_kept: bool,
-    ) -> Result<Node, AllocError>
+    fn rests(&mut self, other: &Store, node: Node, split: u64) -> Result<Node, AllocError>
         requires lent { IsLent self.old other.now node }
-        requires kept { IsTrue is_kept → Keeps other.now self.old }
+        requires kept { Keeps other.now self.old }
         ensures { MakesTree self.old self.new result (IsDivided self.new split (tree_of other.now node)) }
     {
         if split.count_ones() <= FEW {
-            return self.spread(other, node, split, is_kept, 0, 0);
+            return self.spread(other, node, split, 0, 0);
         }
         let alloc = self.allocator();
         let mut known = Memo::new(alloc);
         let mut tests = Memo::new(alloc);
-        self.divided(other, node, split, is_kept, &mut known, &mut tests)
+        self.divided(other, node, split, &mut known, &mut tests)
     }
 
     /// Makes a class of each leaf of a diagram, and the diagram whose leaf at a letter is the index of the letter's
@@ -161,19 +124,18 @@ impl Store {
         other: &Store,
         node: Node,
         split: u64,
-        is_kept: bool,
         known: &mut Memo<Node>,
         tests: &mut Memo<(u32, Node, Node)>,
     ) -> Result<Node, AllocError>
         requires lent { IsLent self.old other.now node }
-        requires kept { IsTrue is_kept → Keeps other.now self.old }
+        requires kept { Keeps other.now self.old }
         requires known { Knows (IsDivided self.old split) other.now self.old (result_for nat_eq known.old.table) }
         requires tests { KnowsTests self.old (result_for test_eq tests.old.table) }
         ensures made { MakesTree self.old self.new result (IsDivided self.new split (tree_of other.now node)) }
         ensures known { Knows (IsDivided self.new split) other.now self.new (result_for nat_eq known.new.table) }
         ensures tests { KnowsTests self.new (result_for test_eq tests.new.table) }
     {
-        if other.is_shared(node, split, is_kept) {
+        if other.is_shared(node, split) {
             return self.intern(View::Leaf(node.place as u64));
         }
         match other.cell(node) {
@@ -187,8 +149,8 @@ impl Store {
                 if let Some(made) = known.get(node) {
                     return Ok(made);
                 }
-                let low = self.divided(other, low, split, is_kept, known, tests)?;
-                let high = self.divided(other, high, split, is_kept, known, tests)?;
+                let low = self.divided(other, low, split, known, tests)?;
+                let high = self.divided(other, high, split, known, tests)?;
                 let _ = self.allocator();
                 let made = self.divided_test(proposition, low, high, split, tests)?;
                 known.put(node, made)?;

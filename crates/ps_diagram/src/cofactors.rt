@@ -22,12 +22,11 @@ impl Store {
         other: &Store,
         node: Node,
         split: u64,
-        is_kept: bool,
         level: u32,
         letter: u64,
     ) -> Result<Node, AllocError>
         requires lent { IsLent self.old other.now node }
-        requires kept { IsTrue is_kept → Keeps other.now self.old }
+        requires kept { Keeps other.now self.old }
         requires within { level ≤ self.old.propositions }
         requires begun { letter < 2 ^ level }
         ensures made { MakesTree self.old self.new result
@@ -36,21 +35,14 @@ impl Store {
     {
         let propositions = self.propositions();
         if level == propositions {
-            return self.spread_leaf(other, node, split, is_kept, letter);
+            return self.spread_leaf(other, node, split, letter);
         }
         if split >> level & 1 == 1 {
-            let low = self.spread(other, node, split, is_kept, level + 1, letter)?;
-            let high = self.spread(
-                other,
-                node,
-                split,
-                is_kept,
-                level + 1,
-                letter + (1 << level),
-            )?;
+            let low = self.spread(other, node, split, level + 1, letter)?;
+            let high = self.spread(other, node, split, level + 1, letter + (1 << level))?;
             return self.test(level, low, high);
         }
-        self.spread(other, node, split, is_kept, level + 1, letter)
+        self.spread(other, node, split, level + 1, letter)
     }
 
     /// A diagram that has the same leaf at every letter: the number of the node that remains of the given node after
@@ -60,18 +52,17 @@ impl Store {
         other: &Store,
         node: Node,
         split: u64,
-        is_kept: bool,
         letter: u64,
     ) -> Result<Node, AllocError>
         requires lent { IsLent self.old other.now node }
-        requires kept { IsTrue is_kept → Keeps other.now self.old }
+        requires kept { Keeps other.now self.old }
         ensures made { MakesTree self.old self.new result
             (IsSpread self.new split self.old.propositions letter (tree_of other.now node)) }
         ensures blind { IfOk result (λ made. (level : ℕ) → IsBlind level (tree_of self.new made)) }
     {
         let _ = other.allocator();
         let mut known = Memo::new(self.allocator());
-        let rest = self.cofactor(other, node, split, is_kept, letter, &mut known)?;
+        let rest = self.cofactor(other, node, split, letter, &mut known)?;
         self.intern(View::Leaf(rest.place as u64))
     }
 
@@ -82,17 +73,16 @@ impl Store {
         other: &Store,
         node: Node,
         split: u64,
-        is_kept: bool,
         letter: u64,
         known: &mut Memo<Node>,
     ) -> Result<Node, AllocError>
         requires lent { IsLent self.old other.now node }
-        requires kept { IsTrue is_kept → Keeps other.now self.old }
+        requires kept { Keeps other.now self.old }
         requires known { Knows (IsCofactor split letter) other.now self.old (result_for nat_eq known.old.table) }
         ensures made { MakesTree self.old self.new result (IsCofactor split letter (tree_of other.now node)) }
         ensures known { Knows (IsCofactor split letter) other.now self.new (result_for nat_eq known.new.table) }
     {
-        if other.is_shared(node, split, is_kept) {
+        if other.is_shared(node, split) {
             return Ok(node);
         }
         match other.cell(node) {
@@ -105,28 +95,28 @@ impl Store {
             } => {
                 if split >> proposition & 1 == 1 {
                     if letter >> proposition & 1 == 1 {
-                        return self.cofactor(other, high, split, is_kept, letter, known);
+                        return self.cofactor(other, high, split, letter, known);
                     }
-                    return self.cofactor(other, low, split, is_kept, letter, known);
+                    return self.cofactor(other, low, split, letter, known);
                 }
                 if let Some(made) = known.get(node) {
                     return Ok(made);
                 }
-                let low = self.cofactor(other, low, split, is_kept, letter, known)?;
-                let high = self.cofactor(other, high, split, is_kept, letter, known)?;
+                let low = self.cofactor(other, low, split, letter, known)?;
+                let high = self.cofactor(other, high, split, letter, known)?;
                 let made = self.test(proposition, low, high)?;
                 known.put(node, made)?;
                 Ok(made)
             }
         }
     }
-    /// Whether the flag `is_kept` is set, and the first proposition that a node tests comes after all of `split`.
-    pub(crate) fn is_shared(&self, node: Node, split: u64, is_kept: bool) -> bool
+
+    /// Whether the first proposition that a node tests comes after all of `split`.
+    pub(crate) fn is_shared(&self, node: Node, split: u64) -> bool
         requires { IsNode self.now node }
-        ensures kept { IsTrue result → IsTrue is_kept }
-        ensures unread { IsTrue result → IsUnread split (tree_of self.now node) }
+        ensures { IsTrue result → IsUnread split (tree_of self.now node) }
     {
         let level = self.level(node);
-        is_kept && level < 64 && split >> level == 0
+        level < 64 && split >> level == 0
     }
 }

@@ -31,9 +31,8 @@
 //! are numbered from 0 (`Node::number`). `leaves` lists the leaves of a node, each with the least letter that leads to
 //! it; `path_to` finds this letter for one leaf. `classes(node, split)` divides the letters over the propositions of
 //! `split` into classes: two letters are in one class exactly if the node has the same leaf for both, whatever the
-//! truth values of the other propositions (`AreClasses`). `classes_from` divides the letters for a node of another
-//! store, and `classes_in_copy` for a node of a store of which this store is a copy. Like the calls in the table, these
-//! calls keep every node of the store. `copy` returns a new store with the same nodes.
+//! truth values of the other propositions (`AreClasses`). `classes_in_copy` divides the letters for a node of a store
+//! of which this store is a copy. Like the calls in the table, these calls keep every node of the store. `copy` returns a new store with the same nodes.
 //!
 //! A store never drops a node. Equal diagrams are one node, which is found by a hash table or, for small leaves, by a
 //! table indexed by the leaf. `negated`, `guard`, `fill`, `relabel` and `relabel_from` visit each node of the given

@@ -76,8 +76,9 @@ impl<K: Hashed> KeyList<K> {
         }
     }
 
-    /// The index of a key in the list; a new key is appended. Fails if out of memory, or if the list has 5 * 2^29
-    /// keys already.
+    /// The index of a key in the list; a new key is appended. Fails if out of memory, and, as if out of memory, if the
+    /// list has so many keys that its table would need more than 2^32 slots: 5 * 2^29 keys, or 2^27 keys if searches
+    /// get long.
     #[inline(always)]
     pub fn place_of(&mut self, key: K) -> Result<usize, AllocError>
         ensures { PlacesKey K.eq self.old self.new key result }

@@ -1,9 +1,9 @@
 //! A table of the keys of a list, by which the index of a key in the list is found.
 
 ghost use Rattle.std.specs.Prelude.{◌≡◌, ℕ, ◌+◌, ◌*◌, ◌^◌, ◌<◌, ◌≤◌, [], false, true, IfOk, IfSome, MatchOption, OnOk};
-ghost use Rattle.std.specs.Prelude.{length, slice_index_or};
+ghost use Rattle.std.specs.Prelude.{IsSome, length, slice_index_or};
 ghost use Rattle.std.specs.Bool.{OnTrue};
-ghost use Rattle.ps_keys.specs.Inner.Slots.{tag_of, nth_slot, Ends};
+ghost use Rattle.ps_keys.specs.Inner.Slots.{tag_of, nth_slot, Ends, HasEmpty};
 ghost use Rattle.ps_keys.specs.Inner.Tables.{HasKeys, HasRoom, IsFree, IsSought};
 
 use crate::hashed::{Hashed, MULTIPLIER};
@@ -12,7 +12,7 @@ use std::alloc::{AllocError, Global};
 /// The number of slots that a table gets with its first key.
 const FEWEST: usize = 32;
 
-/// The most slots that a table may have.
+/// The most slots that a table may have. A table that would need more is refused as if out of memory.
 const MOST: usize = 1 << 32;
 
 /// If a search for a new key passes more slots than this, the table gets a new seed and twice as many slots, unless it
@@ -115,6 +115,7 @@ impl Table {
     /// The empty slot to which a search for a key with this hash comes, if there is one.
     #[inline(always)]
     fn free_slot(&self, hash: u64) -> Option<Free>
+        ensures some { HasEmpty self.now.slots.items → IsSome result }
         ensures hash { IfSome result (λ free. free.hash ≡ hash) }
         ensures ends { IfSome result (λ free. Ends self.now.slots.items hash free.passed free.slot) }
     {
@@ -178,8 +179,7 @@ impl Table {
     }
 
     /// Finds an empty slot for a key that the list lacks. If the table cannot take the key there, the number of slots
-    /// is doubled. An empty slot is then found, since at most five eighths of the slots are used; the error where none
-    /// is found is not proved impossible.
+    /// is doubled.
     #[inline(never)]
     fn seek_room<K: Hashed>(&mut self, list: &[K], key: K) -> Result<Free, AllocError>
         requires { HasKeys K.hash list.now (length list.now) self.old }
@@ -193,10 +193,11 @@ impl Table {
             return Ok(free);
         }
         self.grow(list)?;
-        self.free_slot(key.hash(self.seed)).ok_or(AllocError)
+        Ok(self.free_slot(key.hash(self.seed)).unwrap())
     }
 
-    /// Doubles the number of slots, and changes the seed. An empty slot is found for each key (see `seek_room`).
+    /// Doubles the number of slots, and changes the seed. Fails if out of memory, and, as if out of memory, if there
+    /// would be more than `MOST` slots.
     fn grow<K: Hashed>(&mut self, list: &[K]) -> Result<(), AllocError>
         requires { HasKeys K.hash list.now (length list.now) self.old }
         ensures keys { HasKeys K.hash list.now (length list.now) self.new }
@@ -215,7 +216,7 @@ impl Table {
         };
         for place in 0..list.len() {
             let key = list[place];
-            let free = table.free_slot(key.hash(table.seed)).ok_or(AllocError)?;
+            let free = table.free_slot(key.hash(table.seed)).unwrap();
             table.fill(list, place, key, free);
         }
         *self = table;

@@ -39,6 +39,22 @@ IsLiteral (Atom p) = p < 64
 IsLiteral (Negated p) = p < 64
 IsLiteral _ = ⊥
 
+-- a label is plain if neither `Negated` nor `Literals` occurs in it
+abbrev mutual
+  pub IsPlainLabel : Label → Type 0
+  IsPlainLabel (Truth b) = Unit {0}
+  IsPlainLabel (Atom p) = Unit {0}
+  IsPlainLabel (Negated p) = ⊥
+  IsPlainLabel (Named k) = Unit {0}
+  IsPlainLabel (Literals codes) = ⊥
+  IsPlainLabel (Neg' at l) = IsPlainLabel l
+  IsPlainLabel (Both' shape row) = ArePlainLabels row
+  IsPlainLabel (Either' shape row) = ArePlainLabels row
+
+  pub ArePlainLabels : {m : _} → Row_of-Label m → Type 0
+  ArePlainLabels end_of-Label = Unit {0}
+  ArePlainLabels (more_of-Label l row) = IsPlainLabel l × ArePlainLabels row
+
 -- the expression of a label
 abbrev mutual
   pub expression : Label → Expression

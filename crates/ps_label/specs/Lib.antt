@@ -1,3 +1,4 @@
 pub mod Expression
 pub mod Truth
 pub mod Codes
+pub mod Words

@@ -1,6 +1,11 @@
 //! Labels: Boolean expressions over propositions and aliases.
 
+ghost use Rattle.std.specs.Prelude.{◌≡◌, All, IfOk};
+ghost use Rattle.ps_label.specs.Expression.{IsPlainLabel, expression, literal_expression, literal_expressions, not_of};
+ghost use Rattle.ps_label.specs.Truth.{expressions};
+
 use crate::literal::{Literal, Literals};
+use std::alloc::{AllocError, Global};
 
 /// A Boolean expression over propositions, such as the label of an edge.
 #[derive(Debug, Drop)]
@@ -24,8 +29,8 @@ pub enum Label {
 }
 
 impl Label {
-    ghost use Rattle.std.specs.Prelude.{◌≡◌, ◌↔◌, IfSome, IsSome};
-    ghost use Rattle.ps_label.specs.Expression.{IsLiteral, expression, literal_expression};
+    ghost use Rattle.std.specs.Prelude.{◌↔◌, IfSome, IsSome};
+    ghost use Rattle.ps_label.specs.Expression.{IsLiteral};
 
     /// The label that is true exactly if a literal is true.
     pub fn of_literal(literal: Literal) -> Label
@@ -54,5 +59,77 @@ impl Label {
         } else {
             None
         }
+    }
+
+    /// The same expression, written by the forms `Truth`, `Atom`, `Named`, `Neg`, `Both` and `Either` alone. The other
+    /// two forms are there for speed: `Negated` stands for `Neg` of `Atom`, and `Literals` for `Both` of literals.
+    ///
+    /// # Errors
+    ///
+    /// Fails if out of memory.
+    #[cycle(plain)]
+    pub fn plain(&self, alloc: Global) -> Result<Label, AllocError>
+        ensures same { IfOk result (λ label. expression label ≡ expression self.now) }
+        ensures plain { IfOk result IsPlainLabel }
+    {
+        match self {
+            Label::Truth(value) => Ok(Label::Truth(*value)),
+            Label::Atom(proposition) => Ok(Label::Atom(*proposition)),
+            Label::Negated(proposition) => negation(alloc, Label::Atom(*proposition)),
+            Label::Named(alias) => Ok(Label::Named(*alias)),
+            Label::Literals(literals) => Ok(Label::Both(plain_literals(
+                alloc,
+                literals.as_slice(),
+            )?)),
+            Label::Neg(operand) => negation(alloc, operand.plain(alloc)?),
+            Label::Both(operands) => Ok(Label::Both(each_plain(alloc, operands)?)),
+            Label::Either(operands) => Ok(Label::Either(each_plain(alloc, operands)?)),
+        }
+    }
+}
+
+/// The negation of a label.
+fn negation(alloc: Global, label: Label) -> Result<Label, AllocError>
+    ensures same { IfOk result (λ made. expression made ≡ not_of (expression label)) }
+    ensures plain { IfOk result (λ made. IsPlainLabel label → IsPlainLabel made) }
+{
+    Ok(Label::Neg(Box::new(alloc, label)?))
+}
+
+/// Each of the labels, as `plain` writes it.
+#[cycle(plain)]
+fn each_plain(alloc: Global, labels: &[Label]) -> Result<Vec<Label>, AllocError>
+    ensures same { IfOk result (λ made. expressions made.items ≡ expressions labels.now) }
+    ensures plain { IfOk result (λ made. All IsPlainLabel made.items) }
+{
+    let mut made = Vec::with_capacity(alloc, labels.len())?;
+    for label in labels {
+        made.push(label.plain(alloc)?)?;
+    }
+    Ok(made)
+}
+
+/// The labels of literals, as `plain` writes them.
+fn plain_literals(alloc: Global, literals: &[Literal]) -> Result<Vec<Label>, AllocError>
+    ensures same { IfOk result (λ made. expressions made.items ≡ literal_expressions literals.now) }
+    ensures plain { IfOk result (λ made. All IsPlainLabel made.items) }
+{
+    let mut made = Vec::with_capacity(alloc, literals.len())?;
+    for literal in literals {
+        made.push(plain_literal(alloc, *literal)?)?;
+    }
+    Ok(made)
+}
+
+/// The label of a literal, as `plain` writes it.
+fn plain_literal(alloc: Global, literal: Literal) -> Result<Label, AllocError>
+    ensures same { IfOk result (λ made. expression made ≡ literal_expression literal) }
+    ensures plain { IfOk result IsPlainLabel }
+{
+    let atom = Label::Atom(literal.proposition());
+    if literal.is_negated() {
+        negation(alloc, atom)
+    } else {
+        Ok(atom)
     }
 }

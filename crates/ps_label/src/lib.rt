@@ -8,6 +8,7 @@
 //! |---|---|
 //! | `Labels::new`, `push`, `as_slice` | the aliases of a text, each defined over earlier aliases |
 //! | `Label::as_literal`, `of_literal` | the literal that a label is, and the label of a literal |
+//! | `Label::plain` | the same expression without the two forms `Negated` and `Literals` |
 //! | `Literals::new`, `of`, `push`, `is_full`, `as_slice` | a list of at most 23 literals |
 //! | `Labels::eval(label, letter, scratch)` | exactly whether the label is true at the letter; allocates no memory |
 //! | `labels::one_table_of_truths` | a law: in exactly one table each alias has the truth of its own expression |

@@ -6,7 +6,6 @@ pub mod Dividing
 pub mod Extracting
 pub mod FaultNames
 pub mod FileGames
-pub mod KeyHashes
 pub mod KeyNames
 pub mod Keys
 pub mod Machines

@@ -31,12 +31,8 @@ const PLACED_BESIDE: u64 = 1024;
 
 /// The priorities of a game are few if each of them is less than this number. On a game with few priorities the
 /// recursion does not take exponential time, but the number of its assignments may grow with the square of the number
-/// of vertices.
+/// n of vertices, so its limit in the first round is at least n * n / 2.
 const FEW_PRIORITIES: u64 = 4;
-
-/// In a game with n vertices and few priorities, the recursion's limit on assignments in the first round is at least
-/// the lesser of n * n / 2 and `PLACED_SQUARE`.
-const PLACED_SQUARE: u64 = 1 << 26;
 
 /// For each assignment that `PLACED_EACH` and `PLACED_BESIDE` allow the recursion in the first round, an attempt at
 /// strategy improvement may read or write this many array cells.
@@ -59,9 +55,8 @@ impl Budget {
         let linear = count
             .saturating_mul(PLACED_EACH)
             .saturating_add(PLACED_BESIDE);
-        let square = count.saturating_mul(count) / 2;
         let placed = if has_few_priorities(arena) {
-            linear.max(square.min(PLACED_SQUARE))
+            linear.max(count.saturating_mul(count) / 2)
         } else {
             linear
         };

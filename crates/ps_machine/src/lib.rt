@@ -10,7 +10,6 @@
 //! |---|---|
 //! | `game_of(automaton, order)` | the game with ids and names; `Order` states who moves first |
 //! | `AutomatonGame::build(automaton, order)` | the same game with the key of each vertex |
-//! | `game_by_keys(source, order, first)` | the game of the keys to which a first key leads, for any `Successors` |
 //! | `Solver::feed`, `solve` | what every solver guarantees, also in a box, and what it means that a solver is sure |
 //! | `BuiltIn::new` | psyn's own solver: regions, moves and least counts; it is sure |
 //! | `Replay::new` | the solver that returns the certificate whose text it was fed; it is not sure |
@@ -47,7 +46,6 @@ mod letters;
 mod machine;
 mod memories;
 mod moves;
-mod numbering;
 mod numbers;
 mod replay;
 mod second_drawing;
@@ -66,6 +64,5 @@ pub use laws::{
     lassos_won, machine_is_there, one_game, one_game_of_file, one_machine, one_machine_of_file,
 };
 pub use machine::{Machine, Row};
-pub use numbering::{KeyedGame, Successors, game_by_keys};
 pub use replay::Replay;
 pub use solver::Solver;

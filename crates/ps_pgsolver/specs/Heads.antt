@@ -1,5 +1,5 @@
 -- For each token of the parser's code, the token of the grammar to which it corresponds.
-use Rattle.std.specs.Prelude.{◌≡◌, ◌<◌, ◌≤◌, ℕ, Bool, true, false, List, Option, None, Some, length}
+use Rattle.std.specs.Prelude.{◌≡◌, ◌+◌, ◌<◌, ◌≤◌, IsTrue, ℕ, Bool, true, false, List, Option, None, Some, length}
 use Rattle.std.specs.List.{AllPass}
 use Rattle.ps_text.specs.Answers.{Stream, next_of, offset_of}
 use Rattle.ps_text.specs.Readers.{tail}
@@ -61,6 +61,11 @@ pub record IsNumberTaken (number : ℕ) (old new : Stream Sign) : Type 0 where
   pub sign : next_of old ≡ Some (Number number)
   pub small : number < too_large
   pub rest : new ≡ tail old
+
+-- the next token is no number, or the token behind it begins 18 or more bytes later
+abbrev pub HasNoShortNumber : Stream Sign → Type 0
+HasNoShortNumber s = IsTrue (is_number (next_of s)) →
+    offset_of s.pieces s.end + 18 ≤ offset_of (tail s).pieces (tail s).end
 
 -- either the next token was the given one and the parser moved past it, or the parser did not move
 abbrev pub TakesIfNext : Sign → Stream Sign → Bool → Stream Sign → Type 0

@@ -68,7 +68,7 @@ impl<'a> Tokens<'a> {
     ghost use Rattle.std.specs.Prelude.{◌↔◌, IsTrue, IfSome, IfNone, option_copied};
     ghost use Rattle.ps_text.specs.Answers.{next_of, offset_of};
     ghost use Rattle.ps_text.specs.Readers.{tail};
-    ghost use Rattle.ps_pgsolver.specs.Heads.{IsHead, IsNumberTaken, TakesIfNext, is_number, is_comma, name_of};
+    ghost use Rattle.ps_pgsolver.specs.Heads.{HasNoShortNumber, IsHead, IsNumberTaken, TakesIfNext, is_number, is_comma, name_of};
     ghost use Rattle.ps_text.specs.Bytes.{is_unquoted};
     ghost use Rattle.ps_pgsolver.specs.Signs.{Word, Comma, Semicolon};
 
@@ -112,11 +112,11 @@ impl<'a> Tokens<'a> {
     }
 
     /// Moves past the next token and returns its value, if it is a number with fewer than 18 digits. No value of type
-    /// `Token` is built for it. `next` reads a number with more digits. No clause says when the result is `None`, since
-    /// a caller then reads the token by `next`.
+    /// `Token` is built for it. `next` reads a number with more digits, leading zeros included.
     #[inline(always)]
     pub fn take_number(&mut self) -> Option<u64>
         ensures some { IfSome result (λ number. IsNumberTaken number self.old self.new) }
+        ensures long { IfNone result (HasNoShortNumber self.old) }
         ensures none { IfNone result (self.new ≡ self.old) }
     {
         let start = self.start();
@@ -128,6 +128,7 @@ impl<'a> Tokens<'a> {
     pub(crate) fn take_number_at(&mut self, start: usize) -> Option<u64>
         requires { start ≡ offset_of self.old.pieces self.old.end }
         ensures some { IfSome result (λ number. IsNumberTaken number self.old self.new) }
+        ensures long { IfNone result (HasNoShortNumber self.old) }
         ensures none { IfNone result (self.new ≡ self.old) }
     {
         let (before, rest) = self.text.split_at(start);

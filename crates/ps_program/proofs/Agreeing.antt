@@ -58,7 +58,7 @@ owners_below order file game is v within =
     let vertex = is.is_game.by_keys.vertices v within in
     subst (λ owner. owner < 2) (sym vertex.owner) (owner_below order vertex.key)
 
-first_there : (order : Order) (file : FileData) (game : NamedGameData) → IsGameOfFile order file game →
+pub first_there : (order : Order) (file : FileData) (game : NamedGameData) → IsGameOfFile order file game →
     0 < vertex_count game.game
 first_there order file game is = grind (arith, slice_get_within)
 

@@ -1,6 +1,6 @@
 -- Any two answers to one input are equal, or agree as far as `Determined` requires.
 use Rattle.std.proofs.Common.{rules, ◌≡◌, ◌⊎◌, ◌∙◌, ℕ, Bool, true, false, List, length, Result, Ok, Err, refl, sym, ap}
-use Rattle.std.proofs.Common.{inl, inr, arith}
+use Rattle.std.proofs.Common.{inl, inr, arith, subst}
 use Rattle.ps_game.specs.Games.{ParityGame, NamedGameData}
 use Rattle.ps_machine.specs.Solvers.{SolverData, answers_now, once_fed}
 use Rattle.ps_pgsolver.specs.Written.{game_text}
@@ -17,7 +17,8 @@ use Rattle.ps_program.specs.declared.commands.Line.TheVariants as line
 use Rattle.ps_program.specs.Checks.{Tests}
 use Rattle.ps_program.specs.CommandLine.{IsLine}
 use Rattle.ps_program.specs.Cut.{first_line, behind_line}
-use Rattle.ps_program.specs.Determined.{Agree, AgreeAsReports, AgreeInWinners, AsksFor, HasAutomaton, HasOneAnswer}
+use Rattle.ps_program.specs.Determined.{Agree, AgreeAsReports, AgreeInLoser, AgreeInWinners, AgreeOrFault, AsksFor}
+use Rattle.ps_program.specs.Determined.{HasAutomaton, HasOneAnswer}
 use Rattle.ps_program.specs.Determined.{IsFaultReply, IsUndetermined}
 use Rattle.ps_program.specs.Games.{AnswersCert, AnswersGameText, ReadsGameOf}
 use Rattle.ps_program.specs.Judging.{AnswersJudge, Judges, LosesCycle, ReadsSolved}
@@ -42,13 +43,15 @@ use Rattle.ps_program.proofs.OneStage.{OneValues, automaton_one, makes_one, tell
 use Rattle.ps_program.proofs.OneStage.{report_refused}
 use Rattle.ps_program.proofs.VerifyDetermined.{NotBoth, verify_one_or}
 use Rattle.ps_program.proofs.OneLine.{is_line_one}
-use Rattle.ps_program.proofs.JudgeLemmas.{OneSolution, OneJudged, NoFlawAndCycle, NoFlaw, NoCycle, judges_one_or}
+use Rattle.ps_program.proofs.JudgeLemmas.{OneSolution, OneJudged, OneLoser, NoFlawAndCycle, NoFlaw, NoCycle}
+use Rattle.ps_program.proofs.JudgeLemmas.{judges_one_or}
 use Rattle.ps_solution.specs.Solved.{SolutionData}
 
 module _ (games : OneGame) (certificates : OneCertificate) (flaws : OneFlaw) (circuits : OneCircuit)
     (stimuli : OneStimulus) (files : OneFile) (refusals : OneRefusal) (outcomes : OneOutcome) (verdicts : OneVerdict)
     (values : OneValues) (file_games : OneFileGame) (winners : OneWinner) (solutions : OneSolution)
-    (judged : OneJudged) (not_both : NotBoth) (apart : NoFlawAndCycle) (no_flaw : NoFlaw) (no_cycle : NoCycle) where
+    (judged : OneJudged) (not_both : NotBoth) (apart : NoFlawAndCycle) (losers : OneLoser) (no_flaw : NoFlaw)
+    (no_cycle : NoCycle) where
   certified_one : (texts : List ℕ) → IsOne (ReadsCertified texts)
   certified_one texts = then_one _ _ (cut_one texts) (λ parts. search (rules, then_one, reading_one, ended_one))
 
@@ -106,17 +109,18 @@ module _ (games : OneGame) (certificates : OneCertificate) (flaws : OneFlaw) (ci
 
   judge_one_or : (compact : Bool) (texts : List ℕ) (x y : Result Reply (List ℕ)) → AnswersJudge compact texts x →
       AnswersJudge compact texts y
-      → (x ≡ y) ⊎ (IsUndetermined (line.Judge compact) texts × Alike (Agree (line.Judge compact) texts) x y)
+      → (x ≡ y) ⊎ (IsUndetermined (line.Judge compact) texts × Agree (line.Judge compact) texts (printed x) (printed y))
   judge_one_or compact texts x y h k =
       by (then_one_or (ReadsSolved texts) (λ both. Judges compact both.0 both.1)
-      (λ both. LosesCycle both.0 both.1 × ((line : List ℕ) × (x ≡ Err line))) (solved_one texts) x y
-      (λ both n m. judges_one_or flaws judged apart no_flaw no_cycle both.0 both.1 compact x y n m) h k)
+      (λ both. LosesCycle both.0 both.1 × AgreeInLoser both.0 both.1 (printed x) (printed y)) (solved_one texts) x y
+      (λ both n m. judges_one_or flaws judged apart losers no_flaw no_cycle both.0 both.1 compact x y n m) h k)
     where
       by : (x ≡ y) ⊎ ((both : NamedGameData × SolutionData) × ReadsSolved texts (Ok both) ×
-          (LosesCycle both.0 both.1 × ((line : List ℕ) × (x ≡ Err line)))) →
-          (x ≡ y) ⊎ (IsUndetermined (line.Judge compact) texts × Alike (Agree (line.Judge compact) texts) x y)
+          (LosesCycle both.0 both.1 × AgreeInLoser both.0 both.1 (printed x) (printed y))) →
+          (x ≡ y) ⊎ (IsUndetermined (line.Judge compact) texts ×
+          Agree (line.Judge compact) texts (printed x) (printed y))
       by (inl same) = inl same
-      by (inr (both, reads, (lost, (l, e)))) = inr ((both.0, both.1, reads, lost), inl (fault_is x l e))
+      by (inr (both, reads, (lost, agree))) = inr ((both.0, both.1, reads, lost), (both.0, both.1, reads, agree))
 
   circuit_one : (text : List ℕ) → IsOne (ReadsCircuitText text)
   circuit_one text = reading_one circuit.cause_number circuit_names.cause_name (circuit_text.ReadsCircuit text)
@@ -124,16 +128,18 @@ module _ (games : OneGame) (certificates : OneCertificate) (flaws : OneFlaw) (ci
 
   verify_or_one : (order : Order) (role : Role) (texts : List ℕ) (x y : Result Reply (List ℕ)) →
       AnswersVerify order role texts x → AnswersVerify order role texts y
-      → (x ≡ y) ⊎ (IsUndetermined (line.Verify order role) texts × Alike (Agree (line.Verify order role) texts) x y)
+      → (x ≡ y) ⊎ (IsUndetermined (line.Verify order role) texts ×
+      Agree (line.Verify order role) texts (printed x) (printed y))
   verify_or_one order role texts x y h k =
       by (verify_one_or (automaton_one files refusals outcomes) circuit_one not_both
       order role x y texts h k)
     where
       by : (x ≡ y) ⊎ Agree (line.Verify order role) texts (printed x) (printed y) →
-          (x ≡ y) ⊎ (IsUndetermined (line.Verify order role) texts × Alike (Agree (line.Verify order role) texts) x y)
+          (x ≡ y) ⊎ (IsUndetermined (line.Verify order role) texts ×
+          Agree (line.Verify order role) texts (printed x) (printed y))
       by (inl same) = inl same
       by (inr (file, c, reads, agree)) =
-          inr ((file, c, reads, (agree.one, agree.one_loses)), inr (inr (file, c, reads, agree)))
+          inr ((file, c, reads, (agree.one, agree.one_loses)), (file, c, reads, agree))
 
   solve_one_or : (solver : SolverData) (compact : Bool) (text : List ℕ) (x y : Result Reply (List ℕ)) →
       AnswersSolve solver compact text x → AnswersSolve solver compact text y
@@ -241,11 +247,11 @@ module _ (games : OneGame) (certificates : OneCertificate) (flaws : OneFlaw) (ci
             (λ a b agree. (parts.0, (parts.1, cuts), agree)) alike,
       )
 
-  -- any two results of a command line are equal, or the command allows several results; in the second case, one of the
-  -- two is a fault, or the two agree as `Agree` states
+  -- any two results of a command line are equal, or the command allows several results; in the second case, the two
+  -- agree as `AgreeOrFault` states
   line_one : (solvers : Solvers) (l : Line) (texts : List ℕ) (x y : Result Reply (List ℕ)) →
       AnswersLine solvers l texts x → AnswersLine solvers l texts y →
-      (x ≡ y) ⊎ (IsUndetermined l texts × Alike (Agree l texts) x y)
+      (x ≡ y) ⊎ (IsUndetermined l texts × AgreeOrFault l texts (printed x) (printed y))
   line_one solvers line.Refused texts x y h k = inl (ended_one _ x y h k)
   line_one solvers line.Help texts x y h k = inl (ended_one _ x y h k)
   line_one solvers line.Closed texts x y h k = inl (search (rules, then_one, certified_one, tests_one))
@@ -262,23 +268,24 @@ module _ (games : OneGame) (certificates : OneCertificate) (flaws : OneFlaw) (ci
   answers_one : (solvers : Solvers) (input : List ℕ) (a b : Reply) → AnswersInput solvers input a →
       AnswersInput solvers input b → (a ≡ b) ⊎
       ((l : Line) × IsLine (first_line input) l × IsUndetermined l (behind_line input) ×
-      (IsFaultReply a ⊎ IsFaultReply b ⊎ Agree l (behind_line input) a b))
+      AgreeOrFault l (behind_line input) a b)
   answers_one solvers input a b (l, is_line, (outcome, answers, e)) (l', is_line', (outcome', answers', e')) =
       by (grind (arith, line_one, same))
     where
       same : l ≡ l'
       same = is_line_one (first_line input) l l' is_line is_line'
 
-      printed_so : IsFaultReply (printed outcome) ⊎ IsFaultReply (printed outcome') ⊎
-          Agree l (behind_line input) (printed outcome) (printed outcome') →
-          IsFaultReply a ⊎ IsFaultReply b ⊎ Agree l (behind_line input) a b
-      printed_so alike = search rules
+      printed_so : AgreeOrFault l (behind_line input) (printed outcome) (printed outcome') →
+          AgreeOrFault l (behind_line input) a b
+      printed_so alike = subst (λ r. AgreeOrFault l (behind_line input) r b) (sym e)
+          (subst (λ r. AgreeOrFault l (behind_line input) (printed outcome) r) (sym e') alike)
 
       by : (outcome ≡ outcome') ⊎
-          (IsUndetermined l (behind_line input) × Alike (Agree l (behind_line input)) outcome outcome')
+          (IsUndetermined l (behind_line input) ×
+          AgreeOrFault l (behind_line input) (printed outcome) (printed outcome'))
           →
           (a ≡ b) ⊎ ((k : Line) × IsLine (first_line input) k × IsUndetermined k (behind_line input) ×
-          (IsFaultReply a ⊎ IsFaultReply b ⊎ Agree k (behind_line input) a b))
+          AgreeOrFault k (behind_line input) a b)
       by (inl one) = inl (e ∙ ap printed one ∙ sym e')
       by (inr (choice, alike)) = inr (l, is_line, choice, printed_so alike)
 

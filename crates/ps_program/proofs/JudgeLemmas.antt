@@ -22,11 +22,13 @@ use Rattle.ps_program.specs.declared.answer.Answer.{Answer}
 use Rattle.ps_program.specs.declared.answer.Refusal.{Refusal}
 use Rattle.ps_program.specs.declared.answer.Refusal.TheVariants as refusal
 use Rattle.ps_program.specs.Faults.{fault_text}
-use Rattle.ps_program.specs.Judging.{ReadsSolutionText, ReadsSolved, Judges, IsRefusalLine, Names, IsTold, HasPlaces}
+use Rattle.ps_program.specs.Inner.Judged.{HasPlaces, IsTold, Names}
+use Rattle.ps_program.specs.Judging.{ReadsSolutionText, ReadsSolved, Judges, IsRefusalLine}
 use Rattle.ps_program.specs.Judging.{claim}
-use Rattle.ps_program.specs.Judging.{LosesCycle}
-use Rattle.ps_program.specs.Outcomes.{Gives}
-use Rattle.ps_program.specs.Replies.{Reply, reply_of, text_reply}
+use Rattle.ps_program.specs.Judging.{Loses, LosesCycle}
+use Rattle.ps_program.specs.Determined.{AgreeInLoser}
+use Rattle.ps_program.specs.Outcomes.{Gives, printed}
+use Rattle.ps_program.specs.Replies.{Reply, fault_reply, reply_of, text_reply}
 use Rattle.ps_program.specs.Texts.{CutsInTwo, ReadsGameText, NamesVertices, flaw_text}
 use Rattle.ps_program.proofs.OneStage.{OneFlaw}
 use Rattle.ps_program.proofs.OneStep.{ok_of, err_of}
@@ -131,8 +133,13 @@ abbrev pub NoCycle : Type 0
 NoCycle = (game : ParityGame) (won : List Bool) (first second : List (Option ℕ)) (player : ℕ) (cycle : List ℕ) →
     IsSolution game won first second → ¬ IsCycleOf game won first second player cycle
 
-module _ (flaws : OneFlaw) (certificates : OneJudged) (apart : NoFlawAndCycle) (no_flaw : NoFlaw) (no_cycle : NoCycle)
-    (named : NamedGameData) (given : SolutionData) where
+abbrev pub OneLoser : Type 0
+OneLoser = (game : ParityGame) (won : List Bool) (first second : List (Option ℕ)) (player other : ℕ)
+    (cycle another : List ℕ) → IsCycleOf game won first second player cycle →
+    IsCycleOf game won first second other another → player ≡ other
+
+module _ (flaws : OneFlaw) (certificates : OneJudged) (apart : NoFlawAndCycle) (losers : OneLoser) (no_flaw : NoFlaw)
+    (no_cycle : NoCycle) (named : NamedGameData) (given : SolutionData) where
   not_refused : {line : List ℕ} → IsGame named.game → IsSolution named.game given.won given.moves given.moves →
       IsRefusalLine named given line → ⊥
   not_refused is_game s (inl (flaw, first, e)) =
@@ -140,18 +147,36 @@ module _ (flaws : OneFlaw) (certificates : OneJudged) (apart : NoFlawAndCycle) (
   not_refused is_game s (inr (player, cycle, lost, e)) =
       no_cycle named.game given.won given.moves given.moves player cycle s lost
 
-  -- only one line can report a refused solution, unless some cycle makes a player lose (`LosesCycle`)
+  -- some cycle makes a player lose, and both lines report such cycles, which the same player loses
+  abbrev pub Lost : Reply → Reply → Type 0
+  Lost a b = LosesCycle named given × AgreeInLoser named given a b
+
+  -- only one line can report a refused solution, unless some cycle makes a player lose
   refused_one : {line other : List ℕ} → IsGame named.game → IsRefusalLine named given line →
       IsRefusalLine named given other →
-      (line ≡ other) ⊎ LosesCycle named given
+      (line ≡ other) ⊎ Lost (fault_reply line) (fault_reply other)
   refused_one is_game (inl (flaw, first, e)) (inl (flaw', first', e')) =
       inl (e ∙ ap (flaw_text named) (flaws named.game (claim named given) flaw flaw' is_game first first') ∙ sym e')
   refused_one is_game (inl (flaw, first, e)) (inr (player, cycle, lost, e')) =
       absurd (apart named.game given.won given.moves given.moves flaw player cycle first lost)
-  refused_one is_game (inr (player, cycle, lost, e)) other = inr (player, cycle, lost)
+  refused_one is_game (inr (player, cycle, lost, e)) (inl (flaw, first, e')) =
+      absurd (apart named.game given.won given.moves given.moves flaw player cycle first lost)
+  refused_one is_game (inr (player, cycle, lost, e)) (inr (player', cycle', lost', e')) = inr (
+    (player, cycle, lost),
+    record {
+      player = player;
+      one = cycle;
+      other = cycle';
+      one_lost = lost;
+      other_lost = subst (λ p. Loses named given p cycle') (losers named.game given.won given.moves given.moves player'
+          player cycle' cycle lost' lost) lost';
+      is_one = ap fault_reply e;
+      is_other = ap fault_reply e';
+    },
+  )
 
   pub judges_one_or : (compact : Bool) (x y : Result Reply (List ℕ)) → Judges compact named given x →
-      Judges compact named given y → (x ≡ y) ⊎ (LosesCycle named given × ((line : List ℕ) × (x ≡ Err line)))
+      Judges compact named given y → (x ≡ y) ⊎ Lost (printed x) (printed y)
   judges_one_or compact (Ok r) (Ok t) (s, (c, is, e)) (s', (c', is', e')) = inl (ap (ok_of {V = Reply} {E = List ℕ}) (e
       ∙ ap (λ d. text_reply (text_in compact named d)) (certificates named.game given.won given.moves given.moves c c'
       is is') ∙ sym e'))
@@ -160,5 +185,5 @@ module _ (flaws : OneFlaw) (certificates : OneJudged) (apart : NoFlawAndCycle) (
   judges_one_or compact (Err l) (Err m) (is_game, refused) (is_game', refused') =
       elim (refused_one is_game refused refused') [
         | inl same ↦ inl (ap (err_of {V = Reply} {E = List ℕ}) same)
-        | inr lost ↦ inr (lost, (l, refl))
+        | inr lost ↦ inr lost
       ]

@@ -2,8 +2,10 @@ pub mod Agreeing
 pub mod AgreeingAnswers
 pub mod AutomatonLemmas
 pub mod CheckLemmas
+pub mod CheckedCertificates
 pub mod CircuitLemmas
 pub mod CommandLemmas
+pub mod FittingTexts
 pub mod HelpLemmas
 pub mod JudgeLemmas
 pub mod KindLemmas
@@ -16,6 +18,7 @@ pub mod OneLine
 pub mod OneStage
 pub mod OneStep
 pub mod OutcomeLemmas
+pub mod PrintedStimuli
 pub mod ProgramLemmas
 pub mod SolverLemmas
 pub mod SomeAnswer
@@ -31,5 +34,6 @@ pub mod SynthLemmas
 pub mod TextLemmas
 pub mod TraceFromLetters
 pub mod TraceLemmas
+pub mod VerifiedCircuits
 pub mod VerifyDetermined
 pub mod VerifyLemmas

@@ -15,7 +15,8 @@ use Rattle.clap.proofs.OnLiterals.{clap_on_literals}
 use Rattle.clap.specs.declared.error.kind.ErrorKind.{ErrorKind}
 use Rattle.clap.specs.declared.error.kind.ErrorKind.TheVariants.{InvalidSubcommand, UnknownArgument}
 use Rattle.ps_program.specs.declared.commands.Line.TheVariants.{Refused}
-use Rattle.ps_program.specs.CommandLine.{Usage, NamesNothing, Says, commands, table}
+use Rattle.ps_program.specs.CommandLine.{Usage, Says, commands, table}
+use Rattle.ps_program.specs.Inner.LongWords.{NamesNothing}
 
 none_more : (b : Bool) {rest : Bool} → rest ≡ false → (b && rest) ≡ false
 none_more b none = grind arith

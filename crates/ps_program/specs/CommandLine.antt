@@ -1,6 +1,6 @@
 -- What the first line of the input, the command line, asks for.
-use Rattle.std.specs.Prelude.{◌≡◌, ◌≢◌, ◌<◌, ◌⊎◌, ◌==◌, ℕ, Bool, true, false, List, [], length, slice_index, Option}
-use Rattle.std.specs.Prelude.{None, Some, All, codes, filter, find, not, IsUtf8, if◌then◌else◌, ◌∷◌, ◌++◌, map}
+use Rattle.std.specs.Prelude.{◌≡◌, ◌⊎◌, ◌==◌, ℕ, Bool, true, false, List, [], length, Option}
+use Rattle.std.specs.Prelude.{None, Some, codes, filter, find, not, IsUtf8, if◌then◌else◌, ◌∷◌, ◌++◌, map}
 use Rattle.std.specs.Prelude.{flat_map}
 use Rattle.std.specs.List.{slice_split, AllByRecursion}
 use Rattle.std.specs.Option.{option_map_or}
@@ -201,10 +201,6 @@ line_refused _ = Refused
 abbrev pub Says : List Text → Line → Type 0
 Says words line = ((fault_of table words ≡ []) × (line ≡ line_said (subcommand_of table words)))
     ⊎ ((kind : ErrorKind) × IsAmong kind (fault_of table words) × (line ≡ line_refused kind))
-
--- the word is longer than the name of every command, and does not begin with a hyphen (the byte 45)
-abbrev pub NamesNothing : Text → Type 0
-NamesNothing word = All (λ usage. length usage.name < length word) commands × (slice_index word 0 ≢ 45)
 
 -- the first line of the input means this `Line`; a line that is not UTF-8 means `Refused`
 abbrev pub IsLine : List ℕ → Line → Type 0

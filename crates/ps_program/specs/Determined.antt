@@ -7,8 +7,9 @@
 -- - `AgreeAsReports order full text a b`: two reports for a text have the same winner and the automaton's game
 -- - `AgreeInWinners compact game a b`: the answers a and b print certificates of the game with the same winners
 -- - `AgreeAsLosing order role file c a b`: both answers show a stimulus on which the circuit loses
+-- - `AgreeInLoser named given a b`: both answers report a cycle that the same player loses
 -- - `HasOneAnswer solvers`: any two answers to the same input are equal, or the command allows several answers; then
---   the two agree as `Agree` states, or one of them reports a fault
+--   the two agree as `Agree` states, or the command calls a solver and one of the two answers reports a fault
 -- - `HasOneCertified solvers`: with a given certificate, `synth` has one answer if its solver only parses it
 -- - `NeedsItsTexts solvers`: a command with fewer texts than it needs has one answer: a text is missing
 use Rattle.std.specs.Prelude.{◌≡◌, ◌<◌, ◌⊎◌, ◌+◌, ◌-◌, ℕ, Bool, true, false, List, Option, Result, Ok, Err, filter}
@@ -35,7 +36,7 @@ use Rattle.ps_synthesis.specs.declared.report.Report.{Report}
 use Rattle.ps_program.specs.CommandLine.{Usage, IsLine, commands}
 use Rattle.ps_program.specs.Cut.{HasFewerSeparators, behind_line, first_line}
 use Rattle.ps_program.specs.Games.{ReadsGameOf}
-use Rattle.ps_program.specs.Judging.{ReadsSolved, LosesCycle}
+use Rattle.ps_program.specs.Judging.{ReadsSolved, Loses, LosesCycle, cycle_text}
 use Rattle.ps_program.specs.Program.{AnswersLine, AnswersWhole}
 use Rattle.ps_program.specs.Replies.{Reply, fault_reply, text_reply}
 use Rattle.ps_program.specs.Solvers.{Solvers}
@@ -106,9 +107,22 @@ pub record AgreeAsLosing (order : Order) (role : Role) (file : FileData) (c : Ci
   pub is_one : a ≡ loses_reply one
   pub is_other : b ≡ loses_reply other
 
--- what two answers to a command have in common if neither reports a fault; `text` or `texts` is the input after its
--- first line
+-- each of two answers reports a cycle of the solution that the same player loses
+pub record AgreeInLoser (named : NamedGameData) (given : SolutionData) (a b : Reply) : Type 0 where
+  pub player : ℕ
+  pub one : List ℕ
+  pub other : List ℕ
+  pub one_lost : Loses named given player one
+  pub other_lost : Loses named given player other
+  pub is_one : a ≡ fault_reply (cycle_text named one)
+  pub is_other : b ≡ fault_reply (cycle_text named other)
+
+-- what two answers to a command have in common; `text` or `texts` is the input after its first line. If the command
+-- calls a solver, this is what two answers have in common that report no fault.
 abbrev pub Agree : Line → List ℕ → Reply → Reply → Type 0
+Agree (Judge compact) texts a b =
+    (named : NamedGameData) × (given : SolutionData) × ReadsSolved texts (Ok (named, given)) ×
+    AgreeInLoser named given a b
 Agree (Verify order role) texts a b =
     (file : FileData) × (c : CircuitData) × ReadsVerified texts file c × AgreeAsLosing order role file c a b
 Agree (Solve compact) text a b = (game : NamedGameData) × ReadsGameText text (Ok game) × AgreeInWinners compact game a b
@@ -121,12 +135,18 @@ Agree line texts a b = a ≡ b
 abbrev pub IsFaultReply : Reply → Type 0
 IsFaultReply reply = (line : List ℕ) × (reply ≡ fault_reply line)
 
+-- two answers agree; if the command calls a solver, one of them may report a fault in place of agreeing
+abbrev pub AgreeOrFault : Line → List ℕ → Reply → Reply → Type 0
+AgreeOrFault (Judge compact) texts a b = Agree (Judge compact) texts a b
+AgreeOrFault (Verify order role) texts a b = Agree (Verify order role) texts a b
+AgreeOrFault line texts a b = IsFaultReply a ⊎ IsFaultReply b ⊎ Agree line texts a b
+
 -- Any two answers to the same input are equal, unless the input's command allows several answers (`IsUndetermined`).
--- If the command allows several answers, any two answers agree as `Agree` states, or one of them reports a fault.
+-- If the command allows several answers, any two answers agree, except for a solver's faults (`AgreeOrFault`).
 abbrev pub HasOneAnswer : Solvers → Type 0
 HasOneAnswer solvers = (input : List ℕ) (a b : Reply) → AnswersWhole solvers input a → AnswersWhole solvers input b
     → (a ≡ b) ⊎ ((line : Line) × IsLine (first_line input) line × IsUndetermined line (behind_line input) ×
-    (IsFaultReply a ⊎ IsFaultReply b ⊎ Agree line (behind_line input) a b))
+    AgreeOrFault line (behind_line input) a b)
 
 -- if `synth` is given a certificate, and its solver only returns the result of parsing that certificate, there is one
 -- answer

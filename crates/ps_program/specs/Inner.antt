@@ -1,1 +1,3 @@
+pub mod Judged
+pub mod LongWords
 pub mod Usages

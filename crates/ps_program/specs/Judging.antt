@@ -3,24 +3,19 @@
 -- - `Judges compact named given`: what `judge` prints: the solution's certificate, or the line that refuses the
 --   solution
 -- - `AnswersJudge compact texts`: what the program answers to the command `judge`
-use Rattle.std.specs.Prelude.{◌≡◌, ◌⊎◌, ◌<◌, ⊤, ℕ, Bool, List, length, Result, Ok, Err, codes, map}
-use Rattle.std.specs.List.{All}
-use Rattle.ps_game.specs.Games.{NamedGameData, IsGame, vertex_count}
+use Rattle.std.specs.Prelude.{◌≡◌, ◌⊎◌, ℕ, Bool, List, Result, Ok, Err, codes, map}
+use Rattle.ps_game.specs.Games.{NamedGameData, IsGame}
 use Rattle.ps_certificate.specs.declared.flaw.Flaw.{Flaw}
 use Rattle.ps_certificate.specs.Certificates.{CertificateData, IsFirstFlaw}
 use Rattle.ps_certificate.specs.Faults as certificate
 use Rattle.ps_certificate.specs.Written.{text_in}
 use Rattle.ps_referee.specs.Solutions.{claimed, IsSolution, IsCycleOf, IsCertificateOf}
 use Rattle.ps_solution.specs.Reading.{ReadsSolution}
-use Rattle.ps_referee.specs.declared.fault.JudgeFault.{JudgeFault}
-use Rattle.ps_referee.specs.declared.fault.JudgeFault.TheVariants.{Unclosed, BadCycle, OutOfMemory}
-use Rattle.ps_solution.specs.Solved.{SolutionData, AreMoves}
-use Rattle.ps_program.specs.declared.answer.Refusal.{Refusal}
-use Rattle.ps_program.specs.declared.answer.Refusal.TheVariants as refusal
-use Rattle.ps_program.specs.Faults.{fault_text, line_text, ids_text}
+use Rattle.ps_solution.specs.Solved.{SolutionData}
+use Rattle.ps_program.specs.Faults.{line_text, ids_text}
 use Rattle.ps_program.specs.Outcomes.{Then, Reading}
 use Rattle.ps_program.specs.Replies.{Reply, text_reply}
-use Rattle.ps_program.specs.Texts.{CutsInTwo, ReadsGameText, NamesVertices, id_of, flaw_text}
+use Rattle.ps_program.specs.Texts.{CutsInTwo, ReadsGameText, id_of, flaw_text}
 
 -- the result of parsing a text as a solution of the game: the solution, or the line that reports the first error
 abbrev pub ReadsSolutionText : NamedGameData → List ℕ → Result SolutionData (List ℕ) → Type 0
@@ -64,29 +59,3 @@ Judges compact named given (Err line) = IsGame named.game × IsRefusalLine named
 
 abbrev pub AnswersJudge : Bool → List ℕ → Result Reply (List ℕ) → Type 0
 AnswersJudge compact texts = Then (ReadsSolved texts) (λ both. Judges compact both.0 both.1)
-
--- ---- definitions for the functions of the code
-
--- the solution's lists of winners and of moves have an entry for each vertex, and each move leads to a vertex
-pub record HasPlaces (named : NamedGameData) (given : SolutionData) : Type 0 where
-  pub won : length given.won ≡ vertex_count named.game
-  pub moves : length given.moves ≡ vertex_count named.game
-  pub within : AreMoves (vertex_count named.game) given.moves
-
--- each vertex that a fault of `judge` names is a number less than `count`
-abbrev pub Names : ℕ → JudgeFault → Type 0
-Names count (Unclosed flaw) = NamesVertices count flaw
-Names count (BadCycle player cycle) = All (λ v. v < count) cycle.items
-Names count OutOfMemory = ⊤
-
--- the fault that is returned is the line that reports the cycle, or `OutOfMemory`
-abbrev pub IsCycleTold : NamedGameData → List ℕ → Refusal → Type 0
-IsCycleTold named cycle (refusal.Fault line) = fault_text line ≡ cycle_text named cycle
-IsCycleTold named cycle refusal.OutOfMemory = ⊤
-
--- the fault that is returned is the line that reports the solution's fault, or `OutOfMemory`
-abbrev pub IsTold : NamedGameData → JudgeFault → Refusal → Type 0
-IsTold named (Unclosed flaw) (refusal.Fault line) = fault_text line ≡ flaw_text named flaw
-IsTold named (BadCycle player cycle) refused = IsCycleTold named cycle.items refused
-IsTold named OutOfMemory (refusal.Fault line) = ⊥
-IsTold named fault refusal.OutOfMemory = ⊤

@@ -4,6 +4,7 @@ pub mod Checks
 pub mod CommandLine
 pub mod Cut
 pub mod Determined
+pub mod Exchanged
 pub mod Faults
 pub mod Games
 pub mod Help

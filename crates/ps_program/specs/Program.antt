@@ -48,10 +48,6 @@ abbrev pub AnswersWhole : Solvers → List ℕ → Reply → Type 0
 AnswersWhole solvers input reply = ((input_limit < length input) × (reply ≡ read_fault))
     ⊎ ((length input ≤ input_limit) × AnswersInput solvers input reply)
 
--- an answer to an input of any length, or the reply `out_of_memory`
-abbrev pub RepliesTo : Solvers → List ℕ → Reply → Type 0
-RepliesTo solvers input reply = (reply ≡ out_of_memory) ⊎ AnswersWhole solvers input reply
-
 -- what the program answers to the input that a source gives: `read_fault` if a read failed, and otherwise an answer to
 -- the input, or `out_of_memory`
 abbrev pub Replies : Solvers → Option (List ℕ) → Bool → Reply → Type 0

@@ -23,9 +23,13 @@ use Rattle.ps_program.specs.Texts.{CutsInTwo, ReadsCircuitText}
 abbrev pub letter_lines : List (List Bool) → List ℕ
 letter_lines letters = flat_map (λ letter. digits_of letter ++ codes "\n") letters
 
--- the word `loses`, and the stimulus on which the circuit loses, in the form that `lasso` reads
+-- the text of a stimulus, in the form that `lasso` reads: a line `-` divides the stem from the lap
+abbrev pub stimulus_text : StimulusData → List ℕ
+stimulus_text s = letter_lines s.stem ++ codes "-\n" ++ letter_lines s.lap
+
+-- the word `loses`, and the stimulus on which the circuit loses
 abbrev pub losing_text : StimulusData → List ℕ
-losing_text s = codes "loses\n" ++ letter_lines s.stem ++ codes "-\n" ++ letter_lines s.lap
+losing_text s = codes "loses\n" ++ stimulus_text s
 
 abbrev pub wins_reply : Reply
 wins_reply = line_reply (codes "wins")

@@ -8,6 +8,7 @@ ghost use Rattle.clap.specs.Words.{app_of, rows_of, rule_of, subcommand_rows_of,
 ghost use Rattle.ps_program.specs.CommandLine as words;
 ghost use Rattle.ps_program.specs.Inner.Usages.{usage_of};
 ghost use Rattle.ps_program.specs.CommandLine.{words_of, line_said, Says, IsLine, LinesAreRead, AskForHelp};
+ghost use Rattle.ps_program.specs.Inner.LongWords.{NamesNothing};
 
 use crate::commands::{ENV_FLAG, Line, MOORE_FLAG, Usage, usages};
 use clap::error::ErrorKind;
@@ -44,7 +45,7 @@ fn split_words(alloc: Global, text: &str) -> Result<Vec<&str>, AllocError>
 
 /// Whether the first word of a command line is longer than the name of every command, and does not begin with a hyphen.
 fn names_nothing(word: &str) -> bool
-    ensures { IsTrue result → words.NamesNothing word.now }
+    ensures { IsTrue result → NamesNothing word.now }
 {
     match word.as_bytes() {
         [first, ..] => *first != b'-' && is_longer(usages(), word),

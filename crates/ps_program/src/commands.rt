@@ -349,8 +349,10 @@ pub(crate) fn answer_line<S: Solver, T: Solver>(
     built_in: &mut S,
     replay: &mut T,
 ) -> Result<Answer, Refusal>
-    ensures { Gives reply_of (AnswersLine (solvers_of (S.known built_in.old) (T.known replay.old)) line
+    ensures answer { Gives reply_of (AnswersLine (solvers_of (S.known built_in.old) (T.known replay.old)) line
         texts.now) result }
+    ensures built_in_kept { (S.known built_in.new).is_sure ≡ (S.known built_in.old).is_sure }
+    ensures replay_kept { (T.known replay.new).is_sure ≡ (T.known replay.old).is_sure }
 {
     match line {
         Line::Refused => Ok(Answer::usage(alloc)?),

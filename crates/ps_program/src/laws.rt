@@ -1,26 +1,42 @@
-//! Laws: an input has an answer, which is determined except for what `one_answer` lists.
+//! Laws: an input has an answer, which is determined except for what `one_answer` lists; what one command prints,
+//! another reads.
 
-ghost use Rattle.std.specs.Prelude.{ℕ, List};
+ghost use Rattle.std.specs.Prelude.{ℕ, List, []};
 ghost use Rattle.ps_machine.specs.Solving.{own_solver, replay_of};
 ghost use Rattle.ps_program.specs.Answered.{MayCertify, MayReplay};
-ghost use Rattle.ps_program.specs.Answered.{HasSomeAnswer, HasSomeLine, HasSomeSolved, HasSomeSynthesis};
+ghost use Rattle.ps_program.specs.Answered.{ArePrinted, HasSomeAnswer, HasSomeLine, HasSomeSolved, HasSomeSynthesis};
 ghost use Rattle.ps_program.specs.Determined.{HasOneAnswer, HasOneCertified, NeedsItsTexts};
-ghost use Rattle.ps_program.specs.Solvers.{solvers_of};
+ghost use Rattle.ps_program.specs.Exchanged.{ChecksCertificates, ReadsLosing, VerifiesCircuits};
+ghost use Rattle.ps_program.specs.Solvers.{Solvers, solvers_of};
 
-use ps_machine::Solver;
+use std::alloc::Global;
+
+/// Data of two solvers. The laws of answers hold for any data, and need no solver: a type with an `impl` of this trait
+/// has no values that matter.
+pub trait KnownSolvers {
+    /// What is known of the two solvers.
+    ghost solvers: { Solvers };
+}
+
+/// What is known of psyn's own solvers, before the second is fed a text.
+pub struct OwnSolvers;
+
+impl KnownSolvers for OwnSolvers {
+    ghost solvers = { solvers_of own_solver (replay_of []) };
+}
 
 /// Whatever the solvers, an input has at most one answer, unless its command is `judge`, `verify`, `solve`, `cert` or
 /// `synth`. If there is only one answer, each program that meets the definitions writes the same bytes and ends with
 /// the same exit status, unless it runs out of memory. Two answers to one of the five commands may differ, as follows.
-/// If `judge` finds cycles that make a player lose, the law does not say which of them the answer names. If `verify`
-/// finds that the circuit loses, the law does not say which losing stimulus the answer shows. If `solve`, `cert` or
-/// `synth` accepts its text, any two answers that do not report a fault agree on the winners. Two answers to `synth`
-/// without a fault have the same status, first line and game; two answers to `solve` or `cert` without a fault have the
-/// same regions. With `synth --cert`, the whole answer is determined if the second solver only returns the certificate
-/// whose text it was fed.
-pub fn one_answer<S: Solver, T: Solver>(built_in: &S, replay: &T)
-    ensures answer { HasOneAnswer (solvers_of (S.known built_in.now) (T.known replay.now)) }
-    ensures certified { HasOneCertified (solvers_of (S.known built_in.now) (T.known replay.now)) }
+/// If `judge` finds cycles that make a player lose, the law does not say which of them the answer names, but all of
+/// them are lost by the same player. If `verify` finds that the circuit loses, the law does not say which losing
+/// stimulus the answer shows. If `solve`, `cert` or `synth` accepts its text, any two answers that do not report a
+/// fault agree on the winners. Two answers to `synth` without a fault have the same status, first line and game; two
+/// answers to `solve` or `cert` without a fault have the same regions. With `synth --cert`, the whole answer is
+/// determined if the second solver only returns the certificate whose text it was fed.
+pub fn one_answer<S: KnownSolvers>()
+    ensures answer { HasOneAnswer S.solvers }
+    ensures certified { HasOneCertified S.solvers }
 {
     ps_pgsolver::one_answer();
     ps_certificate::certificate_text_has_one_answer();
@@ -42,8 +58,8 @@ pub fn one_answer<S: Solver, T: Solver>(built_in: &S, replay: &T)
 
 /// A command reads as many texts as the table of commands says. If the input lacks one of a command's texts, the answer
 /// reports the missing text.
-pub fn missing_text_is_told<S: Solver, T: Solver>(built_in: &S, replay: &T)
-    ensures { NeedsItsTexts (solvers_of (S.known built_in.now) (T.known replay.now)) }
+pub fn missing_text_is_told<S: KnownSolvers>()
+    ensures { NeedsItsTexts S.solvers }
 {}
 
 /// Each first line has a meaning, and each input has an answer, except that the law says nothing about the command
@@ -64,15 +80,15 @@ pub fn missing_text_is_told<S: Solver, T: Solver>(built_in: &S, replay: &T)
 /// The second condition is that some report can have the texts that psyn writes for the game, the certificate and the
 /// circuit; a text may be too long for a `Vec`. Parsing the text of the certificate or the circuit must give the same
 /// value again. Parsing the game's text must give the same game again, unless the text is longer than the parser
-/// accepts.
+/// accepts. The law `fitting_texts_are_printed` states when this condition is met.
 ///
 /// The command `verify` is left out, because a proof for it would have to decide, as the code does, whether an
 /// automaton accepts all lasso traces of a circuit.
-pub fn some_answer<S: Solver, T: Solver>(built_in: &S, replay: &T)
+pub fn some_answer<S: KnownSolvers>()
     ensures line { HasSomeLine }
-    ensures answer { HasSomeAnswer (solvers_of (S.known built_in.now) (T.known replay.now)) }
-    ensures solved { HasSomeSolved (solvers_of (S.known built_in.now) (T.known replay.now)) }
-    ensures synthesis { HasSomeSynthesis (solvers_of (S.known built_in.now) (T.known replay.now)) }
+    ensures answer { HasSomeAnswer S.solvers }
+    ensures solved { HasSomeSolved S.solvers }
+    ensures synthesis { HasSomeSynthesis S.solvers }
 {
     ps_pgsolver::some_answer();
     ps_pgsolver::read_game_is_game();
@@ -105,4 +121,44 @@ pub fn own_solvers_may_answer()
     ensures replay { (text : List ℕ) → MayReplay (replay_of text) }
 {
     ps_machine::each_game_has_a_certificate();
+}
+
+/// Discharges the second condition of `some_answer` for `synth`: a report can be printed if the texts of its circuit,
+/// game and certificate have fewer than 2^63 bytes each, and the numbers in them fit in 64 bits. The texts of a report
+/// are held in `Vec`s, for which the law needs an allocator; it allocates nothing.
+pub fn fitting_texts_are_printed<S: KnownSolvers>(alloc: Global)
+    ensures { ArePrinted S.solvers.built_in }
+{
+    let bytes: Vec<u8> = Vec::new(alloc);
+    drop(bytes);
+    ps_synthesis::written_texts_are_read();
+    ps_traces::certified_circuit_of_file_answers();
+}
+
+/// What `verify` prints after the line `loses` is the text of a stimulus for the circuit. `lasso` reads this text as
+/// the stimulus on which the circuit loses.
+pub fn losing_stimulus_is_read()
+    ensures { ReadsLosing }
+{}
+
+/// Whatever the solver, `verify` answers `wins`, and nothing else, for each circuit that `synth` prints, if it is given
+/// the same automaton and order of moves, and, for the circuit of an environment, the flag `--env`.
+pub fn circuits_are_verified<S: KnownSolvers>()
+    ensures { VerifiesCircuits S.solvers.built_in }
+{
+    ps_automaton::refusal_is_one();
+    ps_circuit::one_answer();
+    ps_hoa::one_answer();
+    ps_verify::judgement_is_one();
+    ps_verify::witness_wins();
+}
+
+/// `check` answers `valid`, and nothing else, for the text of each valid certificate, if the text of its game precedes
+/// it and the numbers of both fit in 64 bits. `solve`, `cert`, `judge` and `synth --full` print such texts.
+pub fn certificates_are_checked()
+    ensures { ChecksCertificates }
+{
+    ps_pgsolver::one_answer();
+    ps_certificate::certificate_text_has_one_answer();
+    ps_synthesis::written_texts_are_read();
 }

@@ -12,6 +12,9 @@
 //! | `lines_are_read`, `missing_text_is_told` | laws: how command lines are read; a command needs each of its texts |
 //! | `one_answer` | a law: an input has one answer, except for what a solver may choose |
 //! | `some_answer`, `own_solvers_may_answer` | laws: an input has an answer, except that nothing is said of `verify` |
+//! | `fitting_texts_are_printed` | a law: a report can be printed if its texts and their numbers are not too large |
+//! | `losing_stimulus_is_read`, `circuits_are_verified` | laws: what `verify` and `synth` print is read |
+//! | `certificates_are_checked` | a law: `check` answers `valid` for a certificate that another command prints |
 //!
 //! The file `specs/Program.antt` defines the answer to an input, with one case for each command.
 #![tactic(auto)]
@@ -50,7 +53,11 @@ pub use commands::verify::verify;
 pub use commands::{Line, SynthLine, TextKind};
 pub use cut::first_line;
 pub use fault::{FaultLine, Place};
-pub use laws::{missing_text_is_told, one_answer, own_solvers_may_answer, some_answer};
+pub use laws::{
+    KnownSolvers, OwnSolvers, certificates_are_checked, circuits_are_verified,
+    fitting_texts_are_printed, losing_stimulus_is_read, missing_text_is_told, one_answer,
+    own_solvers_may_answer, some_answer,
+};
 pub use printing::print;
 pub use program::answer_to;
 pub use reading::{INPUT_LIMIT, InputFault, read_input};

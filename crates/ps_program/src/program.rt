@@ -1,6 +1,6 @@
 //! The answer to an input.
 
-ghost use Rattle.std.specs.Prelude.{IfOk};
+ghost use Rattle.std.specs.Prelude.{◌≡◌, IfOk};
 ghost use Rattle.ps_program.specs.Program.{AnswersInput};
 ghost use Rattle.ps_program.specs.Replies.{reply_of};
 ghost use Rattle.ps_program.specs.Solvers.{solvers_of};
@@ -25,8 +25,10 @@ pub fn answer_to<S: Solver, T: Solver>(
     built_in: &mut S,
     replay: &mut T,
 ) -> Result<Answer, AllocError>
-    ensures { IfOk result (λ answer. AnswersInput (solvers_of (S.known built_in.old) (T.known replay.old)) input.now
-        (reply_of answer)) }
+    ensures answer { IfOk result (λ answer. AnswersInput (solvers_of (S.known built_in.old) (T.known replay.old))
+        input.now (reply_of answer)) }
+    ensures built_in_kept { (S.known built_in.new).is_sure ≡ (S.known built_in.old).is_sure }
+    ensures replay_kept { (T.known replay.new).is_sure ≡ (T.known replay.old).is_sure }
 {
     let (line, texts) = first_line(input);
     let line = read_line(alloc, line)?;

@@ -58,10 +58,7 @@ pub fn three_texts(texts: &[u8]) -> Result<(&[u8], &[u8], &[u8]), Refusal>
 pub fn read_game(alloc: Global, text: &[u8]) -> Result<NamedGame, Refusal>
     ensures { Gives (λ game. game) (ReadsGameText text.now) result }
 {
-    match ps_pgsolver::read(alloc, text) {
-        Ok(game) => Ok(game),
-        Err(fault) => Err(Refusal::from(fault)),
-    }
+    Ok(ps_pgsolver::read(alloc, text)?)
 }
 
 /// Parses a text as a certificate of the given game.
@@ -69,10 +66,7 @@ fn read_certificate(alloc: Global, game: &NamedGame, text: &[u8]) -> Result<Cert
     ensures read { Gives (λ certificate. certificate) (ReadsCertificateText game.now text.now) result }
     ensures fits { IfOk result (Fits game.now.game) }
 {
-    match ps_certificate::read(alloc, text, game) {
-        Ok(certificate) => Ok(certificate),
-        Err(fault) => Err(Refusal::from(fault)),
-    }
+    Ok(ps_certificate::read(alloc, text, game)?)
 }
 
 /// A game and a certificate of it.
@@ -95,10 +89,7 @@ pub fn read_certified(alloc: Global, texts: &[u8]) -> Result<(NamedGame, Certifi
 pub fn read_circuit(alloc: Global, text: &[u8]) -> Result<Circuit, Refusal>
     ensures { Gives (λ circuit. circuit) (ReadsCircuitText text.now) result }
 {
-    match ps_circuit::read(alloc, text) {
-        Ok(circuit) => Ok(circuit),
-        Err(fault) => Err(Refusal::from(fault)),
-    }
+    Ok(ps_circuit::read(alloc, text)?)
 }
 
 /// Parses a text as a stimulus for a circuit with the given number of inputs. The flag states whether the text must
@@ -115,20 +106,14 @@ pub fn read_stimulus(
 ) -> Result<Stimulus, Refusal>
     ensures { Gives (λ stimulus. stimulus) (ReadsStimulusText width split text.now) result }
 {
-    match ps_simulate::parse_stimulus(alloc, text, width, split) {
-        Ok(stimulus) => Ok(stimulus),
-        Err(fault) => Err(Refusal::from(fault)),
-    }
+    Ok(ps_simulate::parse_stimulus(alloc, text, width, split)?)
 }
 
 /// Parses a text as a stimulus that has only a stem, for a circuit with the given number of inputs.
 fn read_letters(alloc: Global, text: &[u8], width: usize) -> Result<Letters, Refusal>
     ensures { Gives stem_of (ReadsStimulusText width false text.now) result }
 {
-    match ps_simulate::parse_letters(alloc, text, width) {
-        Ok(letters) => Ok(letters),
-        Err(fault) => Err(Refusal::from(fault)),
-    }
+    Ok(ps_simulate::parse_letters(alloc, text, width)?)
 }
 
 /// A circuit and a stimulus for it.

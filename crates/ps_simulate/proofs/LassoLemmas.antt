@@ -1,21 +1,19 @@
 -- A circuit reads a stem once and then a lap repeatedly, until a reading of the lap begins with the same latch values
 -- as an earlier reading.
 use Rattle.std.proofs.Common.{◌≡◌, ◌≢◌, ℕ, zero, suc, ◌+◌, ◌-◌, ◌*◌, ◌^◌, ◌<◌, ◌≤◌, inl, inr, Bool, false, List, rules}
-use Rattle.std.proofs.Common.{[], ◌∷◌, ◌++◌, None, Vec, All, length, take, drop, get_or, map, refl, ap, sym, ◌∙◌, arith}
+use Rattle.std.proofs.Common.{[], ◌∷◌, ◌++◌, None, Vec, All, length, take, get_or, map, refl, ap, sym, ◌∙◌, arith}
 use Rattle.std.proofs.Common.{append_assoc, add-one, length-append}
-use Rattle.ps_hoa.specs.Files.{FileData}
-use Rattle.ps_automaton.specs.Acceptance.{IsAccepted}
-use Rattle.std.specs.Prelude.{◌==◌, ◌↔◌, IsTrue, ◌||◌}
+use Rattle.std.specs.Prelude.{◌==◌, ◌||◌}
 use Rattle.std.specs.Global.{Global}
 use Rattle.std.proofs.lemmas.List.{map-append, length-map, get_or-map, append-nil, take_more, map_push}
 use Rattle.std.proofs.Math.ListN.{get_or-append}
 use Rattle.std.proofs.Math.Seq.{get_or-append_seam}
-use Rattle.std.proofs.Math.Nat.{mul-le-mul_right, mul-sub, mul_comm}
+use Rattle.std.proofs.Math.Nat.{mul-le-mul_right}
 use Rattle.ps_label.specs.Truth.{is_in}
 use Rattle.ps_circuit.specs.Circuits.{CircuitData}
 use Rattle.ps_circuit.specs.Values.{Moment, Steps, GoesOn, resets}
 use Rattle.ps_simulate.specs.Stimuli.{letters_of}
-use Rattle.ps_simulate.specs.Lassos.{IsLetterOf, AreLetters, laps_of, latches_along, IsVerdictOf}
+use Rattle.ps_simulate.specs.Lassos.{IsLetterOf, AreLetters, laps_of, latches_along}
 use Rattle.ps_simulate.specs.LassoRuns.{IsSeen, ReadsWord, RepeatsBy, HasRead}
 use Rattle.ps_simulate.specs.Inner.Namings.{IsNaming, names_of, bit_at_place}
 use Rattle.ps_simulate.specs.declared.naming.Naming.{Naming}
@@ -190,8 +188,6 @@ pub length_of_letters : {names : List (List ℕ)} {c : CircuitData} {stem lap : 
     {letters : List ℕ} (h : RepeatsBy names c stem lap i letters) → length letters ≡ length stem + h.j * length lap
 length_of_letters {names} {c} {stem} {lap} {letters} h = search (rules, length_letters, length_trace)
 
--- ## The letters of the verdict
-
 pub letter_at : (items : List (Vec Bool Global)) (i : ℕ) {item : Vec Bool Global} (d : List Bool) → i < length items →
     item ≡ get_or items i item → get_or (letters_of items) i d ≡ item.items
 letter_at items i {item} d lt is = search (rules, get_or-map)
@@ -210,12 +206,6 @@ lap_within {lap} {i} h = grind (
   length_of_letters h,
 )
 
-pub lap_length : {names : List (List ℕ)} {c : CircuitData} {stem lap : List (List Bool)} {i : ℕ} (count : ℕ)
-    {letters : List ℕ} (h : RepeatsBy names c stem lap i letters)
-    → count + (length stem + i * length lap) ≡ length letters → count ≡ (h.j - i) * length lap
-lap_length {names} {c} {stem} {lap} {i} count {letters} h e =
-    grind (arith, length_of_letters h, mul-sub (length lap) h.j i, mul_comm (length lap) (h.j - i))
-
 -- the lemma `lap_within` for words that the code stores in a `Vec`
 pub lap_within_items : {names : List (List ℕ)} {c : CircuitData} (stem lap : List (Vec Bool Global)) {i : ℕ}
     {letters : List ℕ} (h : RepeatsBy names c (letters_of stem) (letters_of lap) i letters)
@@ -223,29 +213,6 @@ pub lap_within_items : {names : List (List ℕ)} {c : CircuitData} (stem lap : L
 lap_within_items stem lap {i} {letters} h =
     rw ((length-map lap (λ (l : Vec Bool Global). l.items)), (length-map stem (λ (l : Vec Bool Global). l.items))) at
     (lap_within h)
-
-pub verdict : (file : FileData) {names all : List (List ℕ)} {c : CircuitData} (stem lap : List (Vec Bool Global))
-    {letters before behind : List ℕ} {i : ℕ} (accepted : Bool) → names ≡ all → all ≡ file.names →
-    RepeatsBy names c (letters_of stem) (letters_of lap) i letters →
-    before ≡ take (length stem + i * length lap) letters → behind ≡ drop (length stem + i * length lap) letters →
-    length behind + (length stem + i * length lap) ≡ length letters →
-    (IsTrue accepted ↔ IsAccepted file before behind) → IsVerdictOf file c (letters_of stem) (letters_of lap)
-    (record { accepted = accepted; stem = length stem + i * length lap; lap = length behind })
-verdict file {names} {c} stem lap {letters} {before} {behind} {i} accepted same of_file h front back size asked =
-    let e_stem = length-map stem (λ (l : Vec Bool Global). l.items) in
-    let e_lap = length-map lap (λ (l : Vec Bool Global). l.items) in
-    let start : length stem + i * length lap ≡ length (letters_of stem) + i * length (letters_of lap) = search rules in
-    record {
-      i = i;
-      j = h.j;
-      trace = h.trace;
-      letters = letters;
-      repeats = h.repeats;
-      are_letters = rw (same ∙ of_file) at h.are_letters;
-      stem_is = start;
-      lap_is = lap_length (length behind) h (ap (λ n. length behind + n) (sym start) ∙ size);
-      accepted = rw (back, front) at asked;
-    }
 
 pub not_empty : (n : ℕ) → (n == 0) ≡ false → 0 < n
 not_empty n h = search rules

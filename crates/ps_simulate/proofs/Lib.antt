@@ -13,6 +13,7 @@ pub mod BitLists
 pub mod NamingLemmas
 pub mod LetterBitLaws
 pub mod LassoLemmas
+pub mod WordLemmas
 pub mod SeenLemmas
 pub mod CountLemmas
 pub mod GateOrders

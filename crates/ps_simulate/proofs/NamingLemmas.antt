@@ -16,7 +16,8 @@ use Rattle.ps_hoa.specs.Files.{is_among}
 use Rattle.ps_hoa.specs.Header.{is_name_among}
 use Rattle.ps_hoa.specs.Sound.{AreNames}
 use Rattle.ps_simulate.specs.declared.role.Role.{Role}
-use Rattle.ps_simulate.specs.Symbols.{IsPropositionOf, IsSymbol, AreNamesOnce, reads_controllable, sets_controllable}
+use Rattle.ps_simulate.specs.Symbols.{AreDistinct, IsPropositionOf, IsSymbol, AreNamesOnce, reads_controllable}
+use Rattle.ps_simulate.specs.Symbols.{sets_controllable}
 use Rattle.ps_simulate.specs.Inner.Namings.{ArePut, ArePlacesOf}
 
 -- ## Names that differ
@@ -31,8 +32,7 @@ not_among (x ∷ xs) name p lt h e = go (bytes_eq name x) refl h p lt e (λ q lq
         → ((q : ℕ) → q < length xs → is_name_among name xs ≡ false → get_or xs q [] ≢ name) → ⊥
     go b d h p lt e rest = grind (arith, bytes_eq-Decides)
 
-pub names_differ : (names : List (List ℕ)) → AreNames names → (p q : ℕ) → p < length names → q < length names →
-    get_or names p [] ≡ get_or names q [] → p ≡ q
+pub names_differ : (names : List (List ℕ)) → AreNames names → AreDistinct names
 names_differ [] all p q lp lq e = absurd (omega arith)
 names_differ (x ∷ xs) all zero zero lp lq e = refl
 names_differ (x ∷ xs) all zero (suc q) lp lq e = absurd (not_among xs x q (omega arith) all.1 (sym e))
@@ -103,12 +103,13 @@ module _ (names : List (List ℕ)) (controllable : List ℕ) (wanted : Bool) (sy
 
   -- ## All symbols
 
-  module _ (differ : AreNames names) {places : List (Option ℕ)}
+  module _ (differ : AreDistinct names) {places : List (Option ℕ)}
       (h : ArePut names controllable wanted symbols (length symbols) places) where
     placed : (p k : ℕ) → IsSymbol names symbols k p → get_or places p None ≡ Some k
     placed p k s =
         let at = h.put k (within symbols k (get_or names p []) s.is) in
-        grind (arith, names_differ, some_same)
+        let same = differ p at.0 s.within at.1.within (some_same _ _ (sym s.is ∙ at.1.is)) in
+        rw same at.2
 
     pub all_placed : ArePlacesOf names controllable wanted symbols places
     all_placed = record { size = h.size; placed = placed; within = h.before; side = h.side }

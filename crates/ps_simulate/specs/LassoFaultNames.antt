@@ -1,4 +1,4 @@
--- The numbers and the names of the faults for which an automaton gives no verdict on a circuit, a stem and a lap.
+-- The numbers and the names of the faults for which a circuit has no word on a stem and a lap.
 use Rattle.std.specs.Prelude.{ℕ, List, codes}
 use Rattle.ps_text.specs.Faults.{memory_number, memory_name}
 use Rattle.ps_simulate.specs.Faults.{cause_number, cause_name}

@@ -28,8 +28,8 @@ pub record CanRead (c : CircuitData) (naming : Naming) (outputs : List Bool) (wo
   pub outputs_fit : length outputs ≡ length c.outputs
   pub is_naming : IsNaming c naming
 
--- from the latch values `from`, the circuit reads the word, and then has the latch values `last`; the automaton's
--- letter for each step is appended to the earlier letters
+-- from the latch values `from`, the circuit reads the word, and then has the latch values `last`; the letter of
+-- each step is appended to the earlier letters
 pub record ReadsWord (names : List (List ℕ)) (c : CircuitData) (from : List Bool) (word : List (List Bool))
     (old new : List ℕ) (last : List Bool) : Type 0 where
   pub trace : List Moment
@@ -45,7 +45,7 @@ pub record RunsOn (names : List (List ℕ)) (old new : Simulation) (word : List 
   pub circuit : new.circuit ≡ old.circuit
   pub reads : ReadsWord names old.circuit old.latches word before after new.latches
 
--- `letters` are the automaton's letters of a trace that ends when the latch values before a reading of the lap repeat
+-- `letters` are the letters of a trace that ends when the latch values before a reading of the lap repeat
 -- for the first time
 pub record RepeatsBy (names : List (List ℕ)) (c : CircuitData) (stem lap : List (List Bool)) (i : ℕ)
     (letters : List ℕ) : Type 0 where

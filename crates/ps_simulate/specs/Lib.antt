@@ -9,6 +9,7 @@ pub mod LaneRuns
 pub mod Stimuli
 pub mod StimulusTexts
 pub mod Symbols
+pub mod Words
 pub mod Lassos
 pub mod LassoFaults
 pub mod LassoFaultNames

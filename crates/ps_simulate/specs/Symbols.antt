@@ -1,4 +1,6 @@
--- The inputs and outputs of a circuit that carry the names of an automaton's propositions.
+-- The inputs and outputs of a circuit that carry the names of propositions. A list of propositions, as the one of an
+-- automaton, has the names of all propositions and the indices of the controllable ones.
+-- - `AreDistinct names`: no two of the names are equal
 -- - `IsSymbol names symbols k p`: symbol k is the name of proposition p
 -- - `IsPropositionOf names controllable wanted symbol p`: p is the proposition that the symbol names; it is
 --   controllable exactly if `wanted` is true
@@ -11,6 +13,10 @@ use Rattle.ps_hoa.specs.Files.{is_among}
 use Rattle.ps_circuit.specs.Circuits.{CircuitData}
 use Rattle.ps_simulate.specs.declared.role.Role.{Role}
 use Rattle.ps_simulate.specs.declared.role.Role.TheVariants.{Controller, Environment}
+
+abbrev pub AreDistinct : List (List ℕ) → Type 0
+AreDistinct names = (p q : ℕ) → p < length names → q < length names →
+    slice_index_or names p [] ≡ slice_index_or names q [] → p ≡ q
 
 pub record IsSymbol (names : List (List ℕ)) (symbols : List (Option (List ℕ))) (k p : ℕ) : Type 0 where
   pub within : p < length names

@@ -1,15 +1,17 @@
 //! Runs of a circuit on a lasso: the circuit reads a stem once and then a lap repeatedly, until its latch values
 //! repeat.
 
-ghost use Rattle.std.specs.Prelude.{◌≡◌, ◌+◌, ◌*◌, ◌<◌, Bool, List, [], false, length, All, IfOk, IfErr};
+ghost use Rattle.std.specs.Prelude.{◌≡◌, ◌+◌, ◌*◌, ◌<◌, ◌≤◌, Bool, List, [], false, length, map, All, IfOk, IfErr};
 ghost use Rattle.std.specs.Prelude.{IsTrue, OnOk, vec_len};
 ghost use Rattle.ps_circuit.specs.Values.{resets};
 ghost use Rattle.ps_hoa.specs.Files.{FileData};
+ghost use Rattle.ps_hoa.specs.Memory.{bytes_of};
 ghost use Rattle.ps_automaton.specs.Automata.{IsBuiltFrom};
 ghost use Rattle.ps_automaton.specs.Chains.{Chain};
 ghost use Rattle.ps_simulate.specs.Stimuli.{letters_of};
-ghost use Rattle.ps_simulate.specs.Lassos.{IsVerdictOf};
-ghost use Rattle.ps_simulate.specs.LassoFaults.{HasNoLassoFault, IsLassoFault};
+ghost use Rattle.ps_simulate.specs.Symbols.{AreDistinct};
+ghost use Rattle.ps_simulate.specs.Lassos.{IsVerdictOf, IsWordOf};
+ghost use Rattle.ps_simulate.specs.LassoFaults.{HasNoLassoFault, HasNoWordFault, IsLassoFault, IsWordFault};
 ghost use Rattle.ps_simulate.specs.LassoRuns.{CanRead, CanRun, HavePlaces, IsSeen, RepeatsBy, RunsOn};
 ghost use Rattle.ps_simulate.specs.Inner.Namings.{names_of};
 ghost use Rattle.ps_simulate.specs.declared.lassos.LassoFault.TheVariants.{OutOfMemory};
@@ -18,6 +20,7 @@ use crate::fault::{StimulusCause, StimulusFault};
 use crate::naming::Naming;
 use crate::role::Role;
 use crate::simulator::Simulator;
+use crate::words::TraceWord;
 use ps_automaton::Automaton;
 use ps_circuit::Circuit;
 use ps_text::faults::Cause;
@@ -37,7 +40,7 @@ pub struct Verdict {
     pub lap: usize,
 }
 
-/// Why an automaton gives no verdict on a circuit, a stem and a lap.
+/// Why a circuit has no word on a stem and a lap, or an automaton gives no verdict on it.
 #[derive(Clone, Copy, Debug, PartialEq, Eq, Error)]
 pub enum LassoFault {
     /// The length of a letter differs from the number of inputs.
@@ -114,6 +117,43 @@ pub fn lasso(
     ensures fault { IfErr result (IsLassoFault role automaton.now circuit.now (letters_of stem.now)
         (letters_of lap.now)) }
 {
+    let names = automaton.names();
+    let controllable = automaton.controllable();
+    let word = trace_word(alloc, circuit, names, controllable, role, stem, lap)?;
+    Ok(Verdict {
+        accepted: automaton.accepts(word.stem(), word.lap())?,
+        stem: word.stem().len(),
+        lap: word.lap().len(),
+    })
+}
+
+/// Runs a circuit through a stem and then repeatedly through a lap, until two readings of the lap begin with the same
+/// latch values. The result is the infinite word of this run, in which the letters between the starts of the two
+/// readings of the lap repeat for ever. The letters that are read have a bit for each input, in the circuit's order; the
+/// letters of the word have a bit for each proposition. The propositions are given by their names, and by the indices
+/// of those that are controllable; each is the input or the output that has its name.
+///
+/// # Errors
+///
+/// Fails with the first of `Width`, `EmptyLap` and `Symbols` that applies, or if out of memory.
+pub fn trace_word(
+    alloc: Global,
+    circuit: &Circuit,
+    names: &[Vec<u8>],
+    controllable: &[u32],
+    role: Role,
+    stem: &[Vec<bool>],
+    lap: &[Vec<bool>],
+) -> Result<TraceWord, LassoFault>
+    requires few { length names.now ≤ 64 }
+    requires distinct { AreDistinct (map bytes_of names.now) }
+    ensures word { IfOk result (IsWordOf (map bytes_of names.now) circuit.now (letters_of stem.now)
+        (letters_of lap.now)) }
+    ensures sound { IfOk result (λ _. HasNoWordFault role (map bytes_of names.now) controllable.now circuit.now
+        (letters_of stem.now) (letters_of lap.now)) }
+    ensures fault { IfErr result (IsWordFault role (map bytes_of names.now) controllable.now circuit.now
+        (letters_of stem.now) (letters_of lap.now)) }
+{
     let width = circuit.inputs().len();
     if !are_wide(width, stem) || !are_wide(width, lap) {
         return Err(LassoFault::Width);
@@ -121,37 +161,27 @@ pub fn lasso(
     if lap.is_empty() {
         return Err(LassoFault::EmptyLap);
     }
-    let Some(naming) = Naming::new(alloc, circuit, automaton, role)? else {
+    let Some(naming) = Naming::new(alloc, circuit, names, controllable, role)? else {
         return Err(LassoFault::Symbols);
     };
-    Ok(verdict_of(alloc, circuit, automaton, &naming, stem, lap)?)
+    Ok(word_of(alloc, circuit, &naming, stem, lap)?)
 }
 
-/// The verdict on a circuit whose inputs and outputs were matched with the automaton's propositions by name. Fails if
-/// out of memory.
-fn verdict_of(
+/// The word of a circuit whose inputs and outputs were matched with the propositions by name. Fails if out of memory.
+fn word_of(
     alloc: Global,
     circuit: &Circuit,
-    automaton: &Automaton,
     naming: &Naming,
     stem: &[Vec<bool>],
     lap: &[Vec<bool>],
-) -> Result<Verdict, AllocError>
-    requires runs { CanRun circuit.now naming.now stem.now lap.now }
-    requires names { names_of naming.now ≡ automaton.now.names }
-    ensures { IfOk result (λ verdict. (file : FileData) (chain : Chain) → IsBuiltFrom file chain automaton.now →
-        IsVerdictOf file circuit.now (letters_of stem.now) (letters_of lap.now) verdict) }
+) -> Result<TraceWord, AllocError>
+    requires { CanRun circuit.now naming.now stem.now lap.now }
+    ensures { IfOk result (IsWordOf (names_of naming.now) circuit.now (letters_of stem.now) (letters_of lap.now)) }
 {
     let mut run = Run::new(alloc, circuit)?;
     let first = run.first_repetition(alloc, naming, stem, lap)?;
-    let letters = run.letters.as_slice();
     let start = stem.len() + first * lap.len();
-    let (before, behind) = letters.split_at(start);
-    Ok(Verdict {
-        accepted: automaton.accepts(before, behind)?,
-        stem: start,
-        lap: behind.len(),
-    })
+    Ok(TraceWord::new(run.letters, start))
 }
 
 /// Whether each letter has `width` bits.
@@ -167,7 +197,7 @@ fn are_wide(width: usize, letters: &[Vec<bool>]) -> bool
     true
 }
 
-/// A running circuit, and the letters that the automaton has read so far.
+/// A running circuit, and the letters of its steps so far.
 #[derive(Drop)]
 struct Run<'a> {
     simulator: Simulator<'a>,
@@ -250,7 +280,7 @@ fn see(
     Ok(None)
 }
 
-/// Runs a circuit through a word, and appends the corresponding letters of the automaton to `letters`.
+/// Runs a circuit through a word, and appends the letter of each step to `letters`.
 fn read_word(
     naming: &Naming,
     simulator: &mut Simulator,

@@ -5,7 +5,7 @@ ghost use Rattle.ps_circuit.specs.Circuits.{CircuitData, IsCircuit};
 ghost use Rattle.ps_circuit.specs.Values.{HasOneValues};
 ghost use Rattle.ps_hoa.specs.Files.{FileData};
 ghost use Rattle.ps_simulate.specs.LaneRuns.{AreLanesPlain};
-ghost use Rattle.ps_simulate.specs.Lassos.{HasOneVerdict};
+ghost use Rattle.ps_simulate.specs.Lassos.{HasOneVerdict, HasOneWord};
 ghost use Rattle.ps_simulate.specs.Symbols.{HasSymbols};
 ghost use Rattle.ps_simulate.specs.declared.role.Role.{Role};
 
@@ -18,6 +18,16 @@ pub fn circuit_has_one_values()
 /// If a circuit takes letters in 256 lanes at once, each lane behaves like a single run on the letters of that lane.
 pub fn lanes_are_plain_runs()
     ensures { (c : CircuitData) → IsCircuit c → AreLanesPlain c }
+{
+    circuit_has_one_values();
+}
+
+/// A circuit has at most one word on a stem and a lap, if it has the inputs and outputs that its role (controller or
+/// environment) requires.
+pub fn word_is_one()
+    ensures { (role : Role) (names : List (List ℕ)) (controllable : List ℕ) (c : CircuitData)
+        (stem lap : List (List Bool)) → IsCircuit c → HasSymbols role names controllable c →
+        HasOneWord names c stem lap }
 {
     circuit_has_one_values();
 }

@@ -1,5 +1,5 @@
-//! Runs circuits letter by letter, either a single run or 256 runs at once. The crate also parses stimuli, and decides
-//! whether an automaton accepts what a circuit does on a stem and a repeated lap.
+//! Runs circuits letter by letter, either a single run or 256 runs at once. The crate also parses stimuli, gives
+//! the word of a circuit's trace on a stem and a repeated lap, and decides whether an automaton accepts this word.
 //!
 //! | Call | What it gives |
 //! |---|---|
@@ -9,6 +9,7 @@
 //! | `parse_letters(text, width)` | the same for a text without a lap, with all bits in a single list |
 //! | `Places::new(circuit)`, `circuit`, `wire(literal)` | the index of a literal's variable in a table without gaps |
 //! | `output_wires(places)`, `next_wires` | the wires of the outputs and of the latches' next literals |
+//! | `trace_word(circuit, names, controllable, role, stem, lap)` | the `TraceWord` to the first repetition |
 //! | `lasso(circuit, automaton, role, stem, lap)` | the `Verdict` at the first repetition, or a `LassoFault` |
 //! | `input_symbols(circuit)`, `output_symbols` | the optional names of the inputs and of the outputs |
 //! | `proposition_of(names, controllable, wanted, symbol)` | the proposition on that side that a symbol names |
@@ -22,6 +23,7 @@
 //! | `circuit_has_one_values` | values for given inputs and latches exist, and agree at each defined literal |
 //! | `lanes_are_plain_runs` | a lane does the same on its letters as a plain run |
 //! | `symbols_are_decided` | a circuit has the inputs and outputs of a role, or it does not |
+//! | `word_is_one` | a circuit with the symbols of its role has at most one word on a lasso |
 //! | `verdict_is_one` | there is at most one verdict on a circuit with the symbols of its role |
 //! | `stimulus_text_has_one_answer`, `stimulus_text_has_some_answer` | a text has exactly one answer |
 //!
@@ -46,11 +48,14 @@ mod role;
 mod simulator;
 mod stimulus;
 mod symbols;
+mod words;
 
 pub use fault::{StimulusCause, StimulusFault};
 pub use lanes::LaneSimulator;
-pub use lassos::{LassoFault, Verdict, lasso};
-pub use laws::{circuit_has_one_values, lanes_are_plain_runs, symbols_are_decided, verdict_is_one};
+pub use lassos::{LassoFault, Verdict, lasso, trace_word};
+pub use laws::{
+    circuit_has_one_values, lanes_are_plain_runs, symbols_are_decided, verdict_is_one, word_is_one,
+};
 pub use letters::{Letters, parse_letters};
 pub use places::Places;
 pub use plan::{Wire, next_wires, output_wires};
@@ -60,3 +65,4 @@ pub use stimulus::{
     Stimulus, parse_stimulus, stimulus_text_has_one_answer, stimulus_text_has_some_answer,
 };
 pub use symbols::{input_symbols, is_in_list, output_symbols, proposition_of};
+pub use words::TraceWord;

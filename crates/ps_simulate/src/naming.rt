@@ -1,4 +1,4 @@
-//! The inputs and outputs of a circuit, and the propositions of an automaton that have the same names.
+//! The inputs and outputs of a circuit, and the propositions that have the same names.
 
 ghost use Rattle.std.specs.Prelude.{◌≡◌, ◌≢◌, ◌^◌, ◌<◌, ◌≤◌, ◌||◌, ℕ, true, false, None, Some, IfOk, IfSome, IfNone};
 ghost use Rattle.std.specs.Prelude.{length, map, slice_index_or};
@@ -6,13 +6,11 @@ ghost use Rattle.std.specs.Option.{option_copied};
 ghost use Rattle.ps_label.specs.Truth.{is_in};
 ghost use Rattle.ps_hoa.specs.Files.{is_among};
 ghost use Rattle.ps_hoa.specs.Memory.{bytes_of};
-ghost use Rattle.ps_hoa.specs.Sound.{AreNames};
-ghost use Rattle.ps_simulate.specs.Symbols.{AreNamesOnce, HasSymbols};
+ghost use Rattle.ps_simulate.specs.Symbols.{AreDistinct, AreNamesOnce, HasSymbols};
 ghost use Rattle.ps_simulate.specs.Inner.Namings.{ArePlacesIfNamed, ArePut, IsNaming, bit_at_place, names_of};
 
 use crate::role::Role;
 use crate::symbols::{input_symbols, is_in_list, output_symbols, proposition_of};
-use ps_automaton::Automaton;
 use ps_circuit::Circuit;
 use std::alloc::{AllocError, Global};
 
@@ -33,18 +31,19 @@ impl<'a> Naming<'a> {
     pub fn new(
         alloc: Global,
         circuit: &Circuit,
-        automaton: &'a Automaton,
+        names: &'a [Vec<u8>],
+        controllable: &[u32],
         role: Role,
     ) -> Result<Option<Self>, AllocError>
+        requires few { length names.now ≤ 64 }
+        requires distinct { AreDistinct (map bytes_of names.now) }
         ensures some { IfOk result (λ naming. IfSome naming (IsNaming circuit.now)) }
-        ensures names { IfOk result (λ naming. IfSome naming (λ n. names_of n ≡ automaton.now.names)) }
+        ensures names { IfOk result (λ naming. IfSome naming (λ n. names_of n ≡ map bytes_of names.now)) }
         ensures fits { IfOk result (λ naming. IfSome naming (λ _.
-            HasSymbols role automaton.now.names automaton.now.controllable circuit.now)) }
-        ensures none { IfOk result (λ naming. IfNone naming (¬ HasSymbols role automaton.now.names
-            automaton.now.controllable circuit.now)) }
+            HasSymbols role (map bytes_of names.now) controllable.now circuit.now)) }
+        ensures none { IfOk result (λ naming. IfNone naming (¬ HasSymbols role (map bytes_of names.now)
+            controllable.now circuit.now)) }
     {
-        let names = automaton.names();
-        let controllable = automaton.controllable();
         let reads = role.reads_controllable();
         let symbols = input_symbols(alloc, circuit)?;
         let Some(inputs) = places_of(alloc, names, controllable, reads, &symbols)? else {
@@ -89,7 +88,7 @@ fn places_of(
     wanted: bool,
     symbols: &[Option<&[u8]>],
 ) -> Result<Option<Vec<Option<usize>>>, AllocError>
-    requires { AreNames (map bytes_of names.now) }
+    requires { AreDistinct (map bytes_of names.now) }
     ensures { IfOk result (ArePlacesIfNamed (map bytes_of names.now) controllable.now wanted
         (map option_copied symbols.now)) }
 {

@@ -1,6 +1,6 @@
 -- Lemmas about the code that parses a solution: parts of the grammar that follow one another, parts that may be
 -- missing, and the loop over the entries.
-use Rattle.std.proofs.Common.{◌≡◌, ℕ, ◌<◌, true, false, List, length, Option, None, Some, Ok, Err, Result, IsErrAnd}
+use Rattle.std.proofs.Common.{◌≡◌, ℕ, ◌<◌, true, false, List, length, Option, None, Some, Result, IsErrAnd}
 use Rattle.std.proofs.Common.{refl, sym, ap, subst, inl, ◌∙◌, rules}
 use Rattle.ps_text.specs.Answers.{Stream, Found, next_of}
 use Rattle.ps_text.specs.Parts.{one, NoBad, many, mapped}
@@ -27,7 +27,7 @@ use Rattle.ps_solution.specs.Inner.Answered.{ReadsAs}
 use Rattle.ps_solution.proofs.SolutionLaws.{paritysol, line, laws_line, laws_no_line, joint_line, move_of, laws_move}
 use Rattle.ps_solution.proofs.SolutionLaws.{laws_no_move, joint_vertex, joint_winner, joint_choice, laws_entry}
 use Rattle.ps_solution.proofs.SolutionLaws.{joint_entries}
-use Rattle.ps_solution.proofs.SolutionLaws.{joint_value, joint_solution, entry_end, from_choice, from_winner}
+use Rattle.ps_solution.proofs.SolutionLaws.{joint_value, joint_solution, from_winner}
 use Rattle.ps_ids.specs.Ids.{place_of}
 
 -- a function that reports the first error of a part of the grammar meets its contract for this part

@@ -3,4 +3,6 @@ pub mod OneSolutionReading
 pub mod SignAnswers
 pub mod SolutionLaws
 pub mod SomeSolutionReading
+pub mod SpelledEntries
+pub mod StatedEntries
 pub mod WholeSolutions

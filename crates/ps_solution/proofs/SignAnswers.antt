@@ -1,8 +1,7 @@
 -- The parsing functions that read one token give the results that the grammar states for this token.
-use Rattle.std.proofs.Common.{◌≡◌, ◌⊎◌, ℕ, ◌<◌, ◌≤◌, true, false, ltb, List, Option, None, Some, Result, Ok, Err, refl}
+use Rattle.std.proofs.Common.{◌≡◌, ℕ, ◌<◌, ◌≤◌, true, false, ltb, List, Some, Result, Ok, Err, refl}
 use Rattle.std.proofs.Common.{sym}
-use Rattle.std.proofs.Common.{subst, inl, inr, ⊎_elim, ◌∙◌, arith, rules, Bool, ◌&&◌, not}
-use Rattle.std.specs.List.{Contains}
+use Rattle.std.proofs.Common.{subst, inl, inr, ⊎_elim, ◌∙◌, arith}
 use Rattle.std.proofs.lemmas.Bool.{cases_Bool, ltb-true, ltb-false, lt-ltb, le-ltb}
 use Rattle.ps_text.specs.Answers.{Stream, next_of, offset_of}
 use Rattle.ps_text.specs.Parts.{NoBad}

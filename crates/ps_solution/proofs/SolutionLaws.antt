@@ -2,7 +2,7 @@
 -- are composed of them.
 use Rattle.std.proofs.Common.{◌≡◌, ℕ, List, length, Option, None, Some, refl, ap, arith, rules}
 use Rattle.std.specs.Prelude.{codes}
-use Rattle.ps_text.specs.Parts.{Part, one, give, then_by, either, many, mapped, NoBad}
+use Rattle.ps_text.specs.Parts.{one, give, then_by, many, mapped, NoBad}
 use Rattle.ps_text.proofs.Laws.{Laws, Joint, Nothing, Or, Within, Apart, weaker}
 use Rattle.ps_text.proofs.Joined.{joint}
 use Rattle.ps_text.proofs.Simple.{Taken, BadSign, none_is_some, laws_one, laws_give, laws_mapped, laws_then}

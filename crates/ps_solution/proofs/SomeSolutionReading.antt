@@ -1,15 +1,13 @@
 -- Each text of a solution has an answer: a solution, or the first error.
-use Rattle.std.proofs.Common.{◌≡◌, ℕ, ◌<◌, ◌≤◌, ◌⊎◌, inl, inr, zero, suc, ◌+◌, List, length, Option, None, Some, rules}
-use Rattle.std.proofs.Common.{Result, Ok, Err, Bool, true, false, refl, sym, arith}
-use Rattle.std.specs.List.{Contains}
-use Rattle.std.proofs.lemmas.Bool.{cases_Bool}
+use Rattle.std.proofs.Common.{◌≡◌, ℕ, ◌<◌, inl, inr, zero, suc, List, length, None}
+use Rattle.std.proofs.Common.{Result, Ok, Err, true, refl, arith}
 use Rattle.ps_text.specs.Answers.{Stream, Found}
-use Rattle.ps_text.specs.Parts.{Part, PartAnswers, NoBad, one}
+use Rattle.ps_text.specs.Parts.{PartAnswers, NoBad, one}
 use Rattle.ps_text.specs.Outcomes.{HasOutcomes}
 use Rattle.ps_text.proofs.Outcomes.{Judged, good, has_give, has_one, has_mapped, has_then, has_either, has_many}
 use Rattle.ps_text.proofs.Outcomes.{some_answer}
-use Rattle.ps_text.proofs.Decisions.{Decided, decide_not, decide_both, decide_below, decide_in, decide_one, decide_true}
-use Rattle.ps_text.proofs.Decisions.{judge_cause, judge_one, judge_also, judge_none, judge_as}
+use Rattle.ps_text.proofs.Decisions.{Decided, decide_not, decide_below, decide_in, decide_one, decide_true}
+use Rattle.ps_text.proofs.Decisions.{judge_cause, judge_one, judge_also, judge_none}
 use Rattle.ps_ids.specs.Ids.{place_of}
 use Rattle.ps_game.specs.Regions.{has}
 use Rattle.ps_certificate.specs.Faults.{cause_number}

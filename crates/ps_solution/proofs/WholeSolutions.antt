@@ -1,18 +1,17 @@
 -- The result of the function that parses a whole solution is the grammar's answer to this text.
 use Rattle.std.proofs.Common.{rules, ◌≡◌, ℕ, List, length, [], ◌∷◌, Result, Ok, Err, IsErrAnd, refl, sym, ap, subst}
 use Rattle.std.proofs.lemmas.Result.{err_from_is_err_and}
-use Rattle.ps_text.specs.Answers.{Piece, Stream, Found, signs, first_of, next_of, offset_of}
+use Rattle.ps_text.specs.Answers.{Piece, Stream, signs, first_of, next_of, offset_of}
 use Rattle.ps_text.specs.Readers.{Reads, Stops}
 use Rattle.ps_text.specs.Faults.{found_of}
 use Rattle.ps_text.specs.declared.faults.Fault.TheVariants.{Text, OutOfMemory}
 use Rattle.ps_text.proofs.Whole.{answers_ok, answers_fault, answers_trailing}
 use Rattle.ps_certificate.specs.Faults.{CertFault}
-use Rattle.ps_certificate.specs.declared.fault.CertCause.{CertCause}
 use Rattle.ps_certificate.specs.declared.fault.CertCause.TheVariants.{Syntax, OtherGame}
 use Rattle.ps_pgsolver.specs.Lexer.{stream_of}
 use Rattle.ps_pgsolver.specs.Signs.{Sign}
 use Rattle.ps_pgsolver.proofs.GameTokens.{tokens_found}
-use Rattle.ps_solution.specs.Reading.{ReadsSolution, IsSolutionAnswer, refused, incomplete, meaning}
+use Rattle.ps_solution.specs.Reading.{IsSolutionAnswer, refused, incomplete, meaning}
 use Rattle.ps_solution.specs.Solved.{SolvedData, SolutionData, IsFilled, solution_of}
 use Rattle.ps_solution.specs.Texts.{solution_causes, solution}
 use Rattle.ps_solution.specs.Inner.Answered.{TextAnswers, end_answer}

@@ -1,3 +1,4 @@
+pub mod Entries
 pub mod Inner
 pub mod Reading
 pub mod Solved

@@ -6,6 +6,7 @@
 //! |---|---|
 //! | `read(text, game)` | who wins each vertex of a game, and by which moves; or the first `CertFault` in the text |
 //! | `one_answer`, `some_answer` | laws: a text has exactly one answer for a game |
+//! | `solution_has_entries` | a law: an entry states what the solution has for its vertex |
 //!
 //! The crate `ps_referee` judges whether a solution is right. Parsing takes time proportional to the length of the text
 //! and the number of the game's vertices, except that a vertex's id is looked up in a B-tree if it is much greater than
@@ -17,6 +18,6 @@ mod reader;
 mod solution;
 mod solved;
 
-pub use laws::{one_answer, some_answer};
+pub use laws::{one_answer, solution_has_entries, some_answer};
 pub use reader::read;
 pub use solution::Solution;

@@ -26,7 +26,7 @@ use Rattle.ps_synthesis.proofs.Reporting.{IsMade, problem_outcome}
 use Rattle.ps_traces.specs.Answers.{IsWitness}
 
 -- a `Vec` with the given bytes, which stands where the other `Vec` does
-with_bytes : Vec ℕ Global → (text : List ℕ) → length text < 2 ^ 63 → Vec ℕ Global
+unfoldable pub with_bytes : Vec ℕ Global → (text : List ℕ) → length text < 2 ^ 63 → Vec ℕ Global
 with_bytes v text fits = record {
   ptr = v.ptr;
   len = length text;

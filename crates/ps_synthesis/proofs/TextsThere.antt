@@ -18,7 +18,7 @@ pub either : (P : Bool → Type 0) → P false → P true → (compact : Bool) �
 either P plain compact false = plain
 either P plain compact true = compact
 
-greatest_word : (ids : List ℕ) → All IsWord ids → IsWord (greatest ids)
+pub greatest_word : (ids : List ℕ) → All IsWord ids → IsWord (greatest ids)
 greatest_word [] words = omega arith
 greatest_word (id ∷ ids) words = let one = All-head IsWord id ids words in
     let rest = greatest_word ids (All-tail IsWord id ids words) in

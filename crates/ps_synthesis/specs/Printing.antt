@@ -3,13 +3,16 @@
 -- - `PrintsGame text game`: `text` is the text that psyn writes for the game
 -- - `PrintsCertificate compact text game certificate`: `text` is the plain or the compact text of the certificate
 -- - `PrintsCircuit text circuit`: `text` is the text that psyn writes for the circuit
+-- - `HasGameWords game`, `HasCircuitWords circuit`: the numbers in the text of a game, or of the header of a circuit,
+--   fit in 64 bits
 use Rattle.std.specs.Prelude.{◌≡◌, ℕ, ◌≤◌, Bool, List, length, Ok}
+use Rattle.std.specs.List.{All}
 use Rattle.ps_circuit.specs.Circuits.{CircuitData}
 use Rattle.ps_circuit.specs.Texts as circuits
 use Rattle.ps_circuit.specs.Written.{text_of}
 use Rattle.ps_certificate.specs.Certificates.{CertificateData}
 use Rattle.ps_certificate.specs.Texts as certificates
-use Rattle.ps_certificate.specs.Written.{text_in}
+use Rattle.ps_certificate.specs.Written.{IsWord, text_in}
 use Rattle.ps_game.specs.Games.{NamedGameData}
 use Rattle.ps_pgsolver.specs.Reading as games
 use Rattle.ps_pgsolver.specs.Written.{game_text}
@@ -27,3 +30,15 @@ pub record PrintsCertificate (compact : Bool) (text : List ℕ) (game : NamedGam
 pub record PrintsCircuit (text : List ℕ) (circuit : CircuitData) : Type 0 where
   pub written : text ≡ text_of circuit
   pub read_again : circuits.ReadsCircuit text (Ok circuit)
+
+-- each id and each priority of the game fits in 64 bits
+pub record HasGameWords (game : NamedGameData) : Type 0 where
+  pub ids : All IsWord game.ids
+  pub priorities : All (λ vertex. IsWord vertex.priority) game.game
+
+-- the numbers of inputs, latches, outputs and gates fit in 64 bits
+pub record HasCircuitWords (circuit : CircuitData) : Type 0 where
+  pub inputs : IsWord (length circuit.inputs)
+  pub latches : IsWord (length circuit.latches)
+  pub outputs : IsWord (length circuit.outputs)
+  pub gates : IsWord (length circuit.gates)

@@ -4,7 +4,8 @@
 -- - `IsLost May game ids`: the solver reported a cycle of the game's vertices, and these vertices have the given ids
 -- - `IsNotCertified May game`: the solver returned a certificate that does not fit or is not valid
 -- - `IsTooLarge May order file game`: the circuit of a valid certificate's machine needs too many variables
--- - `IsSynthFault May order text fault`: the reason for which synthesis returns this fault
+-- - `IsSynthFault May order text fault`: the reason for which synthesis returns this fault; none is stated for
+--   `OutOfMemory`, which a table, a game or a certificate with about 2^32 entries returns, too
 -- - `IsReportOrFault May order compact text answer`: what synthesis may return for an accepted text if the solver is
 --   sure (all its certificates are valid)
 use Rattle.std.specs.Prelude.{◌≡◌, ◌≢◌, ℕ, ◌<◌, Bool, List, length, map, slice_index, Option, None, Some, Result, Ok}

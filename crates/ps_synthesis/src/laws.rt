@@ -1,16 +1,21 @@
-//! Laws about the circuit that a certificate gives the winner of a game.
+//! Laws about the circuit that a certificate gives the winner of a game, and about the texts that psyn writes.
 
-ghost use Rattle.std.specs.Prelude.{◌≡◌, ◌⊎◌};
+ghost use Rattle.std.specs.Prelude.{◌≡◌, ◌<◌, ◌⊎◌, Bool};
 ghost use Rattle.ps_aiger.specs.Wires.{IsOutOfLiterals};
-ghost use Rattle.ps_certificate.specs.Certificates.{CertificateData};
-ghost use Rattle.ps_circuit.specs.Circuits.{CircuitData};
-ghost use Rattle.ps_game.specs.Games.{NamedGameData};
+ghost use Rattle.ps_certificate.specs.Certificates.{CertificateData, Fits};
+ghost use Rattle.ps_certificate.specs.Written.{HasWords, text_in};
+ghost use Rattle.ps_circuit.specs.Circuits.{CircuitData, IsCircuit};
+ghost use Rattle.ps_circuit.specs.Written.{text_of};
+ghost use Rattle.ps_game.specs.Games.{IsNamedGame, NamedGameData, vertex_count};
 ghost use Rattle.ps_hoa.specs.Files.{FileData};
 ghost use Rattle.ps_hoa.specs.Sound.{IsSoundFile};
 ghost use Rattle.ps_machine.specs.Behaviours.{Behaviour};
 ghost use Rattle.ps_machine.specs.FileGames.{IsGameOfFile};
 ghost use Rattle.ps_machine.specs.Solving.{IsCertified};
 ghost use Rattle.ps_machine.specs.declared.key.Order.{Order};
+ghost use Rattle.ps_pgsolver.specs.Written.{game_text};
+ghost use Rattle.ps_synthesis.specs.Printing.{HasCircuitWords, HasGameWords};
+ghost use Rattle.ps_synthesis.specs.Printing.{PrintsCertificate, PrintsCircuit, PrintsGame};
 ghost use Rattle.ps_synthesis.specs.Reports.{IsWinners, IsWinnersCircuit};
 
 /// A certificate of a file's game determines at most one circuit of the winner, and none if the circuit would need too
@@ -41,3 +46,16 @@ pub fn winners_circuit_is_there()
     ps_machine::machine_is_there();
     ps_aiger::circuit_is_there();
 }
+
+/// The texts that psyn writes for a game, a certificate of the game and a circuit can be parsed again, with the same
+/// values, if the numbers in them fit in 64 bits, as they do in each value of the types `NamedGame`, `Certificate` and
+/// `Circuit`. The text of a game must also not be longer than the parser accepts.
+pub fn written_texts_are_read()
+    ensures game { (game : NamedGameData) → 0 < vertex_count game.game → IsNamedGame game → HasGameWords game →
+        PrintsGame (game_text game) game }
+    ensures certificate { (compact : Bool) (game : NamedGameData) (certificate : CertificateData) → IsNamedGame game →
+        Fits game.game certificate → HasWords game.ids certificate →
+        PrintsCertificate compact (text_in compact game certificate) game certificate }
+    ensures circuit { (circuit : CircuitData) → IsCircuit circuit → HasCircuitWords circuit →
+        PrintsCircuit (text_of circuit) circuit }
+{}

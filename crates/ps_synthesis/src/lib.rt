@@ -37,6 +37,7 @@
 //! | `SynthFault::number`, `name` | the number and name of a fault in psyn's list of faults |
 //! | `winners_circuit_is_one` | a law: a certificate of a game has at most one circuit |
 //! | `winners_circuit_is_there` | a law: a certificate has a circuit, unless it needs too many variables |
+//! | `written_texts_are_read` | a law: the texts of a game, a certificate or a circuit parse as the same value |
 #![tactic(auto)]
 
 mod automata;
@@ -53,7 +54,7 @@ pub use automata::read_automaton;
 pub use certifying::{certified, ids_of, is_certified};
 pub use circuits::circuit_of_certificate;
 pub use fault::SynthFault;
-pub use laws::{winners_circuit_is_one, winners_circuit_is_there};
+pub use laws::{winners_circuit_is_one, winners_circuit_is_there, written_texts_are_read};
 pub use problem::Problem;
 pub use report::{BriefReport, Report, brief_report_of, certificate_text, report_of};
 pub use synthesis::{synthesise_briefly_by, synthesise_by};

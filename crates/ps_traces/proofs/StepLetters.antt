@@ -8,14 +8,14 @@ use Rattle.ps_hoa.specs.Files.{is_among}
 use Rattle.ps_hoa.specs.Sound.{AreNames}
 use Rattle.ps_circuit.specs.Circuits.{CircuitData}
 use Rattle.ps_circuit.specs.Values.{Moment}
-use Rattle.ps_simulate.specs.Symbols.{IsSymbol, AreNamesOnce, HasSymbols, sets_controllable}
+use Rattle.ps_simulate.specs.Symbols.{AreDistinct, IsSymbol, AreNamesOnce, HasSymbols, sets_controllable}
 use Rattle.ps_simulate.specs.Lassos.{IsLetterOf, AreLetters}
 use Rattle.ps_simulate.specs.declared.role.Role.{Role}
 use Rattle.ps_simulate.proofs.NamingLemmas.{names_differ, role_apart, some_same, within}
 use Rattle.ps_simulate.proofs.UniqueVerdicts.OneLetter.{one_letters, side}
 use Rattle.ps_traces.specs.Inputs.{HasLetters}
 
-module _ {role : Role} {names : List (List ℕ)} {controllable : List ℕ} {c : CircuitData} (are_names : AreNames names)
+module _ {role : Role} {names : List (List ℕ)} {controllable : List ℕ} {c : CircuitData} (distinct : AreDistinct names)
     (has : HasSymbols role names controllable c) where
   -- each of the given input or output names is the name of a proposition; if `wanted` is true, all these propositions
   -- are controllable, and otherwise none of them is
@@ -23,7 +23,7 @@ module _ {role : Role} {names : List (List ℕ)} {controllable : List ℕ} {c : 
       AreNamesOnce names controllable wanted symbols → IsSymbol names symbols k p → is_among p controllable ≡ wanted
   of_side wanted symbols k p once s =
       let found = once.some k (within symbols k (get_or names p []) s.is) in
-      grind (arith, some_same, names_differ)
+      grind (arith, some_same, distinct)
 
   -- a bit that is, in the step m, the value of each input and each output with the name of the proposition p
   bit_of : (m : Moment) (p : ℕ) → (bit : Bool) ×
@@ -57,6 +57,10 @@ module _ {role : Role} {names : List (List ℕ)} {controllable : List ℕ} {c : 
   letters (m ∷ ms) = let rest = letters ms in (letter m ∷ rest.0, (letter_of_moment m, rest.1))
 
   -- exactly one list of letters belongs to each list of steps
-  pub has_letters : (moments : List Moment) → HasLetters names c moments
-  has_letters ms = let found = letters ms in
+  pub letters_there : (moments : List Moment) → HasLetters names c moments
+  letters_there ms = let found = letters ms in
       grind (arith, letters, one_letters)
+
+pub has_letters : {role : Role} {names : List (List ℕ)} {controllable : List ℕ} {c : CircuitData} → AreNames names →
+    HasSymbols role names controllable c → (moments : List Moment) → HasLetters names c moments
+has_letters {names} are_names has = letters_there (names_differ names are_names) has

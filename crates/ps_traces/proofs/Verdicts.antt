@@ -1,13 +1,13 @@
--- A stimulus is a lasso of input letters: a stem, and a lap that repeats for ever. There is a verdict on each stimulus:
--- an automaton accepts the circuit's trace on the stimulus, or does not accept it. The circuit has the inputs and
+-- A stimulus is a lasso of input letters: a stem, and a lap that repeats for ever. There is a word of the circuit's trace
+-- on each stimulus, and a verdict: an automaton accepts the word, or does not accept it. The circuit has the inputs and
 -- outputs of its role. The circuit reads the lap again and again, until its latch values recur. When the letters
 -- between two occurrences of the same latch values are repeated, the automaton's states recur.
 use Rattle.std.proofs.Common.{◌≡◌, ◌∙◌, ℕ, zero, suc, ◌+◌, ◌-◌, ◌*◌, ◌^◌, ◌<◌, ◌≤◌, ◌⊎◌, ◌↔◌, inl, inr, Bool, List, []}
-use Rattle.std.proofs.Common.{◌∷◌, ◌++◌, length, get_or, take, drop, IsTrue, Some, refl, sym, ap, arith, length-drop}
+use Rattle.std.proofs.Common.{◌∷◌, ◌++◌, length, get_or, take, drop, IsTrue, Some, refl, sym, ap, arith}
 use Rattle.std.proofs.Common.{rules, ◌≢◌}
 use Rattle.std.specs.List.{All}
 use Rattle.std.proofs.lemmas.List.{length-map}
-use Rattle.std.proofs.lemmas.List.Elements.{All-head, All-tail, All-take, All-drop}
+use Rattle.std.proofs.lemmas.List.Elements.{All-head, All-tail}
 use Rattle.ps_hoa.specs.Files.{FileData}
 use Rattle.ps_hoa.specs.Sound.{AreNames}
 use Rattle.ps_automaton.specs.Acceptance.{IsAccepted}
@@ -18,12 +18,15 @@ use Rattle.ps_circuit.specs.Circuits.{CircuitData}
 use Rattle.ps_circuit.specs.Values.{HasOneValues, resets}
 use Rattle.ps_simulate.specs.LassoFaults.{AreWide}
 use Rattle.ps_simulate.specs.LassoRuns.{HasRead, ReadsWord, RepeatsBy}
-use Rattle.ps_simulate.specs.Lassos.{IsVerdictOf}
-use Rattle.ps_simulate.specs.Symbols.{HasSymbols}
+use Rattle.ps_simulate.specs.Lassos.{IsVerdictOf, IsWordOf}
+use Rattle.ps_simulate.specs.Symbols.{AreDistinct, HasSymbols}
+use Rattle.ps_simulate.specs.Words.{TraceWordData}
 use Rattle.ps_simulate.specs.declared.lassos.Verdict.{Verdict}
 use Rattle.ps_simulate.specs.declared.role.Role.{Role}
-use Rattle.ps_simulate.proofs.LassoLemmas.{HasRead-start, HasRead-lap, few_letters, fewer, lap_within, repeats}
-use Rattle.ps_traces.proofs.StepLetters.{has_letters}
+use Rattle.ps_simulate.proofs.LassoLemmas.{HasRead-start, HasRead-lap, fewer, repeats}
+use Rattle.ps_simulate.proofs.NamingLemmas.{names_differ}
+use Rattle.ps_simulate.proofs.WordLemmas.{few_in_lap, few_in_stem, some_in_lap, word_is}
+use Rattle.ps_traces.proofs.StepLetters.{letters_there}
 use Rattle.ps_traces.proofs.Returns.{comes_again}
 use Rattle.ps_traces.proofs.CircuitRuns.{run}
 use Rattle.std.proofs.lemmas.Bool.{cases_lt}
@@ -77,20 +80,20 @@ seen_or_not : (seen : List (List Bool)) (latches : List Bool) →
 seen_or_not seen latches = some_or_none (IsAt seen latches)
     (λ i. grind (arith, cases_lt i (length seen), bits_or_not (get_or seen i []) latches)) (length seen) (λ i h. h.0)
 
-module _ (role : Role) (file : FileData) (c : CircuitData) (stem lap : List (List Bool))
-    (are_names : AreNames file.names) (has : HasSymbols role file.names file.controllable c) (one : HasOneValues c)
+module _ (role : Role) (names : List (List ℕ)) (controllable : List ℕ) (c : CircuitData) (stem lap : List (List Bool))
+    (distinct : AreDistinct names) (has : HasSymbols role names controllable c) (one : HasOneValues c)
     (wide : AreWide c stem lap) (some : 0 < length lap) where
   record HasWord (from : List Bool) (word : List (List Bool)) (old : List ℕ) : Type 0 where
     new : List ℕ
     last : List Bool
-    reads : ReadsWord file.names c from word old new last
+    reads : ReadsWord names c from word old new last
     held : length last ≡ length c.latches
 
   word_of : (from : List Bool) (word : List (List Bool)) (old : List ℕ) → length from ≡ length c.latches →
       All (λ letter. length letter ≡ length c.inputs) word → HasWord from word old
   word_of from word old held each =
       let r = run c one from word held each in
-      let l = has_letters are_names has r.moments in
+      let l = letters_there distinct has r.moments in
       record {
         new = old ++ l.letters;
         last = r.last;
@@ -101,12 +104,12 @@ module _ (role : Role) (file : FileData) (c : CircuitData) (stem lap : List (Lis
   record HasRepetition : Type 0 where
     i : ℕ
     letters : List ℕ
-    repeats_by : RepeatsBy file.names c stem lap i letters
+    repeats_by : RepeatsBy names c stem lap i letters
 
   -- the search for a repetition ends: `fuel`, which bounds its steps, is greater than the number of possible latch
   -- values that were not yet seen
   search_on : (fuel : ℕ) (seen : List (List Bool)) (letters : List ℕ) (last : List Bool) →
-      HasRead file.names c stem lap seen letters last → length last ≡ length c.latches
+      HasRead names c stem lap seen letters last → length last ≡ length c.latches
       → 2 ^ length c.latches - length seen < fuel → HasRepetition
   search_on zero seen letters last h held le = absurd (omega arith)
   search_on (suc fuel) seen letters last h held le = elim (seen_or_not seen last) [
@@ -124,30 +127,24 @@ module _ (role : Role) (file : FileData) (c : CircuitData) (stem lap : List (Lis
       let w = word_of (resets c) stem [] (length-map c.latches (λ l. l.reset)) wide.stem_is in
       search_on (suc (2 ^ length c.latches)) [] w.new w.last (HasRead-start lap refl refl w.reads) w.held (omega arith)
 
-  -- ## The verdict
-
-  pub verdict_there : (chain : Chain) (a : Auto) → chain_of file.condition ≡ Some chain → IsAutoOf file chain a →
-      (verdict : Verdict) × IsVerdictOf file c stem lap verdict
-  verdict_there chain a is_chain is_auto =
+  pub word_there : (word : TraceWordData) × IsWordOf names c stem lap word
+  word_there =
       let r = repetition in
-      let h = r.repeats_by in
       let n = length stem + r.i * length lap in
-      let each : All (λ letter. letter < 2 ^ length file.names) r.letters =
-      few_letters file.names c h.trace r.letters h.are_letters in
-      let long : 0 < length (drop n r.letters) = omega (arith, length-drop n r.letters, lap_within h, some) in
-      let told = accepted_or_not file chain a is_chain is_auto (take n r.letters) (drop n r.letters) long
-      (All-take (λ letter. letter < 2 ^ length file.names) n r.letters each)
-      (All-drop (λ letter. letter < 2 ^ length file.names) n r.letters each) in (
-        record { accepted = told.0; stem = n; lap = (h.j - r.i) * length lap },
-        record {
-          i = r.i;
-          j = h.j;
-          trace = h.trace;
-          letters = r.letters;
-          repeats = h.repeats;
-          are_letters = h.are_letters;
-          stem_is = refl;
-          lap_is = refl;
-          accepted = told.1;
-        },
-      )
+      let word : TraceWordData = record { stem = take n r.letters; lap = drop n r.letters } in
+      (word, word_is word r.repeats_by refl refl)
+
+-- ## The verdict
+
+pub verdict_there : (role : Role) (file : FileData) (c : CircuitData) (stem lap : List (List Bool)) →
+    AreNames file.names → HasSymbols role file.names file.controllable c → HasOneValues c → AreWide c stem lap →
+    0 < length lap → (chain : Chain) (a : Auto) → chain_of file.condition ≡ Some chain → IsAutoOf file chain a →
+    (verdict : Verdict) × IsVerdictOf file c stem lap verdict
+verdict_there role file c stem lap are_names has one wide some chain a is_chain is_auto =
+    let word = word_there role file.names file.controllable c stem lap (names_differ file.names are_names) has one wide
+    some in
+    let told = accepted_or_not file chain a is_chain is_auto word.0.stem word.0.lap (some_in_lap word.1)
+    (few_in_stem word.1) (few_in_lap word.1) in (
+      record { accepted = told.0; stem = length word.0.stem; lap = length word.0.lap },
+      record { word = word.0; is_word = word.1; stem_is = refl; lap_is = refl; accepted = told.1 },
+    )

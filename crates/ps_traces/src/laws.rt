@@ -21,8 +21,9 @@ ghost use Rattle.ps_machine.specs.Keys.{mover_of};
 ghost use Rattle.ps_machine.specs.declared.key.Key.{Key};
 ghost use Rattle.ps_machine.specs.declared.key.Order.{Order};
 ghost use Rattle.ps_simulate.specs.LassoFaults.{AreWide};
-ghost use Rattle.ps_simulate.specs.Lassos.{IsVerdictOf};
-ghost use Rattle.ps_simulate.specs.Symbols.{HasSymbols};
+ghost use Rattle.ps_simulate.specs.Lassos.{IsVerdictOf, IsWordOf};
+ghost use Rattle.ps_simulate.specs.Symbols.{AreDistinct, HasSymbols};
+ghost use Rattle.ps_simulate.specs.Words.{TraceWordData};
 ghost use Rattle.ps_simulate.specs.declared.lassos.Verdict.{Verdict};
 ghost use Rattle.ps_simulate.specs.declared.role.Role.{Role};
 ghost use Rattle.ps_simulate.specs.declared.role.Role.TheVariants.{Environment};
@@ -51,6 +52,15 @@ pub fn every_trace_has_letters()
     ensures { (role : Role) (file : FileData) (c : CircuitData) (moments : List Moment) → AreNames file.names →
         HasSymbols role file.names file.controllable c → HasLetters file.names c moments }
 {}
+
+/// There is a word of the trace on each stimulus, for a circuit with the inputs and outputs that its role requires.
+pub fn word_is_there()
+    ensures { (role : Role) (names : List (List ℕ)) (controllable : List ℕ) (c : CircuitData)
+        (stem lap : List (List Bool)) → AreDistinct names → IsCircuit c → HasSymbols role names controllable c →
+        AreWide c stem lap → 0 < length lap → (word : TraceWordData) × IsWordOf names c stem lap word }
+{
+    circuit_has_one_values();
+}
 
 /// There is a verdict on each stimulus. A stimulus is a stem, and a non-empty lap that repeats; each letter of both has
 /// one bit for each input. The law is about files that were parsed and that psyn admits, and about circuits with the

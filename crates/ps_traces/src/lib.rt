@@ -9,6 +9,7 @@
 //! | Law | What it says |
 //! |---|---|
 //! | `every_input_goes_on` | each stem and each lap of the circuit's width extend to a lasso trace that reads them |
+//! | `word_is_there` | a circuit of a role has a word on each stem and lap |
 //! | `verdict_is_there` | an admitted file and a circuit of a role have a verdict on each stem and lap |
 //! | `every_trace_has_letters` | each step has exactly one letter, if the symbols are the role's names |
 //! | `in_time_where_reached` | outputs in time at all latches are in time where traces lead, as meetings require |
@@ -29,5 +30,5 @@ pub use laws::{
     certified_circuit_answers, certified_circuit_of_file_answers, circuit_answers,
     circuit_has_machine_words, circuit_has_shape, circuit_is_won, every_input_goes_on,
     every_meeting_goes_on, every_meeting_is_rejected, every_trace_has_letters,
-    in_time_where_reached, meeting_is_one, verdict_is_there,
+    in_time_where_reached, meeting_is_one, verdict_is_there, word_is_there,
 };

@@ -6,10 +6,11 @@
 --   ends
 -- - `apart`: a circuit does not both win and lose
 -- - `wins`: a circuit wins if no stimulus is a counterexample
-use Rattle.std.proofs.Common.{◌≡◌, ℕ, zero, suc, ◌≤◌, Bool, List, [], ◌∷◌, length, take, drop}
+use Rattle.std.proofs.Common.{◌≡◌, ℕ, zero, suc, ◌≤◌, Bool, List, [], ◌∷◌, ◌++◌, length, take, drop}
 use Rattle.std.proofs.Common.{get_or}
 use Rattle.std.proofs.Common.{refl, sym, subst, arith, length-drop}
 use Rattle.std.specs.Prelude.{◌↔◌, IsTrue, true, false, Some}
+use Rattle.std.proofs.Math.Seq.{drop-append_seam, take-append_seam}
 use Rattle.ps_hoa.specs.Files.{FileData}
 use Rattle.ps_hoa.specs.Sound.{AreNames}
 use Rattle.ps_automaton.specs.Acceptance.{IsAccepted}
@@ -18,13 +19,13 @@ use Rattle.ps_automaton.specs.Chains.{Chain, chain_of}
 use Rattle.ps_circuit.specs.Circuits.{CircuitData, IsCircuit}
 use Rattle.ps_circuit.specs.Values.{Moment, GoesOn, HasOneValues, Steps, resets}
 use Rattle.ps_machine.specs.declared.key.Order.{Order}
-use Rattle.ps_simulate.specs.LassoRuns.{RepeatsBy}
 use Rattle.ps_simulate.specs.Lassos.{AreLetters, latches_along}
 use Rattle.ps_simulate.specs.Stimuli.{StimulusData}
 use Rattle.ps_simulate.specs.Symbols.{HasSymbols}
 use Rattle.ps_simulate.specs.declared.role.Role.{Role}
 use Rattle.ps_simulate.specs.declared.role.Role.TheVariants.{Controller, Environment}
 use Rattle.ps_simulate.proofs.LassoLemmas.{few_letters, lap_within, length_letters}
+use Rattle.ps_simulate.proofs.WordLemmas.{repeats_by}
 use Rattle.ps_traces.specs.Shapes.{IsInTimeWhereReached}
 use Rattle.ps_traces.specs.Traces.{AllAccepted, IsLassoWord, NoneAccepted}
 use Rattle.ps_traces.proofs.Verdicts.{accepted_or_not}
@@ -62,42 +63,44 @@ parted names c from (m ∷ ms) last (l ∷ ls) (suc n) (next, at, steps, rest) (
 
 module _ {order : Order} {role : Role} {file : FileData} {c : CircuitData} {s : StimulusData}
     (loses : IsLosing order role file c s) where
-  abbrev n : ℕ
-  n = loses.verdict.stem
+  abbrev before : List ℕ
+  before = loses.is_verdict.word.stem
 
-  word : IsLassoWord file.names c (take n loses.is_verdict.letters) (drop n loses.is_verdict.letters)
+  abbrev behind : List ℕ
+  behind = loses.is_verdict.word.lap
+
+  word : IsLassoWord file.names c before behind
   word =
-      let v = loses.is_verdict in
-      let by : RepeatsBy file.names c s.stem s.lap v.i v.letters =
-      record { j = v.j; trace = v.trace; repeats = v.repeats; are_letters = v.are_letters } in
-      let within = lap_within by in
-      let many = length_letters file.names c v.trace v.letters v.are_letters in
-      let parts = parted file.names c (resets c) v.trace v.repeats.last v.letters n v.repeats.goes_on v.are_letters
-      (omega (arith, within, many, v.stem_is)) in
-      let back : get_or (latches_along v.trace v.repeats.last) n [] ≡ v.repeats.last =
-      rw v.stem_is v.repeats.returns in
+      let w = loses.is_verdict.is_word in
+      let n = length before in
+      let within = lap_within (repeats_by w) in
+      let many = length_letters file.names c w.trace (before ++ behind) w.are_letters in
+      let parts = parted file.names c (resets c) w.trace w.repeats.last (before ++ behind) n w.repeats.goes_on
+      w.are_letters (omega (arith, within, many, w.stem_is)) in
+      let back : get_or (latches_along w.trace w.repeats.last) n [] ≡ w.repeats.last =
+      rw w.stem_is w.repeats.returns in
       record {
-        stem_moments = take n v.trace;
-        lap_moments = drop n v.trace;
+        stem_moments = take n w.trace;
+        lap_moments = drop n w.trace;
         trace = record {
-          some = omega (arith, length-drop n v.trace, within, many, v.stem_is, loses.some);
-          back = v.repeats.last;
+          some = omega (arith, length-drop n w.trace, within, many, w.stem_is, loses.some);
+          back = w.repeats.last;
           goes_there = rw back at parts.there;
           comes_back = rw back at parts.on;
         };
-        stem_letters = parts.before;
-        lap_letters = parts.behind;
+        stem_letters = rw (take-append_seam before behind) at parts.before;
+        lap_letters = rw (drop-append_seam before behind) at parts.behind;
       }
 
   wins_not : (r : Role) → r ≡ role → IsWinning order role file c → ⊥
   wins_not Controller same wins =
       let v = loses.is_verdict in
-      let accepted = wins.accepted (sym same) (take n v.letters) (drop n v.letters) word in
+      let accepted = wins.accepted (sym same) before behind word in
       let wrong : Controller ≡ Environment = rw same (loses.is_wrong.0 (v.accepted.1 accepted)) in
       cc
   wins_not Environment same wins =
       let v = loses.is_verdict in
-      wins.rejected (sym same) (take n v.letters) (drop n v.letters) word
+      wins.rejected (sym same) before behind word
       (v.accepted.0 (loses.is_wrong.1 (sym same)))
 
 pub apart : (order : Order) (role : Role) (file : FileData) (c : CircuitData) (s : StimulusData) →

@@ -5,8 +5,8 @@
 --   wins if none of them is accepted
 use Rattle.std.proofs.Common.{◌≡◌, ℕ, zero, suc, ◌+◌, ◌*◌, ◌<◌, ◌↔◌, Bool, IsTrue, List, [], ◌∷◌, ◌++◌, length}
 use Rattle.std.proofs.Common.{get_or}
-use Rattle.std.proofs.Common.{take_at, refl, sym, ap, subst, ◌∙◌, arith}
-use Rattle.std.proofs.lemmas.List.{drop_at, length-map, map-append}
+use Rattle.std.proofs.Common.{refl, sym, ap, subst, ◌∙◌, arith}
+use Rattle.std.proofs.lemmas.List.{length-map, map-append}
 use Rattle.ps_hoa.specs.Files.{FileData}
 use Rattle.ps_hoa.specs.Sound.{AreNames}
 use Rattle.ps_automaton.specs.Acceptance.{IsAccepted}
@@ -78,19 +78,19 @@ module _ (file : FileData) {c : CircuitData} {stem lap : List ℕ} (word : IsLas
     is_verdict =
         let many = length_letters file.names c before stem word.stem_letters ∙ sym many_before in
         record {
-          i = 0;
-          j = 1;
-          trace = before ++ behind;
-          letters = stem ++ lap;
-          repeats = repeats;
-          are_letters =
-              AreLetters-append file.names c before behind stem lap word.stem_letters word.lap_letters;
-          stem_is = omega arith;
-          lap_is = omega arith;
-          accepted = rw (
-            take_at stem lap (length (inputs_of before)) many,
-            drop_at stem lap (length (inputs_of before)) many,
-          ) told;
+          word = record { stem = stem; lap = lap };
+          is_word = record {
+            i = 0;
+            j = 1;
+            trace = before ++ behind;
+            repeats = repeats;
+            are_letters =
+                AreLetters-append file.names c before behind stem lap word.stem_letters word.lap_letters;
+            stem_is = omega (arith, many);
+          };
+          stem_is = sym many;
+          lap_is = many_behind ∙ sym (length_letters file.names c behind lap word.lap_letters);
+          accepted = told;
         }
 
 pub refuted : (order : Order) (role : Role) {file : FileData} {c : CircuitData} {stem lap : List ℕ} →

@@ -1,5 +1,6 @@
-//! Law: a circuit wins exactly if no stimulus shows that it loses.
+//! Laws: a circuit wins exactly if no stimulus shows that it loses; the circuit of a winner wins.
 
+ghost use Rattle.std.specs.Prelude.{ℕ};
 ghost use Rattle.ps_hoa.specs.Files.{FileData};
 ghost use Rattle.ps_hoa.specs.Sound.{IsSoundFile};
 ghost use Rattle.ps_automaton.specs.Answers.{IsAdmitted};
@@ -8,11 +9,13 @@ ghost use Rattle.ps_machine.specs.declared.key.Order.{Order};
 ghost use Rattle.ps_simulate.specs.Stimuli.{StimulusData};
 ghost use Rattle.ps_simulate.specs.Symbols.{HasSymbols};
 ghost use Rattle.ps_simulate.specs.declared.role.Role.{Role};
+ghost use Rattle.ps_traces.specs.Answers.{IsWitness, role_of};
 ghost use Rattle.ps_traces.specs.Shapes.{IsInTimeWhereReached};
 ghost use Rattle.ps_verify.specs.Judgements.{IsLosing, IsWinning};
 
 use ps_automaton::automaton_is_there;
 use ps_simulate::circuit_has_one_values;
+use ps_traces::in_time_where_reached;
 
 /// A circuit either wins or loses, but not both. If a circuit wins, no stimulus shows that it loses. If no stimulus
 /// shows that a circuit loses, the circuit wins. The law is about a parsed file that has an automaton (`IsAdmitted`),
@@ -28,4 +31,13 @@ pub fn judgement_is_one()
 {
     automaton_is_there();
     circuit_has_one_values();
+}
+
+/// A circuit with the properties of a winner's circuit (`IsWitness`) wins in the role of this player. `IsWitness`
+/// states the properties of each circuit that synthesis returns, so such a circuit loses on no stimulus.
+pub fn witness_wins()
+    ensures { (order : Order) (file : FileData) (player : ℕ) (c : CircuitData) → IsWitness order file player c →
+        IsWinning order (role_of player) file c }
+{
+    in_time_where_reached();
 }

@@ -4,18 +4,17 @@
 //! |---|---|
 //! | `run::run` | reads the whole input, writes the answer to it, and returns the exit status |
 //! | `run::run_by` | as `run`, with solvers that are known at compile time |
-//! | `memory::run_in_memory` | the same program, with its input and output in memory |
 //! | `synthesis::synthesise` | the report on an HOA text, with a solver that is chosen at run time: the whole promise |
 #![tactic(auto)]
 
-ghost use Rattle.std.specs.Prelude.{◌≡◌, false, []};
+ghost use Rattle.std.specs.Prelude.{◌≡◌, ◌+◌, false, []};
 ghost use Rattle.ps_machine.specs.Solving.{own_solver, replay_of};
+ghost use Rattle.ps_program.specs.Input.{ConsumesAtMost, input_limit};
 ghost use Rattle.ps_program.specs.Program.{Replies, Writes};
 ghost use Rattle.ps_program.specs.Replies.{Reply};
 ghost use Rattle.ps_program.specs.Solvers.{solvers_of};
 ghost use Rattle.ps_program.specs.Streams.{sink_state};
 
-pub mod memory;
 pub mod run;
 pub mod synthesis;
 
@@ -39,17 +38,15 @@ fn answered<R: Source, W: Sink>(alloc: Global, reader: &mut R, writer: &mut W) -
     requires reader { R.has_failed reader.old ≡ false }
     requires writer { W.has_failed writer.old ≡ false }
     requires moving { W.has_stalled writer.old ≡ false }
-    ensures { (reply : Reply)
+    ensures consumed { ConsumesAtMost (R.remaining reader.old) (R.remaining reader.new)
+        (input_limit + 1) }
+    ensures answered { (reply : Reply)
         × Replies (solvers_of own_solver (replay_of [])) (R.remaining reader.old) (R.has_failed reader.new) reply
         × Writes (sink_state W.contents W.has_failed W.has_stalled W.is_flushed writer.old)
         (sink_state W.contents W.has_failed W.has_stalled W.is_flushed writer.new)
         reply result }
 {
-    run_by(
-        alloc,
-        reader,
-        writer,
-        &mut BuiltIn::new(alloc),
-        &mut Replay::new(alloc),
-    )
+    let mut built_in = BuiltIn::new(alloc);
+    let mut replay = Replay::new(alloc);
+    run_by(alloc, reader, writer, &mut built_in, &mut replay)
 }

@@ -17,9 +17,8 @@ use std::alloc::Global;
 ///
 /// Reading stops at the first read that fails, or at the first byte past `INPUT_LIMIT`. Nothing is written after a
 /// write or a flush that failed, or after a write that accepted no bytes. If a write or the flush failed, or if a write
-/// accepted no bytes, the exit status is 1. If a write failed or accepted no bytes, the output is a prefix of the
-/// answer; if only the flush failed, the output is the whole answer. The solver `built_in` solves games; the solver
-/// `replay` is used if the input contains a certificate.
+/// accepted no bytes, the exit status is 1, and the output is a prefix of the answer. The solver `built_in` solves
+/// games; the solver `replay` is used if the input contains a certificate.
 pub fn run<R: Source, W: Sink>(
     alloc: Global,
     reader: &mut R,
@@ -60,6 +59,8 @@ pub fn run_by<R: Source, W: Sink, S: Solver, T: Solver>(
         × Writes (sink_state W.contents W.has_failed W.has_stalled W.is_flushed writer.old)
         (sink_state W.contents W.has_failed W.has_stalled W.is_flushed writer.new)
         reply result }
+    ensures built_in_kept { (S.known built_in.new).is_sure ≡ (S.known built_in.old).is_sure }
+    ensures replay_kept { (T.known replay.new).is_sure ≡ (T.known replay.old).is_sure }
 {
     match read_input(alloc, reader) {
         Ok(input) => match answer_to(alloc, input.as_slice(), built_in, replay) {

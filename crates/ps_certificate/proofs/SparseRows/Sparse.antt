@@ -1,8 +1,6 @@
 -- Lemmas about a vertex's counts, of which only the nonzero ones are stored.
 use Rattle.std.proofs.Common.{◌≡◌, ◌≢◌, ℕ, zero, suc, ◌+◌, ◌<◌, ◌≤◌, ◌∙◌, List, [], ◌∷◌, ◌++◌, length, get_or, refl}
-use Rattle.std.proofs.Common.{sym, ap, arith, drop, replicate, cond, inl, inr, ◌-◌, take, rules}
-use Rattle.std.proofs.Math.Seq.{drop-cons}
-use Rattle.std.proofs.lemmas.List.{take-append-drop, drop-drop}
+use Rattle.std.proofs.Common.{sym, ap, arith, replicate, cond, inl, inr, ◌-◌, rules}
 use Rattle.std.proofs.lemmas.Bool.{cases_order, cases_eq, eq-eqb, ne_eqb}
 use Rattle.std.specs.Prelude.{slice_index}
 use Rattle.ps_game.specs.Nonzero.{nonzero_from}
@@ -110,30 +108,6 @@ nonzero_zero k {c} cs h = search (rules, eq-eqb)
 nonzero_other : (k c : ℕ) (cs : List ℕ) → c ≢ 0 →
     nonzero_from k (c ∷ cs) ≡ record { place = k; count = c } ∷ nonzero_from (suc k) cs
 nonzero_other k c cs h = search (rules, ne_eqb)
-
-pub nonzero_zeros : (n k : ℕ) (cs : List ℕ) → nonzero_from k (replicate n 0 ++ cs) ≡ nonzero_from (k + n) cs
-nonzero_zeros zero k cs = let same : k ≡ k + 0 = omega arith in ap (λ j. nonzero_from j cs) same
-nonzero_zeros (suc n) k cs = search (rules, nonzero_zero, replicate, nonzero_zeros n (suc k) cs)
-
--- the rest of a list from index k on is the number at index k, followed by the rest from index k + 1 on
-rest_at : (cs : List ℕ) (k : ℕ) → k < length cs → drop k cs ≡ get_or cs k 0 ∷ drop (k + 1) cs
-rest_at cs k within = search (rules, drop-cons)
-
-pub nonzero_run : (cs : List ℕ) (k n : ℕ) → k < length cs → get_or cs k 0 ≡ 0 →
-    take n (drop (k + 1) cs) ≡ replicate n 0 →
-    nonzero_from k (drop k cs) ≡ nonzero_from (k + n + 1) (drop (k + n + 1) cs)
-nonzero_run cs k n within is_zero run = grind (
-  arith,
-  take-append-drop n (drop (k + 1) cs),
-  drop-drop n (k + 1) cs,
-  rest_at cs k within,
-  nonzero_zero k (drop (k + 1) cs) is_zero,
-  nonzero_zeros n (suc k) (drop (k + n + 1) cs),
-)
-
-pub nonzero_one : (cs : List ℕ) (k : ℕ) → k < length cs → get_or cs k 0 ≢ 0 →
-    nonzero_from k (drop k cs) ≡ record { place = k; count = get_or cs k 0 } ∷ nonzero_from (k + 1) (drop (k + 1) cs)
-nonzero_one cs k within other = search (rules, rest_at, nonzero_other)
 
 nonzero_rises : (k : ℕ) {w : ℕ} (cs : List ℕ) → k + length cs ≤ w → Rises k w (nonzero_from k cs)
 nonzero_rises k [] h = tt

@@ -1,5 +1,6 @@
 -- The slots of a table: where a search for a key looks, and what a slot holds. (For private functions.)
-use Rattle.std.specs.Prelude.{◌≡◌, ◌≢◌, ℕ, ◌+◌, ◌-◌, ◌/◌, ◌%◌, ◌^◌, ◌<◌, List, length, slice_index, bit_and}
+use Rattle.std.specs.Prelude.{◌≡◌, ◌≢◌, ℕ, ◌+◌, ◌-◌, ◌/◌, ◌%◌, ◌^◌, ◌<◌, ◌≤◌, List, length, slice_index, bit_and}
+use Rattle.std.specs.Prelude.{count_by, nat_eq, not}
 
 -- the tag of a hash in a table with so many slots: the upper half of the hash, without the bits of a key's index
 unfoldable pub tag_of : (hash size : ℕ) → ℕ
@@ -32,3 +33,18 @@ pub record Ends (slots : List ℕ) (hash passed slot : ℕ) : Type 0 where
   pub is : slot ≡ nth_slot hash passed (length slots)
   pub empty : nth_entry slots hash passed ≡ 0
   pub passes : Passes slots hash passed
+
+-- a number of slots: a power of two, at most 2 ^ 32
+pub record IsPower (size : ℕ) : Type 0 where
+  pub bits : ℕ
+  pub few : bits ≤ 32
+  pub is : size ≡ 2 ^ bits
+
+-- how many slots are not empty
+abbrev pub used_slots : List ℕ → ℕ
+used_slots slots = count_by (λ entry. not (nat_eq entry 0)) slots
+
+-- a slot is empty, and a search for any hash comes to each slot, since the number of slots is a power of two
+pub record HasEmpty (slots : List ℕ) : Type 0 where
+  pub power : IsPower (length slots)
+  pub fewer : used_slots slots < length slots

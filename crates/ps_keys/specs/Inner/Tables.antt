@@ -4,7 +4,7 @@ use Rattle.ps_keys.specs.declared.table.Free.{Free}
 use Rattle.ps_keys.specs.declared.table.Sought.{Sought}
 use Rattle.ps_keys.specs.declared.table.Sought.TheVariants.{Found, Missing}
 use Rattle.ps_keys.specs.declared.table.Table.{Table}
-use Rattle.ps_keys.specs.Inner.Slots.{Reaches, Ends}
+use Rattle.ps_keys.specs.Inner.Slots.{Reaches, Ends, IsPower, used_slots}
 use Rattle.ps_keys.specs.Keys.{LacksFrom}
 
 -- so many slots are enough for n keys: at most five eighths of the slots are then used
@@ -12,10 +12,12 @@ abbrev pub HasRoom : (n size : ℕ) → Type 0
 HasRoom n size = 8 * n ≤ 5 * size
 
 -- The table has the first n keys of the list: a search for the hash of each of them comes to its entry, and passes
--- fewer slots than the table's reach.
+-- fewer slots than the table's reach. No slot is used for anything else.
 pub record HasKeys {K : Type 0} (hash : ℕ → K → ℕ) (list : List K) (n : ℕ) (t : Table) : Type 0 where
   pub few : length t.slots.items ≤ 2 ^ 32
+  pub power : 0 < length t.slots.items → IsPower (length t.slots.items)
   pub room : HasRoom n (length t.slots.items)
+  pub used : used_slots t.slots.items ≤ n
   pub short : t.reach ≤ length t.slots.items
   pub each : (j : ℕ) (d : K) → j < n →
       (passed : ℕ) × (passed < t.reach) × Reaches t.slots.items (hash t.seed (slice_index_or list j d)) j passed

@@ -1,5 +1,6 @@
 //! The command that prints a certificate of the game of an automaton.
 
+ghost use Rattle.std.specs.Prelude.{◌≡◌};
 ghost use Rattle.ps_program.specs.Games.{AnswersCert};
 ghost use Rattle.ps_program.specs.Outcomes.{Gives};
 ghost use Rattle.ps_program.specs.Replies.{reply_of};
@@ -22,7 +23,8 @@ pub fn cert<S: Solver>(
     solver: &mut S,
     compact: bool,
 ) -> Result<Answer, Refusal>
-    ensures { Gives reply_of (AnswersCert (S.known solver.old) order compact text.now) result }
+    ensures answer { Gives reply_of (AnswersCert (S.known solver.old) order compact text.now) result }
+    ensures kept { (S.known solver.new).is_sure ≡ (S.known solver.old).is_sure }
 {
     let game = read_game_of(alloc, order, text)?;
     certify(alloc, &game, solver, compact)

@@ -1,5 +1,6 @@
 //! The command that solves a game.
 
+ghost use Rattle.std.specs.Prelude.{◌≡◌};
 ghost use Rattle.ps_program.specs.Outcomes.{Gives};
 ghost use Rattle.ps_program.specs.Replies.{reply_of};
 ghost use Rattle.ps_program.specs.Solving.{AnswersGame, AnswersSolve};
@@ -22,7 +23,8 @@ pub fn solve<S: Solver>(
     solver: &mut S,
     compact: bool,
 ) -> Result<Answer, Refusal>
-    ensures { Gives reply_of (AnswersSolve (S.known solver.old) compact text.now) result }
+    ensures answer { Gives reply_of (AnswersSolve (S.known solver.old) compact text.now) result }
+    ensures kept { (S.known solver.new).is_sure ≡ (S.known solver.old).is_sure }
 {
     let game = read_game(alloc, text)?;
     certify(alloc, &game, solver, compact)
@@ -40,7 +42,8 @@ pub fn certify<S: Solver>(
     solver: &mut S,
     compact: bool,
 ) -> Result<Answer, Refusal>
-    ensures { Gives reply_of (AnswersGame (S.known solver.old) compact game.now) result }
+    ensures answer { Gives reply_of (AnswersGame (S.known solver.old) compact game.now) result }
+    ensures kept { (S.known solver.new).is_sure ≡ (S.known solver.old).is_sure }
 {
     let certificate = certified(alloc, game, solver)?;
     Ok(Answer::text(certificate_text(alloc, &certificate, game, compact)?))

@@ -27,8 +27,10 @@ pub fn synth<S: Solver, T: Solver>(
     built_in: &mut S,
     replay: &mut T,
 ) -> Result<Answer, Refusal>
-    ensures { Gives reply_of (AnswersSynth (solvers_of (S.known built_in.old) (T.known replay.old)) asked
+    ensures answer { Gives reply_of (AnswersSynth (solvers_of (S.known built_in.old) (T.known replay.old)) asked
         texts.now) result }
+    ensures built_in_kept { (S.known built_in.new).is_sure ≡ (S.known built_in.old).is_sure }
+    ensures replay_kept { (T.known replay.new).is_sure ≡ (T.known replay.old).is_sure }
 {
     if asked.cert {
         report_by_certificate(alloc, asked, texts, replay)
@@ -45,7 +47,8 @@ fn report_by_certificate<S: Solver>(
     texts: &[u8],
     solver: &mut S,
 ) -> Result<Answer, Refusal>
-    ensures { Gives reply_of (AnswersCertified (S.known solver.old) asked texts.now) result }
+    ensures answer { Gives reply_of (AnswersCertified (S.known solver.old) asked texts.now) result }
+    ensures kept { (S.known solver.new).is_sure ≡ (S.known solver.old).is_sure }
 {
     let (text, certificate) = two_texts(texts)?;
     solver.feed(certificate)?;
@@ -59,7 +62,8 @@ fn report<S: Solver>(
     text: &[u8],
     solver: &mut S,
 ) -> Result<Answer, Refusal>
-    ensures { Gives reply_of (AnswersReport (S.known solver.old) asked text.now) result }
+    ensures answer { Gives reply_of (AnswersReport (S.known solver.old) asked text.now) result }
+    ensures kept { (S.known solver.new).is_sure ≡ (S.known solver.old).is_sure }
 {
     if asked.full {
         full_report(alloc, asked, text, solver)
@@ -75,7 +79,8 @@ fn full_report<S: Solver>(
     text: &[u8],
     solver: &mut S,
 ) -> Result<Answer, Refusal>
-    ensures { Gives reply_of (AnswersReport (S.known solver.old) asked text.now) result }
+    ensures answer { Gives reply_of (AnswersReport (S.known solver.old) asked text.now) result }
+    ensures kept { (S.known solver.new).is_sure ≡ (S.known solver.old).is_sure }
 {
     let report = synthesise_by(alloc, text, asked.order, asked.compact, solver)?;
     Ok(print(alloc, &report, asked.full)?)
@@ -89,7 +94,8 @@ fn brief_report<S: Solver>(
     solver: &mut S,
 ) -> Result<Answer, Refusal>
     requires { asked.full ≡ false }
-    ensures { Gives reply_of (AnswersReport (S.known solver.old) asked text.now) result }
+    ensures answer { Gives reply_of (AnswersReport (S.known solver.old) asked text.now) result }
+    ensures kept { (S.known solver.new).is_sure ≡ (S.known solver.old).is_sure }
 {
     let brief = synthesise_briefly_by(alloc, text, asked.order, solver)?;
     Ok(print_briefly(alloc, &brief)?)

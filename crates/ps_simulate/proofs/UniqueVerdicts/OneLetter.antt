@@ -1,4 +1,4 @@
--- At most one letter of an automaton belongs to a step of a circuit whose inputs and outputs have the names of the
+-- At most one letter belongs to a step of a circuit whose inputs and outputs have the names of the
 -- propositions.
 use Rattle.std.proofs.Common.{◌≡◌, ◌∙◌, ℕ, ◌⊎◌, inl, inr, Bool, List, [], ◌∷◌, length, sym, rules}
 use Rattle.std.specs.Int.{bit_at}

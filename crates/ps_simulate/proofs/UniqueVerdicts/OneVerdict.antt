@@ -1,17 +1,20 @@
--- An automaton gives at most one verdict (`IsVerdictOf`) on a circuit that reads a stem once and then a lap repeatedly.
+-- A circuit that reads a stem once and then a lap repeatedly has at most one word (`IsWordOf`), and an automaton gives at
+-- most one verdict (`IsVerdictOf`) on it.
 use Rattle.std.proofs.Common.{◌≡◌, ◌∙◌, ℕ, zero, suc, ◌<◌, ◌≤◌, inl, inr, Bool, List, [], ◌∷◌, ◌++◌, map, get_or}
-use Rattle.std.proofs.Common.{length, refl, sym, ap, arith, rules, append_assoc}
+use Rattle.std.proofs.Common.{length, take, drop, refl, sym, ap, ap₂, arith, rules, append_assoc, ◌+◌, ◌*◌}
 use Rattle.std.specs.Prelude.{◌↔◌, IsTrue}
 use Rattle.std.proofs.lemmas.Bool.{cases_order, cases_eq}
 use Rattle.std.proofs.lemmas.List.{append-nil}
 use Rattle.std.proofs.Math.Nat.{mul-le-mul_right}
+use Rattle.std.proofs.Math.Seq.{drop-append_seam, take-append_seam}
 use Rattle.ps_hoa.specs.Files.{FileData}
 use Rattle.ps_circuit.specs.Circuits.{CircuitData, IsCircuit}
 use Rattle.ps_circuit.specs.Values.{Moment, GoesOn, HasOneValues}
 use Rattle.ps_simulate.specs.declared.role.Role.{Role}
 use Rattle.ps_simulate.specs.declared.lassos.Verdict.{Verdict}
 use Rattle.ps_simulate.specs.Symbols.{HasSymbols}
-use Rattle.ps_simulate.specs.Lassos.{laps_of, latches_along, RepeatsLatches, IsVerdictOf}
+use Rattle.ps_simulate.specs.Lassos.{laps_of, latches_along, RepeatsLatches, IsVerdictOf, IsWordOf}
+use Rattle.ps_simulate.specs.Words.{TraceWordData}
 use Rattle.ps_simulate.proofs.UniqueVerdicts.OneTrace.{firsts_agree}
 use Rattle.ps_simulate.proofs.UniqueVerdicts.OneLetter.{one_letters}
 use Rattle.ps_simulate.proofs.LassoLemmas.{along_more, at_end, length_trace}
@@ -77,7 +80,25 @@ module _ {c : CircuitData} (is_circuit : IsCircuit c) (one : HasOneValues c) whe
         search (rules, append-nil) in
         grind (arith, goes_behind, no_letters, append-nil, cases_order)
 
--- ---- the verdict
+-- ---- the word and the verdict
+
+-- two lists with equal first parts of one length are equal part by part
+halves : (xs ys us vs : List ℕ) → length xs ≡ length us → xs ++ ys ≡ us ++ vs → (xs ≡ us) × (ys ≡ vs)
+halves xs ys us vs many same = (
+  sym (take-append_seam xs ys) ∙ ap₂ take many same ∙ take-append_seam us vs,
+  sym (drop-append_seam xs ys) ∙ ap₂ drop many same ∙ drop-append_seam us vs,
+)
+
+pub one_word : {role : Role} {names : List (List ℕ)} {controllable : List ℕ} {c : CircuitData}
+    {stem lap : List (List Bool)} {v w : TraceWordData} → IsCircuit c → HasOneValues c →
+    HasSymbols role names controllable c → IsWordOf names c stem lap v → IsWordOf names c stem lap w → v ≡ w
+one_word {c} {stem} {lap} {v} {w} is one has a b =
+    let same = one_repetition is one stem lap a.i a.j b.i b.j a.trace b.trace a.repeats b.repeats in
+    let letters = one_letters has a.trace (v.stem ++ v.lap) (w.stem ++ w.lap) a.are_letters
+    (rw (sym same.2) at b.are_letters) in
+    let many = a.stem_is ∙ ap (λ i. length stem + i * length lap) same.0 ∙ sym b.stem_is in
+    let parts = halves v.stem v.lap w.stem w.lap many letters in
+    grind arith
 
 one_truth : (a b : Bool) (P : Type 0) → (IsTrue a ↔ P) → (IsTrue b ↔ P) → a ≡ b
 one_truth a b P h k = search rules
@@ -85,9 +106,6 @@ one_truth a b P h k = search rules
 pub one_verdict : {role : Role} {file : FileData} {c : CircuitData} {stem lap : List (List Bool)} {v w : Verdict} →
     IsCircuit c → HasOneValues c → HasSymbols role file.names file.controllable c → IsVerdictOf file c stem lap v →
     IsVerdictOf file c stem lap w → v ≡ w
-one_verdict {role} {file} {c} {stem} {lap} {v} {w} is one has a b = grind (
-  arith,
-  one_repetition is one stem lap a.i a.j b.i b.j a.trace b.trace a.repeats b.repeats,
-  one_letters,
-  one_truth,
-)
+one_verdict {file} is one has a b =
+    let same = one_word is one has a.is_word b.is_word in
+    grind (arith, one_truth)

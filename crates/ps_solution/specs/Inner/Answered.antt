@@ -1,7 +1,6 @@
 -- The results of the functions that parse one token of a solution, and what each parsing function establishes about its
 -- part of the grammar.
 use Rattle.std.specs.Prelude.{ℕ, List, Option, None, Some, Result, Ok, Err, nat_lt, if◌then◌else◌, ◌&&◌, not}
-use Rattle.std.specs.List.{list_any}
 use Rattle.ps_text.specs.Answers.{Stream}
 use Rattle.ps_text.specs.Parts.{PartAnswers}
 use Rattle.ps_text.specs.Readers.{Meets}

@@ -15,11 +15,11 @@ empty : (text : List ℕ) → Some text ≡ Some [] → text ≡ []
 unfolding text_of
 empty text same = ap text_of same
 
-pub returns : goal.returns
-returns g c =
+pub returns-clause-answered : goal.returns-clause-answered
+returns-clause-answered g c =
     let state = sink_state g.W.Sink.contents g.W.Sink.has_failed g.W.Sink.has_stalled g.W.Sink.is_flushed in
     subst (λ (text : List ℕ). (reply : Reply)
     × Replies (solvers_of own_solver (replay_of text)) (g.R.Source.remaining c.args.reader.now)
     (g.R.Source.has_failed c.run_by.new.reader) reply
     × Writes (state c.args.writer.now) (state c.run_by.new.writer) reply c.run_by.result)
-    (empty c.new-2.result.text.items c.new-2.ensures) c.run_by.ensures.answered
+    (empty c.new-replay.result.text.items c.new-replay.ensures) c.run_by.ensures.answered

@@ -1,17 +1,18 @@
-use Rattle.ps_program.specs.Solvers.{Solvers, solvers_of}
+use Rattle.ps_program.specs.Solvers.{Solvers}
 use Rattle.ps_program.proofs.AgreeingAnswers.{whole_one}
 use Rattle.ps_program.proofs.OneCertified.{certified_one}
 use Rattle.ps_program.proofs.laws.one_answer.Goals as goal
 
 pub returns : goal.returns
 returns g c =
-    let solvers : Solvers = solvers_of (g.S.Solver.known c.args.built_in.now) (g.T.Solver.known c.args.replay.now) in
+    let solvers : Solvers = g.S.KnownSolvers.solvers in
     record {
       answer = whole_one c.one_answer.ensures c.certificate_text_has_one_answer.ensures c.first_flaw_is_one.ensures
           c.one_answer-2.ensures c.stimulus_text_has_one_answer.ensures c.one_answer-3.ensures
           c.refusal_is_one.ensures.one c.refusal_is_one.ensures.apart c.verdict_is_one.ensures
           c.circuit_has_one_values.ensures c.one_game_of_file.ensures c.winners_are_one.ensures c.one_answer-4.ensures
-          c.one_certificate.ensures c.judgement_is_one.ensures.apart c.one_verdict.ensures.apart c.one_verdict.ensures.no_flaw
+          c.one_certificate.ensures c.judgement_is_one.ensures.apart c.one_verdict.ensures.apart
+          c.one_verdict.ensures.player c.one_verdict.ensures.no_flaw
           c.one_verdict.ensures.no_cycle solvers;
       certified = λ replaying asked cert. certified_one c.one_answer-3.ensures c.refusal_is_one.ensures.one
           c.refusal_is_one.ensures.apart c.one_game_of_file.ensures c.certificate_text_has_one_answer.ensures

@@ -1,4 +1,4 @@
-use Rattle.ps_program.specs.Solvers.{Solvers, solvers_of}
+use Rattle.ps_program.specs.Solvers.{Solvers}
 use Rattle.ps_program.proofs.SomeAnswer.{plain_some, solved_some, synthesis_some}
 use Rattle.ps_program.proofs.SomeLaws.{Below}
 use Rattle.ps_program.proofs.SomeLine.{is_line_some}
@@ -6,7 +6,7 @@ use Rattle.ps_program.proofs.laws.some_answer.Goals as goal
 
 pub returns : goal.returns
 returns g c =
-    let solvers : Solvers = solvers_of (g.S.Solver.known c.args.built_in.now) (g.T.Solver.known c.args.replay.now) in
+    let solvers : Solvers = g.S.KnownSolvers.solvers in
     let below : Below = record {
       some_game = c.some_answer.ensures;
       game_sound = c.read_game_is_game.ensures;

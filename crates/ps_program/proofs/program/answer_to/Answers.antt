@@ -7,13 +7,13 @@ use Rattle.ps_program.specs.declared.answer.Answer.{Answer}
 use Rattle.ps_program.proofs.OutcomeLemmas.{settled}
 use Rattle.ps_program.proofs.program.answer_to.Goals as goal
 
-pub returns : goal.returns
-returns g c =
+pub returns-clause-answer : goal.returns-clause-answer
+returns-clause-answer g c =
     let solvers : Solvers = solvers_of (g.S.Solver.known c.args.built_in.now) (g.T.Solver.known c.args.replay.now) in
     let line = c.in_ok-line.line in
     let input = c.args.input.now in
     settled (AnswersLine solvers line c.first_line.result.1.now) c.answer_line.result c.settle.result
-    (λ (answer : Answer). AnswersInput solvers input (reply_of answer)) c.answer_line.ensures c.settle.ensures
+    (λ (answer : Answer). AnswersInput solvers input (reply_of answer)) c.answer_line.ensures.answer c.settle.ensures
     (λ (answer : Answer) (told : Result Reply (List ℕ)) answers same. (
       line,
       subst (λ (first : List ℕ). IsLine first line) c.first_line.ensures.line c.in_ok-line.ensures,

@@ -1,4 +1,4 @@
-use Rattle.std.proofs.Common.{arith, rules, ap, ◌∙◌}
+use Rattle.std.proofs.Common.{arith, ap, ◌∙◌}
 use Rattle.ps_text.specs.Answers.{Stream}
 use Rattle.ps_text.specs.Readers.{tail}
 use Rattle.ps_pgsolver.specs.Signs.{Sign}

@@ -1,4 +1,4 @@
-use Rattle.std.proofs.Common.{rules, arith, sym, ◌∙◌}
+use Rattle.std.proofs.Common.{arith, sym, ◌∙◌}
 use Rattle.ps_solution.proofs.EntryLoop.{exit, entries_start, start_stops, entries_go, entries_stop, entries_end}
 use Rattle.ps_solution.proofs.EntryLoop.{entry_shrinks}
 use Rattle.ps_solution.proofs.reader.entries.Goals as goal

@@ -1,4 +1,3 @@
-use Rattle.std.proofs.Common.{rules}
 use Rattle.ps_solution.proofs.EntryLoop.{exit, entry_reads, vertex_stops, winner_stops, choice_halts, end_stops}
 use Rattle.ps_solution.proofs.reader.entry.Goals as goal
 

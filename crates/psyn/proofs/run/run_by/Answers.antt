@@ -15,7 +15,7 @@ returns-in-Ok-answer_to-clause-answered g c =
       reply_of answer,
       replies_answer solvers _ _ c.in-Ok.input.items _ read.0 read.1 read.2
           (subst (λ (input : List ℕ). AnswersInput solvers input (reply_of answer)) c.as_slice.ensures.value
-          c.in-Ok-answer_to.ensures),
+          c.in-Ok-answer_to.ensures.answer),
       subst (λ (text : List ℕ). Writes (state c.args.writer.now) (state c.write_reply.new.writer)
           (record { text = text; status = answer.status }) c.write_reply.result)
           c.as_slice-in-Ok-answer_to.ensures.value c.write_reply.ensures,

@@ -2,10 +2,10 @@ use Rattle.std.proofs.Common.{arith, rules, ◌≡◌, ◌∙◌, ◌+◌, ◌<�
 use Rattle.std.proofs.lemmas.Option.{slice_get_within}
 use Rattle.std.specs.List.{list_any}
 use Rattle.ps_circuit.specs.contracts.builder.SidesPartialEq.TheImpl as sides_eq
-use Rattle.ps_circuit.specs.Building.{Drafted, AreSides, IsFull, NeedsGate, variables_of}
+use Rattle.ps_circuit.specs.Building.{Drafted, AreSides, IsFull, variables_of}
 use Rattle.ps_circuit.specs.Gates.{gate_of, has_sides}
 use Rattle.ps_circuit.proofs.GateLemmas.{Placed, gate_is_at, gates_are, placed, placed-bit, placed-held}
-use Rattle.ps_circuit.proofs.GateLemmas.{needs, new-absent, true_is_not_false}
+use Rattle.ps_circuit.proofs.GateLemmas.{true_is_not_false}
 use Rattle.ps_circuit.proofs.MadeLemmas.{made-placed, above-new}
 use Rattle.ps_circuit.proofs.builder.Builder.gate.Goals as goal
 use Rattle.ps_circuit.proofs.builder.Builder.gate.Goals.{In_ok-place}
@@ -29,9 +29,6 @@ returns-then-not-contains c =
       bit = search rules;
       made = search rules;
       too_large = search rules;
-      needed = λ e. subst (λ t. NeedsGate t c.args.sides.first c.args.sides.second) c.self.view_is
-          (needs d (variables_of c.args.self.now + 1) c.args.sides c.self.invariant c.requires
-          (new-absent d c.args.sides none));
       above = λ e. subst (λ t. 2147483647 < variables_of (gate_of t c.args.sides).draft) c.self.view_is
           (above-new d c.args.sides (grind arith) none);
     }
@@ -77,6 +74,5 @@ returns c =
             c.in_ok-place.ensures.0),
       );
       too_large = search rules;
-      needed = search rules;
       above = search rules;
     }

@@ -3,7 +3,7 @@ use Rattle.ps_diagram.specs.Inner.Kept.{result_for}
 use Rattle.ps_diagram.specs.Inner.Rests.{IsCofactor}
 use Rattle.ps_diagram.proofs.Alone.{bit_false}
 use Rattle.ps_diagram.proofs.Cells.{keeps_refl}
-use Rattle.ps_diagram.proofs.KnownLemmas.{keeps_trans, kept, knows_kept, knows_more}
+use Rattle.ps_diagram.proofs.KnownLemmas.{keeps_three, kept, knows_kept, knows_more}
 use Rattle.ps_diagram.proofs.Sides.{sides_of_test}
 use Rattle.ps_diagram.proofs.Spreading.{cofactor_blind, cofactor_sides, unread_cofactor}
 use Rattle.ps_diagram.proofs.MadeDiagrams.{fails, gives}
@@ -20,7 +20,28 @@ pub test-requires-clause-high_later : goal.test-requires-clause-high_later
 test-requires-clause-high_later t c = grind (arith, cofactor_blind, sides_of_test)
 
 pub returns-in_err-put-in-Test-clause-made : goal.returns-in_err-put-in-Test-clause-made
-returns-in_err-put-in-Test-clause-made t c = fails (search (rules, keeps_trans)) (search rules)
+returns-in_err-put-in-Test-clause-made t c = fails
+    (keeps_three c.cofactor-in-Test.ensures.made.keeps c.cofactor-in-Test-2.ensures.made.keeps c.test.ensures.keeps)
+    (search rules)
+
+pub returns-in_err-put-in-Test-clause-known : goal.returns-in_err-put-in-Test-clause-known
+returns-in_err-put-in-Test-clause-known t c =
+    let other = c.args.other.now in
+    rw c.in_err-put-in-Test.ensures.err (knows_kept (IsCofactor c.args.split c.args.letter) other other
+    c.cofactor-in-Test-2.new.self c.test.new.self (result_for nat_eq c.cofactor-in-Test-2.new.known.table)
+    (keeps_refl other) c.test.ensures.keeps c.cofactor-in-Test-2.ensures.known)
+
+pub returns-in_err-made-in-Test-clause-made : goal.returns-in_err-made-in-Test-clause-made
+returns-in_err-made-in-Test-clause-made t c = fails
+    (keeps_three c.cofactor-in-Test.ensures.made.keeps c.cofactor-in-Test-2.ensures.made.keeps c.test.ensures.keeps)
+    (search rules)
+
+pub returns-in_err-made-in-Test-clause-known : goal.returns-in_err-made-in-Test-clause-known
+returns-in_err-made-in-Test-clause-known t c =
+    let other = c.args.other.now in
+    knows_kept (IsCofactor c.args.split c.args.letter) other other c.cofactor-in-Test-2.new.self c.test.new.self
+    (result_for nat_eq c.cofactor-in-Test-2.new.known.table) (keeps_refl other) c.test.ensures.keeps
+    c.cofactor-in-Test-2.ensures.known
 
 pub returns-in_ok-put-in-Test-clause-made : goal.returns-in_ok-put-in-Test-clause-made
 returns-in_ok-put-in-Test-clause-made t c = cofactor_sides c.args.split c.args.letter
@@ -40,6 +61,6 @@ returns-in_ok-put-in-Test-clause-known t c =
 
 pub returns-then-is_shared-clause-made : goal.returns-then-is_shared-clause-made
 returns-then-is_shared-clause-made t c =
-    let keeps = c.requires.kept (c.if-is_shared.ensures.kept refl) in
+    let keeps = c.requires.kept in
     gives (keeps.held _ c.requires.lent.held) (unread_cofactor c.args.split c.args.letter keeps c.requires.lent.held
-    (c.if-is_shared.ensures.unread refl))
+    (c.if-is_shared.ensures refl))

@@ -5,7 +5,7 @@ use Rattle.ps_diagram.specs.Table.{tree_of}
 use Rattle.ps_diagram.specs.Inner.Rests.{IsDivided}
 use Rattle.ps_diagram.proofs.Cells.{keeps_refl}
 use Rattle.ps_diagram.proofs.Sides.{sides_of_test}
-use Rattle.ps_diagram.proofs.KnownLemmas.{keeps_trans, knows_more}
+use Rattle.ps_diagram.proofs.KnownLemmas.{keeps_three, knows_more}
 use Rattle.ps_diagram.proofs.Dividing.{divided_blind, divided_leads, divided_side}
 use Rattle.ps_diagram.proofs.Dividing.{sides_divided, known_divided_kept, tests_kept}
 use Rattle.ps_diagram.proofs.MadeDiagrams.{fails, gives, by-last}
@@ -43,7 +43,14 @@ pub returns-in_err-made-in-Test-clause-known : goal.returns-in_err-made-in-Test-
 returns-in_err-made-in-Test-clause-known t c = search (rules, known_divided_kept)
 
 pub returns-in_err-put-in-Test-clause-made : goal.returns-in_err-put-in-Test-clause-made
-returns-in_err-put-in-Test-clause-made t c = fails (search (rules, keeps_trans)) (search rules)
+returns-in_err-put-in-Test-clause-made t c = fails
+    (keeps_three c.divided.ensures.made.keeps c.divided-in-Test.ensures.made.keeps c.divided_test.ensures.made.keeps)
+    (search rules)
+
+pub returns-in_err-made-in-Test-clause-made : goal.returns-in_err-made-in-Test-clause-made
+returns-in_err-made-in-Test-clause-made t c = fails
+    (keeps_three c.divided.ensures.made.keeps c.divided-in-Test.ensures.made.keeps c.divided_test.ensures.made.keeps)
+    (search rules)
 
 pub returns-in_err-put-in-Test-clause-known : goal.returns-in_err-put-in-Test-clause-known
 returns-in_err-put-in-Test-clause-known t c =
@@ -87,10 +94,9 @@ returns-in_ok-put-in-Test-clause-known t c =
 
 pub returns-then-is_shared-clause-made : goal.returns-then-is_shared-clause-made
 returns-then-is_shared-clause-made t c =
-    let shared = c.if-is_shared.ensures in
     by-last (keeps_refl _)
-    (λ made is. unread_divided c.args.split (c.requires.kept (shared.kept refl)) c.intern.ensures.keeps
-    c.requires.lent.held (shared.unread refl) c.node.view_is is) c.intern.ensures
+    (λ made is. unread_divided c.args.split c.requires.kept c.intern.ensures.keeps
+    c.requires.lent.held (c.if-is_shared.ensures refl) c.node.view_is is) c.intern.ensures
 
 pub returns-then-is_shared-clause-known : goal.returns-then-is_shared-clause-known
 returns-then-is_shared-clause-known t c = search (rules, known_divided_kept)

@@ -1,5 +1,5 @@
 use Rattle.std.proofs.Common.{arith, true, false}
-use Rattle.std.proofs.lemmas.List.Sorted.{IsPermutation-refl, IsPermutation-trans}
+use Rattle.std.proofs.lemmas.List.Sorted.{IsPermutation-refl}
 use Rattle.ps_diagram.proofs.KnownLemmas.{keeps_three}
 use Rattle.ps_diagram.proofs.MadeDiagrams.{if_made}
 use Rattle.ps_diagram.proofs.SplitCases.{moved_front, moved_twice, side_from, sides_made}

@@ -26,6 +26,6 @@ spread-requires-then-split-level-eq1 t c =
       search rules,
       (
         search rules,
-        (λ is. keeps_trans (c.requires.kept is) c.spread.ensures.made.keeps, (search rules, small)),
+        (keeps_trans c.requires.kept c.spread.ensures.made.keeps, (search rules, small)),
       ),
     )

@@ -1,7 +1,7 @@
 use Rattle.std.proofs.Common.{◌≡◌, ◌+◌, arith, length, refl}
 use Rattle.std.proofs.lemmas.List.{length-set}
 use Rattle.ps_keys.specs.Inner.Slots.{Ends, entry_of}
-use Rattle.ps_keys.proofs.TableLemmas.{filled, slot_within}
+use Rattle.ps_keys.proofs.TableLemmas.{filled, one_used, slot_within}
 use Rattle.ps_keys.proofs.table.Table.fill.Goals as goal
 
 pub index_mut-requires : goal.index_mut-requires
@@ -26,7 +26,14 @@ returns-clause-keys g c =
     let same = length-set slots free.slot (entry_of slots (f c.args.key) place) in
     rw entry (record {
       few = rw same h.few;
+      power = rw same h.power;
       room = rw same c.requires.room;
+      used = omega (
+        arith,
+        h.used,
+        one_used slots free.slot (entry_of slots (f c.args.key) place)
+            (slot_within slots (f c.args.key) free.passed free.slot ends),
+      );
       short = rw same (omega (arith, h.short, ends.within));
       each = rw c.max-self.ensures (filled f c.args.list.now c.args.key place free.passed free.slot old.reach slots
           (slot_within slots (f c.args.key) free.passed free.slot ends) ends c.requires.key h.each);

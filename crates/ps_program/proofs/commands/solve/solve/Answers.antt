@@ -5,10 +5,10 @@ use Rattle.ps_program.specs.Texts.{ReadsGameText}
 use Rattle.ps_program.proofs.OutcomeLemmas.{gives_after}
 use Rattle.ps_program.proofs.commands.solve.solve.Goals as goal
 
-pub returns-in_err-game : goal.returns-in_err-game
-returns-in_err-game g c = grind arith
+pub returns-in_err-game-clause-answer : goal.returns-in_err-game-clause-answer
+returns-in_err-game-clause-answer g c = grind arith
 
-pub returns : goal.returns
-returns g c = gives_after (ReadsGameText c.args.text.now) reply_of
+pub returns-clause-answer : goal.returns-clause-answer
+returns-clause-answer g c = gives_after (ReadsGameText c.args.text.now) reply_of
     (AnswersGame (g.S.Solver.known c.args.solver.now) c.args.compact)
-    c.in_ok-game.game c.certify.result c.in_ok-game.ensures c.certify.ensures
+    c.in_ok-game.game c.certify.result c.in_ok-game.ensures c.certify.ensures.answer

@@ -13,8 +13,8 @@ use Rattle.ps_program.proofs.OutcomeLemmas.{gives_failed, gives_handed, gives_pa
 use Rattle.ps_program.proofs.SynthLemmas.{gives_told}
 use Rattle.ps_program.proofs.commands.synth.brief_report.Goals as goal
 
-pub returns-in_err-brief : goal.returns-in_err-brief
-returns-in_err-brief g c =
+pub returns-in_err-brief-clause-answer : goal.returns-in_err-brief-clause-answer
+returns-in_err-brief-clause-answer g c =
     let solver : SolverData = g.S.Solver.known c.args.solver.now in
     let may : MayAnswer = answers_now solver in
     let both : MayAnswer = Answered solver (g.S.Solver.known c.synthesise_briefly_by.new.solver) in
@@ -32,13 +32,13 @@ returns-in_err-brief g c =
     (λ sure file accepted. outcome_more both may (λ game answer h. h.0) asked.order text asked.compact (Err fault)
     (is.surely sure file accepted)) told))
 
-pub returns-in_err-print_briefly : goal.returns-in_err-print_briefly
-returns-in_err-print_briefly g c =
+pub returns-in_err-print_briefly-clause-answer : goal.returns-in_err-print_briefly-clause-answer
+returns-in_err-print_briefly-clause-answer g c =
     gives_passed reply_of (AnswersReport (g.S.Solver.known c.args.solver.now) c.args.asked c.args.text.now)
     c.from_residual-in_err-print_briefly.result refusal.OutOfMemory c.from_residual-in_err-print_briefly.ensures.1 tt
 
-pub returns : goal.returns
-returns g c =
+pub returns-clause-answer : goal.returns-clause-answer
+returns-clause-answer g c =
     let solver : SolverData = g.S.Solver.known c.args.solver.now in
     let both : MayAnswer = Answered solver (g.S.Solver.known c.synthesise_briefly_by.new.solver) in
     let asked = c.args.asked in

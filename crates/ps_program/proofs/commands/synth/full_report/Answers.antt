@@ -11,8 +11,8 @@ use Rattle.ps_program.proofs.OutcomeLemmas.{gives_failed, gives_handed, gives_pa
 use Rattle.ps_program.proofs.SynthLemmas.{gives_told}
 use Rattle.ps_program.proofs.commands.synth.full_report.Goals as goal
 
-pub returns-in_err-report : goal.returns-in_err-report
-returns-in_err-report g c =
+pub returns-in_err-report-clause-answer : goal.returns-in_err-report-clause-answer
+returns-in_err-report-clause-answer g c =
     let solver : SolverData = g.S.Solver.known c.args.solver.now in
     let may : MayAnswer = answers_now solver in
     let both : MayAnswer = Answered solver (g.S.Solver.known c.synthesise_by.new.solver) in
@@ -28,13 +28,13 @@ returns-in_err-report g c =
     (λ sure file accepted. outcome_more both may (λ game answer h. h.0) asked.order text asked.compact (Err fault)
     (c.in_err-report.ensures.sure sure file accepted)) told))
 
-pub returns-in_err-print : goal.returns-in_err-print
-returns-in_err-print g c =
+pub returns-in_err-print-clause-answer : goal.returns-in_err-print-clause-answer
+returns-in_err-print-clause-answer g c =
     gives_passed reply_of (AnswersReport (g.S.Solver.known c.args.solver.now) c.args.asked c.args.text.now)
     c.from_residual-in_err-print.result refusal.OutOfMemory c.from_residual-in_err-print.ensures.1 tt
 
-pub returns : goal.returns
-returns g c =
+pub returns-clause-answer : goal.returns-clause-answer
+returns-clause-answer g c =
     let solver : SolverData = g.S.Solver.known c.args.solver.now in
     let asked = c.args.asked in
     let report = c.in_ok-report.report in

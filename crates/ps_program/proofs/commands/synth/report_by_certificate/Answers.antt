@@ -7,8 +7,8 @@ use Rattle.ps_program.proofs.OutcomeLemmas.{gives_after}
 use Rattle.ps_program.proofs.SynthLemmas.{gives_kept}
 use Rattle.ps_program.proofs.commands.synth.report_by_certificate.Goals as goal
 
-pub returns : goal.returns
-returns g c =
+pub returns-clause-answer : goal.returns-clause-answer
+returns-clause-answer g c =
     let solver = g.S.Solver.known c.args.solver.now in
     let asked = c.args.asked in
     let text = c.in_ok-text.text.now in
@@ -17,4 +17,4 @@ returns g c =
     AnswersReport (once_fed parts.1 solver) asked parts.0) (text, certificate) c.report.result
     c.in_ok-text.ensures
     (gives_kept (once_fed certificate solver) (g.S.Solver.known c.feed.new.self) c.in_ok-feed.ensures.ok asked text
-    c.report.result c.report.ensures)
+    c.report.result c.report.ensures.answer)

@@ -1,4 +1,4 @@
-use Rattle.std.proofs.Common.{◌≡◌, ◌≢◌, ℕ, List, map, length, ap, sym, ◌∙◌, arith}
+use Rattle.std.proofs.Common.{◌≡◌, ◌≢◌, ℕ, List, map, ap, sym, ◌∙◌, arith}
 use Rattle.std.specs.Option.{option_copied}
 use Rattle.std.proofs.lemmas.List.{length-map}
 use Rattle.ps_hoa.specs.Memory.{bytes_of}
@@ -8,8 +8,8 @@ use Rattle.ps_simulate.proofs.naming.Naming.new.Goals as goal
 
 pub returns-clause-some : goal.returns-clause-some
 returns-clause-some c =
-    let names = map bytes_of c.names-names.result.now in
-    let set = c.controllable-controllable.result.now in
+    let names = map bytes_of c.args.names.now in
+    let set = c.args.controllable.now in
     let reads = c.reads_controllable-reads.result in
     let sets = c.sets_controllable-sets.result in
     let at_inputs : map (option_copied {T = List ℕ}) c.deref.result.now ≡ c.args.circuit.now.input_names =
@@ -20,9 +20,9 @@ returns-clause-some c =
     let b : ArePlacesOf names set sets c.args.circuit.now.output_names c.in-Some-2.outputs.items = grind arith in
     let differ : reads ≢ sets = grind arith in
     let back : sets ≢ reads = λ e. differ (sym e) in
-    let size = length-map c.names-names.result.now bytes_of in
+    let size = length-map c.args.names.now bytes_of in
     record {
-      few = omega (arith, size, ap length c.names-names.ensures.names, c.names-names.ensures.few);
+      few = c.requires.few;
       inputs_size = a.size ∙ size;
       outputs_size = b.size ∙ size;
       inputs_within = λ p k e. let h = a.within p k e in omega (arith, h, c.in_ok-symbols.ensures.each);

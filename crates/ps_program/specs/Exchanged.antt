@@ -1,0 +1,48 @@
+-- What one command prints, and another command reads.
+-- - `ReadsLosing`: `lasso` reads what `verify` prints behind `loses` as the stimulus on which the circuit loses
+-- - `ChecksCertificates`: `check` answers `valid`, and nothing else, for each certificate that `solve`, `cert`, `judge`
+--   or `synth --full` prints
+-- - `role_that_wins realizable`: the role of the circuit that `synth` prints
+-- - `VerifiesCircuits solver`: `verify` answers `wins`, and nothing else, for each circuit that `synth` prints
+use Rattle.std.specs.Prelude.{◌≡◌, ◌↔◌, ℕ, Bool, true, List, codes, length, Result, Ok, if◌then◌else◌}
+use Rattle.ps_certificate.specs.Certificates.{CertificateData}
+use Rattle.ps_certificate.specs.Written.{HasWords, text_in}
+use Rattle.ps_circuit.specs.Circuits.{CircuitData}
+use Rattle.ps_game.specs.Games.{IsNamedGame, NamedGameData}
+use Rattle.ps_hoa.specs.Files.{FileData}
+use Rattle.ps_machine.specs.Solvers.{SolverData}
+use Rattle.ps_machine.specs.Solving.{IsCertified}
+use Rattle.ps_machine.specs.declared.key.Order.{Order}
+use Rattle.ps_simulate.specs.Stimuli.{StimulusData}
+use Rattle.ps_simulate.specs.declared.role.Role.{Role}
+use Rattle.ps_simulate.specs.declared.role.Role.TheVariants.{Controller, Environment}
+use Rattle.ps_synthesis.specs.declared.report.Report.{Report}
+use Rattle.ps_verify.specs.Judgements.{IsLosing}
+use Rattle.ps_program.specs.Checks.{AnswersCheck}
+use Rattle.ps_program.specs.Replies.{Reply, line_reply}
+use Rattle.ps_program.specs.Synthesis.{Synthesises}
+use Rattle.ps_program.specs.Texts.{CutsInTwo, ReadsGameText, ReadsStimulusText}
+use Rattle.ps_program.specs.Verifying.{AnswersVerify, stimulus_text, wins_reply}
+
+abbrev pub ReadsLosing : Type 0
+ReadsLosing = (order : Order) (role : Role) (file : FileData) (c : CircuitData) (s : StimulusData) →
+    IsLosing order role file c s → ReadsStimulusText (length c.inputs) true (stimulus_text s) (Ok s)
+
+-- `texts` are the text of a game, and the plain or compact text of a certificate that fits it and is valid; the numbers
+-- of both fit in 64 bits
+abbrev pub ChecksCertificates : Type 0
+ChecksCertificates = (compact : Bool) (named : NamedGameData) (certificate : CertificateData) (text texts : List ℕ)
+    (outcome : Result Reply (List ℕ)) → IsNamedGame named → IsCertified named certificate →
+    HasWords named.ids certificate → ReadsGameText text (Ok named) →
+    CutsInTwo texts (Ok (text, text_in compact named certificate)) →
+    AnswersCheck texts outcome ↔ (outcome ≡ Ok (line_reply (codes "valid")))
+
+abbrev pub role_that_wins : Bool → Role
+role_that_wins realizable = if realizable then Controller else Environment
+
+-- `texts` are the text of an automaton, and the circuit of the report that `synth` prints for this automaton
+abbrev pub VerifiesCircuits : SolverData → Type 0
+VerifiesCircuits solver = (order : Order) (compact : Bool) (text texts : List ℕ) (report : Report)
+    (outcome : Result Reply (List ℕ)) → Synthesises solver order compact text (Ok report) →
+    CutsInTwo texts (Ok (text, report.circuit_text.items)) →
+    AnswersVerify order (role_that_wins report.realizable) texts outcome ↔ (outcome ≡ Ok wins_reply)
