@@ -1,14 +1,12 @@
 """The tool's commands, their flags, and parsed command lines.
 
-Each file in `commands` defines one command, its `COMMAND`. For a command of the program, the program's own table
-(`usages`) states which flags and which texts the command takes. The help, the manual and the completions are made from
-these definitions.
+For a command of the program, the program's own table (`usages`) states which flags and which texts the command takes.
+The help, the manual and the completions are made from the commands in `table`.
 """
-from collections.abc import Callable
+import importlib
 from dataclasses import dataclass, field
 
 from psyntool.ends import Refused
-from psyntool.files import Reader
 from psyntool.kinds import Kind
 from psyntool.usages import USAGES
 
@@ -40,6 +38,8 @@ TO_FILES = Flag(
     "parts to PREFIX.hoa",
     "PREFIX",
 )
+TO_FILE = Flag("-o", "the automaton of the parts that are listed goes to PREFIX.hoa", "PREFIX")
+FORCE = Flag("--force", "-o and play write over files that psyn has not written, too")
 # Flags for games that another solver solves.
 BY = Flag(
     "--by",
@@ -47,46 +47,74 @@ BY = Flag(
     "{solution} the file that it writes (else its standard output)",
     "COMMAND",
 )
+KEEP = Flag("--keep", "a solution of --by that is wrong goes to FILE", "FILE")
 PICTURE = Flag("--picture", "where a player loses a cycle: the game, the solution and that cycle as Graphviz DOT", "FILE")
 # Flags for specifications in parts.
 ASSUME = Flag("--assume", "parts that are assumed", "PART..", many=True)
 GUARANTEE = Flag("--guarantee", "parts that are guaranteed", "PART..", many=True)
-AS = Flag("--as", "the part before it has other names for its propositions", "OLD=NEW..", many=True)
+AS = Flag("--as", "the part before it has other names for its propositions; OLD=!NEW negates one", "OLD=NEW..", many=True)
 OUTS = Flag("--outs", "the controller's propositions, where the parts do not say whose theirs are", "NAME..", many=True)
 STRICT = Flag("--strict", "a guarantee that breaks while no assumption has broken loses at once")
 PARTS = Flag("--parts", "a list of parts in the place of the automaton")
 OF_PARTS = (ASSUME, GUARANTEE, AS, OUTS, STRICT)
+# Flags of one command each.
+STIMULUS = Flag("--stimulus", "where the circuit loses: the stimulus goes to FILE", "FILE")
+WAVE = Flag("--wave", "where the circuit loses: what it does on the stimulus goes to FILE, as a VCD file", "FILE")
+TRACE = Flag("--trace", "the run below: of each step the state, the letter by names, and the sets")
+NAMES = Flag("--names", "a line above: the names of the latches, inputs and outputs")
+CIRCUIT = Flag("--circuit", "in the place of PREFIX any circuit that verify passes", "FILE")
+AUTO = Flag("--auto", "plays for me, what holds out longest, and prints the steps")
+REACH = Flag("--reach", "only what so many steps from the start reach (of a circuit: from the outputs back)", "N")
+DROP = Flag("--drop", "leave out the input of that name, which nothing may read (as the clock that yosys adds)", "NAME")
+CHECK = Flag("--check", "exit status 3 where the answer is loses, rejected, or that the solution is wrong")
+SEED = Flag("--seed", "another random game for the same number", "N")
+EDGES = Flag("--edges", "so many different edges for each vertex of a random game", "N")
+PRIORITIES = Flag("--priorities", "so many priorities in a random game, from 0 on", "N")
 # Flags that every command takes.
+JSON = Flag("--json", "one line of JSON in place of the answer, with the fields that the manual lists")
+TIME = Flag("--time", "end a program, or a solver of --by, that is at work after so many seconds", "SECONDS")
+MEMORY = Flag("--memory", "so many MiB at most for the program, and for the solver of --by", "MIB")
 QUIET = Flag("--quiet", "explain nothing")
 KEEP_RETURNS = Flag("--keep-returns", "leave carriage returns where they are")
 ZERO_RESETS = Flag("--zero-resets", "unset latches of a circuit (their own literal as reset) begin with 0")
 HELP = Flag("--help", "how the command is used")
 VERSION = Flag("--version", "which psyn this is")
-EVERYWHERE = (KEEP_RETURNS, ZERO_RESETS, QUIET, HELP, VERSION)
+EVERYWHERE = (KEEP_RETURNS, ZERO_RESETS, JSON, TIME, MEMORY, QUIET, HELP, VERSION)
 SHORT = {"-h": "--help", "-V": "--version"}
 
 
 @dataclass(frozen=True)
 class Command:
-    """A command: its name, its description, what it reads in order (the kind of each file, and a name for each other
-    word), and the function that runs it.
+    """A command: its name, its description, and what it reads in order (the kind of each file, and a name for each
+    other word).
 
     The flags in `flags` are passed to the program; the flags in `own` are handled by the tool. `behind` maps a flag to
     the kind of one more file that the command reads if the flag is given. `instead` maps a flag to optional files that
     the command then reads in place of all others. `least` is the number of words that must be given, if the last words
-    may be left out.
+    may be left out. The function `run` of the module `place` runs the command.
     """
 
     name: str
     says: str
     reads: tuple
-    run: Callable[["Request"], int]
     flags: tuple = ()
     own: tuple = ()
     behind: dict = field(default_factory=dict)
     instead: dict = field(default_factory=dict)
     least: int | None = None
     is_of_the_program: bool = False
+    module: str = ""
+    # whether its first word is another command, which it runs with all its flags
+    runs_another: bool = False
+
+    @property
+    def place(self):
+        return self.module or f"psyntool.commands.{self.name}"
+
+    def run(self, request):
+        """Runs the command, and returns the exit status. Its module is imported only now, so that the tool starts
+        quickly."""
+        return importlib.import_module(self.place).run(request)
 
     @property
     def all_flags(self):
@@ -109,11 +137,11 @@ class Command:
         return " ".join([self.name, *(f"[{flag.shown}]" for flag in self.all_flags), *self.wanted(), *optional])
 
 
-def of_the_program(name, says, run, own=(), instead=None):
+def of_the_program(name, says, **more):
     """A command of the program, with the flags and the texts that the program's own table states."""
     usage = USAGES[name]
     flags = tuple(OF_THE_PROGRAM[flag] for flag in usage.flags)
-    return Command(name, says, usage.texts, run, flags, own, usage.added, instead or {}, is_of_the_program=True)
+    return Command(name, says, usage.texts, flags, behind=usage.added, is_of_the_program=True, **more)
 
 
 def flags_told(commands):
@@ -137,6 +165,8 @@ class Request:
     words: list
     # all commands, by name
     table: dict
+    # the paths of the files that were read
+    read: list = field(default_factory=list)
 
     @property
     def quiet(self):
@@ -161,6 +191,11 @@ class Request:
     def value(self, flag):
         return self.given.get(flag.name)
 
+    def refuse_without(self, flag, other):
+        """Refuses a flag that is given without the other flag, which it needs."""
+        if self.has(flag) and not self.has(other):
+            raise Refused(f"{self.command.name} {flag.name} wants {other.shown}")
+
     def number(self, flag):
         """A flag's value as a number, or None if the flag is not given."""
         said = self.given.get(flag.name)
@@ -171,7 +206,13 @@ class Request:
     def texts(self):
         """The files that the command reads. For a command that is not one of the program, a file of a wrong kind is
         refused here."""
+        from psyntool.files import Reader
+
         texts = Reader(self).texts(self.command.kinds(self.given), self.words)
+        if Kind.STIMULUS in [text.kind for text in texts]:
+            from psyntool import letters
+
+            letters.by_digits(texts)
         wrong = wrong_kinds(self.command, texts)
         if wrong and not self.command.is_of_the_program:
             raise Refused(wrong)
@@ -181,4 +222,8 @@ class Request:
 def wrong_kinds(command, texts):
     """A message that names the files of another kind than the command expects, or an empty string if there are none."""
     said = ", ".join(f"{text.name} is {text.looks_like.with_article}" for text in texts if text.looks_like not in (None, text.kind))
-    return f"{said}; {command.name} wants {' '.join(text.kind.word for text in texts)}" if said else ""
+    if not said:
+        return ""
+    has_list, takes_list = any(text.looks_like is Kind.LIST for text in texts), PARTS in command.own
+    hint = f", or {PARTS.name} before a list" if takes_list else "; `compose` makes an automaton of a list"
+    return f"{said}; {command.name} wants {' '.join(text.kind.word for text in texts)}{hint * has_list}"

@@ -2,11 +2,14 @@
 ends."""
 import errno
 import os
+import time
 
 from psyntool.ends import Refused, Unwritten
 
 INPUT, OUTPUT, ERROR = 0, 1, 2
 STEP = 1 << 20
+# A list that keeps what would go to standard output, or None.
+kept = None
 
 
 def fill_closed():
@@ -37,8 +40,25 @@ def put(text):
         pass
 
 
+def counted(what, things):
+    """The things one after another; on a terminal, a line says after each second how many are done."""
+    if not is_terminal():
+        yield from things
+        return
+    shown = began = time.monotonic()
+    for done, one in enumerate(things):
+        if time.monotonic() - shown > 1:
+            shown = time.monotonic()
+            put(f"\r{what}: {done:,} of {len(things):,}")
+        yield one
+    put("\r" + " " * (len(what) + 24) + "\r" if shown > began else "")
+
+
 def write(answer):
-    """Writes all given bytes to standard output."""
+    """Writes all given bytes to standard output, or keeps them."""
+    if kept is not None:
+        kept.append(bytes(answer))
+        return
     rest = memoryview(answer)
     while rest:
         try:

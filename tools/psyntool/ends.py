@@ -5,6 +5,10 @@ A run may also end with `Unreadable` or an `OSError`; any other exception is a b
 
 FAULT = 1
 REFUSED = 2
+# With --check: the verdict is the other one.
+OTHER = 3
+# The numbers of the faults by which `judge` says that a solution of the game is wrong.
+WRONG_SOLUTIONS = ("40", "50", "51")
 # For a process that a signal killed, a shell reports the exit status 128 plus the signal's number.
 BY_SIGNAL = 128
 

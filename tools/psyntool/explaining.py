@@ -11,40 +11,34 @@ from psyntool.texts import Unreadable, automaton, circuit, labels
 
 # The numbers of three faults that the functions below treat as special cases. Fault 25 (the input could not be read)
 # means here that the input is too long, because the tool itself passes the input to the program.
-READ_FAULT, OTHER_GAME, SYMBOLS = 25, 54, 72
+READ_FAULT, SYNTAX, OTHER_GAME, SYMBOLS = 25, 53, 54, 72
 # A text of more bytes than this is not parsed to explain a fault, because parsing it in Python would take longer than
 # the program's own run.
 LONGEST = 1 << 21
 # Some faults of certificates are also reported for solutions; their place is then in the solution.
 SPEAKS_TOO = {Kind.CERTIFICATE: Kind.SOLUTION}
-PLAYERS_OF_A_GAME = b"spot-state-player:"
 
 
 def lines(request, texts, answer):
-    """A few lines that explain an answer; often none if the answer is not a fault."""
+    """A few lines that explain a fault."""
     found = re.fullmatch(r"fault (usage|(\d+) (\w+)(?: at (\d+))?(.*))\n", answer.text)
     if not found:
-        return games_of_spot(texts)
+        return []
     number = int(found[2]) if found[2] else None
     fault = next((it for it in faults.read_document() if it.number == number and (number or it.name == found[1])), None)
-    told = [*filter(None, [wrong_kinds(request.command, texts)]), *games_of_spot(texts)]
+    told = [*filter(None, [wrong_kinds(request.command, texts)])]
     if number == READ_FAULT:
         return [*told, f"cause: the files have more than {MOST_BYTES:,} bytes together, the most that psyn reads"]
     if fault and fault.kind and found[4]:
         told += place_of(fault, next((it for it in texts if it.kind in (fault.kind, SPEAKS_TOO.get(fault.kind))), None), int(found[4]))
     told += seen_in_texts(number, found[5] or "", request, texts)
     told += seen_in_solution(number, found[4], found[5] or "", texts)
+    entries = fault.entries if fault else {}
+    if texts[-1].kind is Kind.SOLUTION:
+        entries = judging.ENTRIES.get(number, entries)
     if number is None:
         return [*told, "cause: this program knows no such command line: it is not of the same version as this tool"]
-    return told + [f"{word.lower()}: {fault.entries[word]}" for word in ("Cause", "Place", "Mend") if fault and word in fault.entries]
-
-
-def games_of_spot(texts):
-    return [
-        f"{text.name}: `spot-state-player:` says that this is a game with players; psyn reads over it, and reads an automaton"
-        for text in texts
-        if text.kind is Kind.AUTOMATON and PLAYERS_OF_A_GAME in text.bytes
-    ]
+    return told + [f"{word.lower()}: {entries[word]}" for word in ("Cause", "Place", "Mend") if word in entries]
 
 
 def place_of(fault, text, offset):
@@ -70,6 +64,8 @@ def seen_in_solution(number, offset, behind, texts):
     if texts[-1].kind is not Kind.SOLUTION or any(len(text.bytes) > LONGEST for text in texts):
         return []
     try:
+        if number == SYNTAX:
+            return judging.wrong_form(int(offset), texts)
         if number == OTHER_GAME:
             return judging.other_game(int(offset), texts)
         seen = {40: judging.lost_cycle, 50: judging.wrong_move, 51: judging.escape}.get(number)
@@ -111,10 +107,10 @@ def wrong_symbols(_behind, request, texts):
     inputs, outputs = reversed(names) if request.has(ENV) else names
     if not [*differing("inputs", "i", outputs, judged), *differing("outputs", "o", inputs, judged)]:
         return [f"the symbols are those of {'a controller: ask without' if request.has(ENV) else 'an environment: ask with'} {ENV.name}"]
-    named, read_here = [(judged.symbols.get(("i", number)), literal) for number, literal in enumerate(judged.inputs)], judged.read_variables
-    unread = [name for name, literal in named if name and name not in inputs and literal // 2 not in read_here]
-    to_drop = [f"nothing reads {', '.join(unread)}: `convert --drop NAME` leaves out such an input"] if unread else []
-    return [*differing("inputs", "i", inputs, judged), *differing("outputs", "o", outputs, judged), *to_drop]
+    others = [name for name in judged.names("i") if name not in read.names]
+    is_more = others and set(inputs) <= set(judged.names("i"))
+    are_read = [f"the circuit reads {', '.join(others)}, which the automaton does not mention"] if is_more else []
+    return [*differing("inputs", "i", inputs, judged), *differing("outputs", "o", outputs, judged), *are_read]
 
 
 def differing(title, kind, wanted, judged):

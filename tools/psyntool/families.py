@@ -1,8 +1,12 @@
 """Named families of parity games. A rule makes each game from a number, so a name and a number give the same game on
-every machine."""
+every machine; for a random game, further numbers may be given."""
+from collections.abc import Callable
+from dataclasses import dataclass
+
 from psyntool.texts.game import Game, Vertex
 
-MOST_VERTICES = 1_000_000
+# The longest game text that psyn reads.
+MOST_BYTES = 16_777_216
 # Constants of the random number generator of the family `random`: those of Knuth's MMIX.
 FACTOR, SUMMAND, WORD = 6364136223846793005, 1442695040888963407, 2**64
 
@@ -14,14 +18,22 @@ def game_of(rows):
 
 
 class Draw:
-    """A pseudorandom number generator, which gives the same numbers for the same seed."""
+    """A pseudorandom number generator, which gives the same numbers for the same number and the same seed."""
 
-    def __init__(self, seed):
-        self.state = seed
+    def __init__(self, number, seed):
+        self.state = (number + (seed << 32)) % WORD
 
     def below(self, limit):
         self.state = (self.state * FACTOR + SUMMAND) % WORD
         return (self.state >> 33) % limit
+
+    def distinct(self, count, limit):
+        """So many different numbers below the limit."""
+        found = {}
+        for last in range(limit - count, limit):
+            one = self.below(last + 1)
+            found[last if one in found else one] = True
+        return list(found)
 
 
 def path(n):
@@ -45,18 +57,22 @@ def clique(n):
     return [(v, v % 2, [w for w in range(n) if w != v] or [v]) for v in range(n)]
 
 
-def buchi(n):
-    """A random Büchi game of n vertices with two edges each: every tenth vertex has priority 2, the others have
-    priority 1."""
-    draw = Draw(n)
-    return [(2 if v % 10 == 0 else 1, draw.below(2), [draw.below(n), draw.below(n)]) for v in range(n)]
+def buchi(n, seed=0, edges=None):
+    """A random Büchi game of n vertices: every tenth vertex has priority 2, the others have priority 1. Two edges are
+    drawn for each vertex, or so many different ones as `edges` says."""
+    draw = Draw(n, seed)
+    return [(2 if v % 10 == 0 else 1, draw.below(2), draw.distinct(edges, n) if edges else [draw.below(n), draw.below(n)]) for v in range(n)]
 
 
-def random(n):
-    """A random game of n vertices, with priorities less than n, random owners, and two or three edges for each
-    vertex."""
-    draw = Draw(n)
-    return [(draw.below(n), draw.below(2), [draw.below(n) for _ in range(2 + draw.below(2))]) for _ in range(n)]
+def random(n, seed=0, edges=None, priorities=None):
+    """A random game of n vertices, with priorities less than n or than `priorities`, and random owners. Two or three
+    edges are drawn for each vertex, or so many different ones as `edges` says."""
+    draw = Draw(n, seed)
+
+    def targets():
+        return draw.distinct(edges, n) if edges else [draw.below(n) for _ in range(2 + draw.below(2))]
+
+    return [(draw.below(priorities or n), draw.below(2), targets()) for _ in range(n)]
 
 
 def jurdzinski(n):
@@ -100,15 +116,39 @@ def rungs(n, owners, priorities):
     return rows
 
 
-# For each family, its generator and the number of vertices of the game for n.
+@dataclass(frozen=True)
+class Family:
+    """A family: its generator, the number of vertices of the game for n, the most edges of a vertex, and which further
+    numbers the generator takes."""
+
+    make: Callable
+    vertices: Callable
+    edges: Callable
+    takes: tuple = ()
+
+    def most_bytes(self, n, numbers):
+        """A length that the text of the game for n does not exceed."""
+        count = self.vertices(n)
+        width = len(str(max(count, numbers.get("priorities", 0))))
+        return count * (2 * width + 5 + numbers.get("edges", self.edges(n)) * (width + 1)) + 20
+
+    def greatest(self, numbers):
+        """The greatest n whose game has a text that psyn surely reads; 0 if there is none."""
+        low, high = 0, MOST_BYTES
+        while low < high:
+            middle = (low + high + 1) // 2
+            low, high = (middle, high) if self.most_bytes(middle, numbers) <= MOST_BYTES else (low, middle - 1)
+        return low
+
+
 FAMILIES = {
-    "buchi": (buchi, lambda n: n),
-    "clique": (clique, lambda n: n * n),
-    "jurdzinski": (jurdzinski, lambda n: n * (2 * n + 1)),
-    "ladder": (ladder, lambda n: 5 * n),
-    "ladder2": (ladder2, lambda n: 5 * n),
-    "loops": (loops, lambda n: n),
-    "path": (path, lambda n: n),
-    "random": (random, lambda n: n),
-    "ring": (ring, lambda n: n),
+    "buchi": Family(buchi, lambda n: n, lambda n: 2, ("seed", "edges")),
+    "clique": Family(clique, lambda n: n, lambda n: n),
+    "jurdzinski": Family(jurdzinski, lambda n: n * (2 * n + 1), lambda n: 2),
+    "ladder": Family(ladder, lambda n: 5 * n, lambda n: 2),
+    "ladder2": Family(ladder2, lambda n: 5 * n, lambda n: 2),
+    "loops": Family(loops, lambda n: n, lambda n: 1),
+    "path": Family(path, lambda n: n, lambda n: 1),
+    "random": Family(random, lambda n: n, lambda n: 3, ("seed", "edges", "priorities")),
+    "ring": Family(ring, lambda n: n, lambda n: 2),
 }

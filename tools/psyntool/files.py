@@ -2,13 +2,18 @@
 import bisect
 import re
 
-from psyntool import console, program
+from psyntool import console, program, unmentioned
 from psyntool.ends import Refused
 from psyntool.kinds import Kind, kind_of
 from psyntool.texts import binary, is_number
 
 BYTE_ORDER_MARK = b"\xef\xbb\xbf"
 OTHER_MARKS = (b"\xff\xfe", b"\xfe\xff")
+# The first line of an answer about realizability, as psyn and other tools print it above a circuit; and the line of
+# psyn that ends the circuit, if more follows.
+VERDICT = re.compile(rb"((?:UN)?REALIZABLE)[ \t]*(\r?\n\s*|\Z)")
+END_OF_CIRCUIT = re.compile(rb"(?m)^%%\r?$")
+PLAYERS_OF_A_GAME = "spot-state-player:"
 
 
 class Text:
@@ -20,8 +25,8 @@ class Text:
         self.told = []
         # whether the file was in binary AIGER, so that the text is its ASCII form
         self.was_binary = False
-        # pairs of an offset in the text and the distance by which the text is shifted in the file from there on
-        self.shifts = [(0, 0)]
+        # for each change of the text, pairs of an offset after it and the distance to the offset before it from there on
+        self.changes = []
 
     @property
     def string(self):
@@ -34,8 +39,21 @@ class Text:
 
     def place_in_file(self, offset):
         """The offset that a byte has in the file, given its offset in the text."""
-        at = bisect.bisect_right([start for start, _ in self.shifts], offset) - 1
-        return min(offset + self.shifts[at][1], len(self.original))
+        for shifts in reversed(self.changes):
+            offset += shifts[bisect.bisect_right(shifts, offset, key=lambda shift: shift[0]) - 1][1]
+        return min(offset, len(self.original))
+
+    def replace(self, spans):
+        """Replaces spans of the text: for each, in order, the offsets of its begin and its end, and the new bytes."""
+        kept, shifts, start, length, shift = [], [(0, 0)], 0, 0, 0
+        for begin, end, new in spans:
+            kept += [self.bytes[start:begin], new]
+            length += begin - start + len(new)
+            shift += end - begin - len(new)
+            shifts.append((length, shift))
+            start = end
+        self.bytes = b"".join([*kept, self.bytes[start:]])
+        self.changes.append(shifts)
 
     def drop_mark(self):
         """Drops a byte order mark, which no format allows; editors do not count it as a column."""
@@ -48,13 +66,54 @@ class Text:
         drop = returns_at_line_ends(self.kind, self.bytes)
         if not drop:
             return
-        kept, start = [], 0
-        for number, place in enumerate(drop):
-            kept.append(self.bytes[start:place])
-            start = place + 1
-            self.shifts.append((place - number, number + 1))
-        self.bytes = b"".join([*kept, self.bytes[start:]])
+        self.replace([(place, place + 1, b"") for place in drop])
         self.told.append(f"{self.name}: {len(drop)} carriage return(s) at line ends are left out")
+
+    def change_lines(self, changed):
+        """Replaces each line by what the function makes of it and of its number; a line for which it returns None is
+        dropped."""
+        spans, start = [], 0
+        for row, line in enumerate(self.bytes.split(b"\n"), 1):
+            new, end = changed(row, line), start + len(line)
+            if new is None:
+                spans.append((start, min(end + 1, len(self.bytes)), b""))
+            elif new != line:
+                spans.append((start, end, new))
+            start = end + 1
+        self.replace(spans)
+
+    def drop_comments(self):
+        """Drops each line of a stimulus that begins with `#`."""
+        if self.kind is Kind.STIMULUS and b"#" in self.bytes:
+            self.change_lines(lambda _, line: None if line.startswith(b"#") else line)
+
+    def drop_verdict(self):
+        """Drops from an answer about realizability what is not its circuit: the first line, and the game and the
+        certificate that psyn prints below the circuit."""
+        found = VERDICT.match(self.bytes)
+        if not found:
+            return
+        word = found[1].decode()
+        if found.end() == len(self.bytes):
+            raise Refused(f"{self.name}: this is an answer {word} without a circuit")
+        is_binary = self.bytes[found.end() :].startswith(b"aig ")
+        end = None if is_binary else END_OF_CIRCUIT.search(self.bytes)
+        below = [(end.start(), len(self.bytes), b"")] if end and self.bytes[end.end() :] else []
+        self.replace([(0, found.end(), b""), *below])
+        self.told.append(f"{self.name}: the line {word} above the circuit{', and what is below it,' * bool(below)} is left out")
+
+    def refuse_game(self):
+        """Refuses an automaton that Spot wrote as a game with players. By the format, the item that names the players
+        may be ignored; but what then follows is the answer to another question."""
+        if PLAYERS_OF_A_GAME.encode() not in self.bytes:
+            return
+        from psyntool.texts import hoa
+
+        if any(token.text == PLAYERS_OF_A_GAME for token in hoa.tokens_of(self.string, "--BODY--")):
+            raise Refused(
+                f"{self.name}: `{PLAYERS_OF_A_GAME}` says that this is a game whose states belong to players, and psyn reads automata: "
+                "give it the automaton from which the game was made"
+            )
 
     def end_with_newline(self):
         if self.bytes and not self.bytes.endswith(b"\n"):
@@ -94,6 +153,13 @@ def returns_at_line_ends(kind, text):
     return ends
 
 
+def beginning_of(text):
+    """The beginning of a text that can't hold a byte 0, whatever its kind. The comment of a circuit can, as abc writes
+    it."""
+    comment = re.search(rb"(?m)^c", text.bytes) if text.kind is Kind.CIRCUIT else None
+    return text.bytes[: min(4096, comment.start()) if comment else 4096]
+
+
 def title_of(path):
     """The name of a file in messages, on one line."""
     return "standard input" if path == "-" else path if path.isprintable() else repr(path)
@@ -109,12 +175,15 @@ class Reader:
         if path == "-":
             data = console.read(self.left)
         else:
+            self.settings.read.append(path)
             try:
                 with open(path, "rb") as file:
                     data = file.read(self.left)
             except OSError as error:
                 raise Refused(f"{title_of(path)}: {error.strerror}") from None
         self.left -= len(data)
+        if not self.left and not self.settings.command.is_of_the_program:
+            raise Refused(f"{title_of(path)}: the files up to this one have more than {program.MOST_BYTES:,} bytes together, the most that psyn reads")
         return data
 
     def text(self, kind, path):
@@ -125,40 +194,53 @@ class Reader:
 
     def mended(self, kind, name, original):
         """The text with the given bytes, normalised as the flags ask."""
-        was_binary = kind is Kind.CIRCUIT and original.startswith(b"aig ")
-        if was_binary:
-            original = self.converted(name, original)
-        elif original.startswith(OTHER_MARKS):
+        if original.startswith(OTHER_MARKS):
             raise Refused(f"{name}: this is text in UTF-16: write it in UTF-8")
-        elif b"\0" in original[:4096]:
-            raise Refused(f"{name}: this is no text (it holds a byte 0)")
         text = Text(kind, name, original)
-        text.was_binary = was_binary
         text.drop_mark()
+        if kind is Kind.CIRCUIT:
+            text.drop_verdict()
+            if text.bytes.startswith(b"aig "):
+                text = self.converted(text)
+        if b"\0" in beginning_of(text):
+            raise Refused(f"{name}: this is no text (it holds a byte 0)")
+        if kind is Kind.AUTOMATON:
+            text.refuse_game()
         if not self.settings.keep_returns:
             text.drop_returns()
         if kind is Kind.CIRCUIT and self.settings.zero_resets:
             text.zero_resets()
+        text.drop_comments()
         if self.left:
             text.end_with_newline()
-        if not self.settings.quiet:
-            console.tell(*text.told)
+        self.tell(text)
         return text
 
-    def converted(self, name, original):
+    def tell(self, text):
+        """Tells how a text was changed, once."""
+        if not self.settings.quiet:
+            console.tell(*text.told)
+        text.told = []
+
+    def converted(self, text):
         """The ASCII form of a circuit in binary AIGER."""
         try:
-            text = binary.ascii_form(original)
+            made = Text(text.kind, text.name, binary.ascii_form(text.bytes))
         except binary.Broken as error:
-            raise Refused(f"{name}: this is the binary form of AIGER, and can't be converted: {error}") from None
-        if not self.settings.quiet:
-            console.tell(f"{name}: converted from the binary form of AIGER; places are those of the ASCII form")
-        return text
+            raise Refused(f"{text.name}: this is the binary form of AIGER, and can't be converted: {error}") from None
+        made.was_binary = True
+        made.told = [*text.told, f"{text.name}: converted from the binary form of AIGER; places are those of the ASCII form"]
+        return made
 
     def texts(self, kinds, paths):
         if paths.count("-") > 1:
             raise Refused("standard input can be one of the files only")
-        return [self.text(kind, path) for kind, path in zip(kinds, paths)]
+        texts = [self.text(kind, path) for kind, path in zip(kinds, paths)]
+        if tuple(kinds[:2]) == (Kind.AUTOMATON, Kind.CIRCUIT):
+            unmentioned.drop(texts)
+            for text in texts:
+                self.tell(text)
+        return texts
 
 
 def joined(command, flags, texts):

@@ -4,7 +4,7 @@ import re
 from dataclasses import dataclass
 
 from psyntool import console, outputs
-from psyntool.command import BY, PICTURE
+from psyntool.command import PICTURE
 from psyntool.ends import Refused
 from psyntool.marking import placed
 from psyntool.pictures import games
@@ -13,6 +13,23 @@ from psyntool.texts import Unreadable, game, solution
 
 # Only this many vertices of a cycle are listed.
 MOST = 24
+# What docs/FAULTS.md says of certificates and solutions together, said of solutions alone.
+ENTRIES = {
+    53: {
+        "Cause": "a solution is `paritysol N;`, which may be left out, and then for each vertex `id winner;` or `id winner move;`. This text "
+        "has another form.",
+        "Place": "the first token that this form does not allow, or the end of the text.",
+        "Mend": "let the solver print its solution alone, without names, comments and messages (PGSolver: `--printsolonly`).",
+    },
+    54: {
+        "Cause": "the solution does not fit this game: an id is not one of the game or has had an entry, a move is not an id, or a vertex has "
+        "no entry.",
+        "Place": "the number that does not fit; the end of the text if a vertex has no entry.",
+        "Mend": "use a solution of this game, with one entry for each vertex.",
+    },
+}
+# Numbers of 64 bits are less.
+TOO_LARGE = 1 << 64
 
 
 @dataclass(frozen=True)
@@ -84,6 +101,28 @@ def escape(behind, texts):
     ]
 
 
+def wrong_form(offset, texts):
+    """Explains what in a solution is not of the form of solutions: the token at the offset, or that the text ends."""
+    text = texts[1].bytes
+    entry = text[text.rfind(b";", 0, offset) + 1 : offset].split()
+    number, word = re.compile(rb"\d+").match(text, offset), re.compile(rb"[^\s;\d]+").match(text, offset)
+    if number and int(number[0][:21]) >= TOO_LARGE:
+        return [f"the number {number[0][:21].decode()}{' ..' if len(number[0]) > 21 else ''} does not fit in 64 bits"]
+    if number and entry[:1] == [b"paritysol"]:
+        return ["there is no `;` behind the number of `paritysol`"]
+    if number and len(entry) == 1:
+        return [f"the winner is {number[0].decode()}, and should be 0 or 1"]
+    if number:
+        return ["an entry has an id, a winner and at most one move, and this one has another number"]
+    if word and word[0].startswith(b'"'):
+        return ["an entry of a solution has no name"]
+    if word:
+        return [f"{word[0][:MOST].decode('utf-8', 'replace')!r} is no part of a solution"]
+    if offset >= len(text.rstrip()):
+        return ["the text ends inside an entry" if entry else "there is no entry"]
+    return ["an entry ends before its winner"] if len(entry) < 2 else []
+
+
 def other_game(offset, texts):
     """Explains that a solution does not belong to this game: the wrong vertex id at the offset or, if there is no id,
     the vertices without an entry."""
@@ -100,17 +139,17 @@ def other_game(offset, texts):
 # ---- the picture
 
 
-def check_picture(request):
-    """Refuses --picture without --by. The picture shows a cycle that a player loses although the solution says that
-    this player wins its vertices; only another solver's solution can have such a cycle."""
-    if request.has(PICTURE) and not request.has(BY):
-        raise Refused(f"{request.command.name} {PICTURE.name} wants {BY.shown}")
-
-
 def path_of(request):
     """The path for the picture if one is asked for and the file can be written, else None."""
     path = request.value(PICTURE)
     return outputs.checked([path], PICTURE.shown, path)[0] if request.has(PICTURE) else None
+
+
+def texts_and_path(request):
+    """The files that the command reads, and the path for the picture, which is none of them."""
+    path, texts = path_of(request), request.texts()
+    outputs.refuse_read(request, filter(None, [path]))
+    return texts, path
 
 
 def draw(request, path, answer, texts, automaton=None):

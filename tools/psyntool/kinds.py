@@ -38,8 +38,8 @@ SIGNS = [
     (Kind.CIRCUIT, rb"\s*a[ai]g\s+\d"),
     (Kind.SOLUTION, rb"\s*paritysol\b|\s*\d+\s+0*[01](\s+\d+)?\s*;"),
     (Kind.ANSWER, rb"(UN)?REALIZABLE\r?\n"),
-    (Kind.STIMULUS, rb"\n*([01]+|-)\r?(\n|$)"),
-    (Kind.LIST, rb"(\s|#[^\n]*\n)*--(assume|guarantee|as|outs|strict)\b"),
+    (Kind.STIMULUS, rb"(#[^\n]*\n)*\n*([01]+|-)\r?(\n|$)"),
+    (Kind.LIST, rb"(\s|#[^\n]*\n)*--(assume|guarantee|as|outs|strict|moore)\b"),
     (Kind.GAME, rb"\s*(parity|start)\s+\d+\s*;|\s*\d+\s+\d+\s+[01]\s+\d+"),
 ]
 

@@ -1,8 +1,8 @@
 """The tool's main function: parses the command line, runs the command, and returns the exit status."""
-from psyntool import console, signals, words
-from psyntool.ends import FAULT, REFUSED, Refused, Stopped, Unwritten
+from psyntool import console, running, signals, words
+from psyntool.command import JSON
+from psyntool.ends import Stopped
 from psyntool.table import COMMANDS
-from psyntool.texts import Unreadable
 
 
 def main(line):
@@ -10,18 +10,21 @@ def main(line):
     console.fill_closed()
     signals.take()
     try:
-        request = words.request_of(line, COMMANDS)
-        return request.command.run(request)
-    except (Refused, Unreadable) as error:
-        console.tell(f"psyn: {error}")
-        return REFUSED
-    except Unwritten as error:
-        if str(error):
-            console.tell(f"psyn: {error}")
-        return FAULT
+        status, message = running.ended(run, line)
     except Stopped as stop:
         console.tell(f"psyn: {signals.WORDS[stop.number]}")
         return signals.end_by(stop.number)
-    except OSError as error:
-        console.tell(f"psyn: {error.filename or 'the system'}: {error.strerror}")
-        return FAULT
+    if message:
+        console.tell(f"psyn: {message}")
+    return status
+
+
+def run(line):
+    request = words.request_of(line, COMMANDS)
+    if request.command.runs_another:
+        return request.command.run(request)
+    if request.has(JSON):
+        from psyntool import reporting
+
+        return reporting.run(request)
+    return running.run(request)

@@ -1,7 +1,48 @@
-"""Writes several files completely, or none of them: first under temporary names, and then renames them."""
+"""Writes several files completely, or none of them: first under temporary names, and then renames them. A file that the
+command reads is never written over, and a file that psyn has not written only with `--force`."""
 import os
+import re
 
+from psyntool.command import FORCE
 from psyntool.ends import Refused, Unwritten
+
+# The comment section of a circuit, and the first line of a stimulus, that say who wrote the file.
+CIRCUIT_ENDING = "c\nwritten by psyn\n"
+STIMULUS_BEGINNING = "# written by psyn\n"
+# For each file name ending, a line by which a file that psyn has written can be told. No game or certificate may have a
+# comment: a game that psyn writes names its first vertex by a state and a priority, and only psyn's certificates begin
+# with `psyncert`.
+SIGNS = {
+    ".aag": rb"(?m)^c\nwritten by psyn\n\Z",
+    ".pg": rb'\Aparity \d+;\n\d+ \d+ [01] [\d,]+ "[^"]*/\d+";\n',
+    ".cert": rb"\Apsyncert [12]\n",
+    ".hoa": rb'\AHOA: v1\ntool: "psyn compose"\n',
+    ".stim": rb"\A# written by psyn\n",
+}
+
+
+def own(request, paths, flag, prefix):
+    """The paths PREFIX.., after a check that files can be written there. A file that is there already must be empty or
+    written by psyn, unless `--force` is given."""
+    for path in checked(paths, flag, prefix):
+        if not request.has(FORCE) and not is_by_psyn(path):
+            raise Refused(f"{flag}: {path} is there, and psyn has not written it: {FORCE.name} writes over it")
+    return paths
+
+
+def is_by_psyn(path):
+    """Whether the file is missing or empty, or has the line by which psyn's files can be told."""
+    if not os.path.exists(path) or not os.path.getsize(path):
+        return True
+    with open(path, "rb") as file:
+        return bool(re.search(SIGNS[os.path.splitext(path)[1]], file.read()))
+
+
+def refuse_read(request, paths):
+    """Refuses to write over a file that the command has read."""
+    for path in filter(os.path.exists, paths):
+        if any(os.path.samefile(path, other) for other in request.read if os.path.exists(other)):
+            raise Refused(f"{path} would be written, and this command reads it: name another file")
 
 
 def checked(paths, flag, prefix):

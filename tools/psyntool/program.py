@@ -2,23 +2,27 @@
 import os
 import signal
 import subprocess
-import tempfile
 import time
 from dataclasses import dataclass
 
 from psyntool import console, places, signals
-from psyntool.ends import Refused
-
-try:
-    import ctypes
-except ImportError:
-    ctypes = None
+from psyntool.ends import Refused, Unwritten
 
 PR_SET_PDEATHSIG = 1
 # The largest input that the program accepts; it answers fault 25 to a longer one.
 MOST_BYTES = 67_108_864
 STATUSES = {0: b"", 10: b"REALIZABLE\n", 20: b"UNREALIZABLE\n", 1: b"fault ", 2: b"fault "}
 CLOCK_FROM = 2
+# The most bytes of memory of each program that is started, or None; and the last moment of the run, or None.
+most_memory = last_moment = None
+
+
+@dataclass(frozen=True)
+class LastMoment:
+    """A moment of the monotonic clock by which each program must have ended, and what is said if one has not."""
+
+    at: float
+    message: str
 
 
 @dataclass(frozen=True)
@@ -57,17 +61,37 @@ def title():
 def before_it_runs():
     """Returns a function by which a child process prepares itself before `exec`: it restores how signals are handled,
     and asks the system, if it can, to kill the child when the tool ends."""
-    control, tool = getattr(ctypes.CDLL(None), "prctl", None) if ctypes else None, os.getpid()
+    control, tool = control_of_processes(), os.getpid()
 
     def prepare():
         signals.give_back()
         signals.let_go()
+        limit_memory()
         if control:
             control(PR_SET_PDEATHSIG, signal.SIGKILL)
         if os.getppid() != tool:
             os.kill(os.getpid(), signal.SIGKILL)
 
     return prepare
+
+
+def limit_memory():
+    """Limits the memory of this process as --memory asks."""
+    if most_memory is not None:
+        import resource
+
+        hard = resource.getrlimit(resource.RLIMIT_AS)[1]
+        most = most_memory if hard == resource.RLIM_INFINITY else min(most_memory, hard)
+        resource.setrlimit(resource.RLIMIT_AS, (most, most))
+
+
+def control_of_processes():
+    """The system's function `prctl`, or None if there is none."""
+    try:
+        import ctypes
+    except ImportError:
+        return None
+    return getattr(ctypes.CDLL(None), "prctl", None)
 
 
 def started():
@@ -79,18 +103,20 @@ def started():
 
 
 def waited_for(child, given):
-    """Waits for the child, and returns its output; on a terminal, the seconds so far are shown."""
-    if not console.is_terminal():
-        return child.communicate(given)[0]
-    began, shown = time.monotonic(), False
+    """Waits for the child until the last moment of the run, and returns its output; on a terminal, the seconds so far
+    are shown."""
+    began, shown, is_terminal = time.monotonic(), False, console.is_terminal()
     try:
         while True:
+            left = [1] * is_terminal + ([max(0, last_moment.at - time.monotonic())] if last_moment else [])
             try:
-                return child.communicate(given, timeout=1)[0]
+                return child.communicate(given, timeout=min(left, default=None))[0]
             except subprocess.TimeoutExpired:
-                given, seconds = None, time.monotonic() - began
-                shown = seconds >= CLOCK_FROM
-                console.put(f"\r{seconds:.0f} s" if shown else "")
+                given, now = None, time.monotonic()
+            if last_moment and now >= last_moment.at:
+                raise Unwritten(last_moment.message)
+            shown = is_terminal and now - began >= CLOCK_FROM
+            console.put(f"\r{now - began:.0f} s" if shown else "")
     finally:
         console.put("\r      \r" if shown else "")
 
@@ -129,12 +155,15 @@ def why_died(written, status):
 
 def become(given):
     """Replaces the tool by the program, which reads the input and writes its answer itself."""
+    import tempfile
+
     with tempfile.TemporaryFile() as file:
         file.write(given)
         file.seek(0)
         os.dup2(file.fileno(), console.INPUT)
     program = path()
     signals.give_back()
+    limit_memory()
     try:
         os.execv(program, [program])
     except OSError as error:

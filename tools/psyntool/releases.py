@@ -1,12 +1,14 @@
-"""The release: psyn's version, its commit, and the kit with which it was proved."""
+"""The release: psyn's version, its commit, the kit with which it was proved, and the sum of the program."""
+import hashlib
 import re
 import subprocess
 from dataclasses import dataclass
 
-from psyntool import places
+from psyntool import places, program
+from psyntool.ends import Refused
 
 FORMATS = "circuits in ASCII AIGER 1.9, automata in HOA v1, games of PGSolver's format"
-KEYS = ("version", "commit", "kit")
+KEYS = ("version", "commit", "kit", "program")
 UNKNOWN = "unknown"
 
 
@@ -17,6 +19,8 @@ class Release:
     version: str
     commit: str
     kit: str
+    # the SHA-256 sum of the program that the release was packed with
+    program: str = UNKNOWN
 
     def text(self):
         return "".join(f"{key} {getattr(self, key)}\n" for key in KEYS)
@@ -45,11 +49,26 @@ def of_text(text):
     return Release(*(said.get(key, UNKNOWN) for key in KEYS))
 
 
+def sum_of(path):
+    """The SHA-256 sum of a file."""
+    with open(path, "rb") as file:
+        return hashlib.file_digest(file, "sha256").hexdigest()
+
+
 def here():
     """The release of the checkout, the unpacked archive or the installation in which the tool is."""
     return of_repository() if places.IS_REPOSITORY else of_text(places.stored("RELEASE"))
 
 
 def lines():
-    release = here()
-    return f"psyn {release.version}, commit {release.commit}, proved with {release.kit}\n{FORMATS}\n"
+    """What is known of the tool and of the program that it runs. Only the program that a release was packed with is
+    known to be the proved one."""
+    release, proved = here(), ""
+    try:
+        total = sum_of(program.path())
+        is_of_it = total == release.program
+        proved = f", proved with {release.kit}" if is_of_it else ""
+        told = f"{program.title()}, SHA-256 {total}: {'of this release' if is_of_it else 'not of a release'}"
+    except Refused as error:
+        told = str(error)
+    return f"psyn {release.version}, commit {release.commit}{proved}\nprogram {told}\n{FORMATS}\n"

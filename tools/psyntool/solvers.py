@@ -4,8 +4,8 @@ import os
 import shlex
 import tempfile
 
-from psyntool import asking, children, console, files, judging, program
-from psyntool.command import BY
+from psyntool import asking, children, console, files, judging, outputs, program
+from psyntool.command import BY, KEEP
 from psyntool.ends import Refused, Unwritten
 from psyntool.files import Reader
 from psyntool.kinds import Kind
@@ -32,6 +32,9 @@ class Solver:
         # an error in the solution is explained as the command `judge` explains it
         self.request, self.words = dataclasses.replace(request, command=request.table["judge"]), words_of(request)
         self.name = os.path.basename(self.words[0])
+        self.kept = request.value(KEEP)
+        if self.kept is not None:
+            outputs.checked([self.kept], KEEP.shown, self.kept)
 
     def solution(self, game):
         """The solution that the solver writes for a game."""
@@ -46,9 +49,16 @@ class Solver:
         return Reader(self.request).mended(Kind.SOLUTION, f"the solution of {self.name}", original)
 
     def judged(self, game):
-        """A game's text and the solver's solution, and the answer of `judge` to both."""
+        """A game's text and the solver's solution, and the answer of `judge` to both. A solution that `judge` does not
+        accept is kept if that is asked for."""
+        outputs.refuse_read(self.request, [] if self.kept is None else [self.kept])
         texts = [game, self.solution(game)]
-        return texts, program.ask(files.joined("judge", self.request.passed, texts))
+        answer = program.ask(files.joined("judge", self.request.passed, texts))
+        if answer.is_fault and self.kept is not None:
+            outputs.write_all({self.kept: texts[1].original})
+            if not self.request.quiet:
+                console.tell(f"{self.kept} has the solution of {self.name}")
+        return texts, answer
 
     def hand_on(self, texts, answer, path, automaton=None):
         """Writes and explains the answer of `judge`, draws a lost cycle to `path`, and returns the exit status."""

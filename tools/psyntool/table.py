@@ -1,14 +1,72 @@
 """The commands, in the order of the help, the manual and the completions.
 
-The program's commands except `help` come first, in the order of the program's own table. This module lists `help` and
-the commands that the program lacks. Each command has a file in `commands`.
+The commands of the program come first, in the order of the program's own table. A command's function `run` is in a file
+of the command's name in `commands`, or in `asking` if the command only hands the program's answer on.
 """
-import importlib
-
-from psyntool.commands import compose, convert, core, games, page, play, show, shrink, solution, version, wave
-from psyntool.commands import help as help_
+from psyntool.command import (
+    AUTO, BY, CHECK, CIRCUIT, DROP, EDGES, ENV, FORCE, KEEP, MOORE, NAMES, OF_PARTS, PARTS, PICTURE, PRIORITIES, REACH, SEED, STIMULUS, STRICT, TO_FILE, TO_FILES,
+    TRACE, WAVE, Command, of_the_program,
+)  # fmt: skip
+from psyntool.kinds import Kind
 from psyntool.usages import USAGES
 
-OF_THE_PROGRAM = [importlib.import_module(f"psyntool.commands.{name}") for name in USAGES if name != "help"]
-ROWS = [*OF_THE_PROGRAM, compose, core, play, page, show, wave, convert, shrink, solution, games, help_, version]
-COMMANDS = {row.COMMAND.name: row.COMMAND for row in ROWS}
+ASKING = "psyntool.asking"
+OF_THE_PROGRAM = (
+    of_the_program("closed", "whether the moves keep each player's region", module=ASKING),
+    of_the_program("check", "valid, or the first flaw", module=ASKING),
+    of_the_program("judge", "the certificate by another solver's solution, or what is wrong with it", own=(PICTURE, CHECK)),
+    of_the_program("sim", "what a circuit does, letter by letter", own=(NAMES,)),
+    of_the_program("lasso", "whether the automaton accepts what the circuit does", own=(TRACE, CHECK)),
+    of_the_program("verify", "wins if the automaton accepts all that the circuit does, else a stimulus on which it does not", own=(STIMULUS, WAVE, CHECK)),
+    of_the_program("solve", "a certificate of a game", own=(BY, KEEP, PICTURE)),
+    of_the_program("game", "the parity game of an automaton", module=ASKING),
+    of_the_program("cert", "a certificate of that game", module=ASKING),
+    of_the_program(
+        "synth",
+        "a controller, or an environment that defeats every finite-state one; with --cert by the certificate of its game",
+        own=(TO_FILES, FORCE, BY, KEEP, PICTURE, PARTS, *OF_PARTS),
+        instead={flag.name: (Kind.LIST,) for flag in (PARTS, *OF_PARTS)},
+    ),
+)
+OF_THE_TOOL = (
+    Command("compose", "the automaton of parts: its words are those in which all assumptions imply all guarantees", (Kind.LIST,), own=OF_PARTS, least=0),
+    Command(
+        "core",
+        "of parts without a controller guarantees that conflict, with one the assumptions that it needs; none can be left out",
+        (Kind.LIST,),
+        flags=(MOORE,),
+        own=(*OF_PARTS, TO_FILE, FORCE),
+        least=0,
+    ),
+    Command(
+        "play",
+        "a play against the circuit, the game and the certificate in files PREFIX..; my letters go to PREFIX.stim",
+        ("PREFIX", "SPEC"),
+        own=(AUTO, FORCE),
+    ),
+    Command(
+        "page",
+        "a page for a browser, in one file: a play by buttons against the circuit in files PREFIX.., with pictures and what is proved; with "
+        "--parts, of psyn's answer to a list of parts",
+        ("PREFIX", "SPEC"),
+        flags=(MOORE,),
+        own=(PARTS, STRICT, CIRCUIT),
+        instead={PARTS.name: (Kind.LIST,), CIRCUIT.name: (Kind.FILE,)},
+    ),
+    Command(
+        "show",
+        "a picture of a game, with its certificate or solution and its automaton, of an automaton or of a circuit, as Graphviz DOT",
+        (Kind.FILE, Kind.FILE, Kind.FILE),
+        own=(REACH,),
+        least=1,
+    ),
+    Command("wave", "what sim prints, as a VCD file", (Kind.CIRCUIT, Kind.STIMULUS)),
+    Command("convert", "a circuit in the other form of AIGER: `aag` to `aig`, and back", (Kind.CIRCUIT,), own=(DROP,)),
+    Command("shrink", "a circuit made smaller by abc, if the smaller one wins", (Kind.AUTOMATON, Kind.CIRCUIT), flags=(ENV, MOORE)),
+    Command("solution", "a certificate's winners and moves as a solution (`paritysol`)", (Kind.GAME, Kind.CERTIFICATE)),
+    Command("each", "COMMAND on each of several files, or on as many at a time as it reads; the first line of each answer", ("COMMAND", "FILE.."), runs_another=True),
+    Command("games", "a parity game of a family, made by a rule: buchi, clique, jurdzinski, ladder, ladder2, loops, path, random, ring", ("FAMILY", "N"), own=(SEED, EDGES, PRIORITIES)),
+    Command("help", "what the tool can do, or how a command is used", ("COMMAND",), least=0),
+    Command("version", "which psyn this is", ()),
+)
+COMMANDS = {row.name: row for row in (*OF_THE_PROGRAM, *OF_THE_TOOL)}

@@ -3,6 +3,8 @@ from psyntool import program
 from psyntool.texts import automaton, circuit, labels, stimulus
 
 LONGEST = 100_000
+# Of a longer run than both together, so many steps are shown at its beginning, and as many at its end.
+SHOWN = 50
 
 
 def letters_of(texts, count):
@@ -19,9 +21,8 @@ def letters_of(texts, count):
 
 def steps(read, letters):
     """For each step the state's name, the letter and the acceptance sets. The run ends at a step without an edge."""
-    state, numbers = read.start, {name: number for number, name in enumerate(read.names)}
-    for true in letters:
-        letter = {numbers[name] for name in true}
+    state = read.start
+    for letter in letters:
         edge = read.edge_at(state, letter)
         said = labels.letter_text({number: number in letter for number in range(len(read.names))}, read.names)
         yield read.title_of(state), said, "no edge" if edge is None else " ".join(map(str, sorted(edge.marks)))
@@ -30,17 +31,49 @@ def steps(read, letters):
         state = edge.target
 
 
-def trace(texts, stem, lap):
+def trace(texts, stem, lap, is_stopped=False):
     """A table of the steps on a lasso: on the stem, and on one lap (the repeated part). The texts are an automaton, a
-    circuit and a stimulus."""
+    circuit and a stimulus. Below it stands what became of the parts of which the automaton was composed, if it was; the
+    table can be stopped at the first step that breaks a guarantee."""
     if stem + lap > LONGEST:
         return f"the run has {stem + lap} steps until it comes again, and is not shown\n"
     read = automaton.read(texts[0].string)
-    rows = [(str(place), *row) for place, row in enumerate(steps(read, letters_of(texts, stem + lap)))]
+    numbers = {name: number for number, name in enumerate(read.names)}
+    letters = [{numbers[name] for name in true} for true in letters_of(texts, stem + lap)]
+    rows = [(str(place), *row) for place, row in enumerate(steps(read, letters))]
+    is_ended = rows[-1][-1] == "no edge"
+    last, parts = parts_told(read, letters[: len(rows)], None if is_ended else stem, is_stopped)
+    rows = rows[:last]
     head = ("step", "state", "letter", "sets")
-    widths = [max(len(row[column]) for row in [head, *rows]) for column in range(len(head) - 1)]
+    left_out = range(SHOWN, max(SHOWN, len(rows) - SHOWN))
+    widths = [max(len(row[column]) for row in [head, *rows[: left_out.start], *rows[left_out.stop :]]) for column in range(len(head) - 1)]
     shown = ["  ".join([*(word.ljust(width) for word, width in zip(row, widths)), row[-1]]).rstrip() for row in [head, *rows]]
-    if rows[-1][-1] == "no edge":
-        return "\n".join([*shown, "there is no edge: the run ends", ""])
-    shown.insert(stem + 1, f"the lap begins; it comes again behind step {stem + lap - 1}")
-    return "\n".join([*shown, ""])
+    told, ends = shown[:1], rows[-1][-1] == "no edge"
+    for place, line in enumerate(shown[1:]):
+        if place == left_out.start and left_out:
+            told.append(f".. {len(left_out)} steps are not shown ..")
+        if place == stem and not is_ended:
+            told.append(f"the lap begins{f' at step {stem}' * (stem in left_out)}; it comes again behind step {stem + lap - 1}")
+        told += [] if place in left_out else [line]
+    return "\n".join([*told, *(["there is no edge: the run ends"] if ends else []), *parts, ""])
+
+
+def parts_told(read, letters, stem, is_stopped):
+    """The number of steps that are told, or None for all, and lines on the parts of a composed automaton that a step
+    breaks or that the lap never meets. If the trace is stopped, nothing is told behind the first broken guarantee."""
+    if "part:" not in read.headers:
+        return None, []
+    from psyntool.parts import running, specification
+    from psyntool.parts.diagrams import Diagrams
+    from psyntool.parts.part import Moves
+
+    try:
+        of = specification.kept(read)
+    except specification.NotComposed as error:
+        return None, [str(error)]
+    numbers, diagrams = {name: number for number, name in enumerate(read.names)}, Diagrams()
+    sides = [(side, [Moves(it, numbers, diagrams) for it in parts]) for side, parts in (("assumption", of.assumptions), ("guarantee", of.guarantees))]
+    broken = [found.broke for found in (running.run(moves, letters) for moves in sides[1][1]) if found.broke is not None]
+    last = min(broken) + 1 if broken and is_stopped else None
+    stem = None if last else stem
+    return last, [line for side, those in sides for moves in those for line in running.told(side, moves, letters[:last], stem, "lap")]

@@ -1,5 +1,4 @@
 """Parses a command line: flags may be anywhere, and an unknown word is reported with the nearest known one."""
-import difflib
 import os
 
 from psyntool import places
@@ -10,6 +9,8 @@ from psyntool.kinds import Kind
 
 def nearest(word, known):
     """A hint at the known word that is most similar to an unknown one, if there is one; leading dashes are ignored."""
+    import difflib
+
     bare = {one.strip("-"): one for one in known}
     found = difflib.get_close_matches(word.strip("-"), bare, 1)
     return f" (did you mean {bare[found[0]]}?)" if found else ""
@@ -71,13 +72,17 @@ def request_of(words, commands):
         return Request(commands["version"], given, [], commands)
     if not others or HELP.name in given:
         return Request(commands["help"], given, others[:1], commands)
-    name = others.pop(0)
+    command = command_of(others.pop(0), commands)
+    if not command.runs_another:
+        check_flags(command, given, commands)
+        check_count(command, given, others)
+    return Request(command, given, others, commands)
+
+
+def command_of(name, commands):
     if name not in commands:
         raise Refused(f"there is no command {name}{nearest(name, commands)}; `{places.NAME} help` lists them")
-    command = commands[name]
-    check_flags(command, given, commands)
-    check_count(command, given, others)
-    return Request(command, given, others, commands)
+    return commands[name]
 
 
 def check_flags(command, given, commands):
@@ -94,5 +99,8 @@ def check_count(command, given, words):
     if not least <= len(words) <= most:
         what = " ".join([command.name, *(name for name in given if name in command.behind or name in command.instead)])
         unit = "file" if all(isinstance(kind, Kind) for kind in command.reads) else "word"
-        count = f"{len(words)} {unit}{'' if len(words) == 1 else 's'}"
-        raise Refused(f"{what} reads {' '.join(wanted) or 'no file'}, and got {count}")
+        raise Refused(f"{what} reads {' '.join(wanted) or 'no file'}, and got {counted(words, unit)}")
+
+
+def counted(words, unit):
+    return f"{len(words)} {unit}{'' if len(words) == 1 else 's'}"

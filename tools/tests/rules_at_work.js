@@ -18,7 +18,7 @@ function wrongAt(board, play, behind) {
 function played(board, moves) {
   let play = rules.begun(board);
   let wrong = 0;
-  while (!rules.isOver(play)) {
+  while (!rules.isOver(play) && (play.steps.length < moves.length || rules.loopOf(play) === null)) {
     const digits = moves[play.steps.length];
     const behind = digits === undefined ? rules.longestStep(board, play) : rules.stepped(board, play, digits);
     wrong += wrongAt(board, play, behind);

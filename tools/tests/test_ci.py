@@ -1,8 +1,9 @@
 """Tests what `.ci/run` does besides `tools/test-all`: it installs packages if it can, keeps the exit status, and lists
-last what was skipped."""
+last what was skipped. Tests also what `tools/gate-times` counts below a stand-in for `rt`."""
 import os
 import shutil
 import subprocess
+import sys
 
 from tests.tool import OnFiles
 from upkeep.sweeps import TOP
@@ -24,6 +25,47 @@ case $name in
 esac
 : > "$ROOM/programs/$name" && "$ROOM/programs/chmod" 755 "$ROOM/programs/$name"
 """
+
+
+# A stand-in for `rt`: it leaves the prover to run on by itself for a while, as a child whose parent has ended.
+CHECKS = """\
+#!/bin/bash
+echo "asked: $*"
+[ $STATUS = 0 ] || { echo '3 passed, 0 failed'; exit $STATUS; }
+mkdir -p rt-edit-1
+(bash -c 'exec -a /kit/rattle "$0" -c "$1" --crate-name ps_left' "$BUSY" "$CODE" &)
+(cd rt-edit-1 && bash -c 'exec -a rattle "$0" -c "$1" --crate-name ps_below' "$BUSY" "$CODE")
+bash -c 'exec -a rattle "$0" -c "$1" --test --crate-name ps_tests' "$BUSY" "$CODE"
+echo '3 passed, 0 failed'
+"""
+CODE = "import time\nend = time.process_time() + 0.8\nwhile time.process_time() < end: pass"
+
+
+class Gate(OnFiles):
+    def ran(self, status):
+        os.chmod(self.file("rt", CHECKS.encode()), 0o755)
+        environment = {**os.environ, "PATH": f"{self.room}:{os.environ['PATH']}", "BUSY": sys.executable, "CODE": CODE, "STATUS": str(status)}
+        command = [sys.executable, "-W", "error", "-X", "dev", os.path.join(TOP, "tools", "gate-times")]
+        done = subprocess.run(command, env=environment, cwd=self.room, capture_output=True, text=True, check=False)
+        self.assertEqual(done.stderr, "")
+        return done.stdout.splitlines(), done.returncode
+
+    def test_only_what_rt_starts_is_counted(self):
+        other = subprocess.Popen(["bash", "-c", 'exec -a rattle "$0" -c "$1" --crate-name ps_other', sys.executable, CODE.replace("0.8", "60")])
+        self.addCleanup(other.wait)
+        self.addCleanup(other.kill)
+        lines, status = self.ran(0)
+        self.assertEqual((lines[:2], lines[-1], status), (["asked: ci", "3 passed, 0 failed"], "3 passed, 0 failed", 0))
+        self.assertEqual(lines[4].split(), ["crate", "proof", "tests", "edits", "sum"])
+        self.assertEqual(sorted(line.split()[0] for line in lines[5:-1]), ["all", "ps_below", "ps_left", "ps_tests"])
+
+    def test_a_gate_that_fails(self):
+        self.assertEqual(self.ran(1)[1], 1)
+
+    def test_without_rt(self):
+        command = [sys.executable, os.path.join(TOP, "tools", "gate-times")]
+        done = subprocess.run(command, env={"PATH": self.room}, capture_output=True, text=True, check=False)
+        self.assertEqual((done.stdout, done.stderr, done.returncode), ("", "gate-times: rt can't be run: No such file or directory\n", 1))
 
 
 class Script(OnFiles):

@@ -65,6 +65,25 @@ class Commands(OnFiles):
         self.assertEqual((done.stdout.decode(), done.returncode), (said, 20))
 
 
+FAILS = """\
+a controller can make the assumption always fail, so this one may win without keeping the guarantees
+so it can play:
+step  state  environment  controller  priority
+0     0      -            -           0
+step 0 breaks the assumption always
+  it is true at each step
+"""
+BOUND = b'HOA: v1 Start: 0 AP: 2 "open" "cmd" Acceptance: 0 t --BODY-- State: 0 "idle" [!0&!1] 0 [!0 & 1] 1 State: 1 "moving" [!0 & !1] 1 [0&!1] 0 --END--\n'
+FAILS_LATER = """\
+a controller can make the assumption ok fail, so this one may win without keeping the guarantees
+so it can play:
+step  state   environment  controller  priority
+0     idle    -            cmd         1
+1     moving  -            cmd         0
+step 1 breaks the assumption ok
+"""
+
+
 class Circuits(OnFiles):
     """`synth` on specifications in parts: the answer is that of the composed automaton, and a line warns if a
     controller can make the assumptions fail."""
@@ -87,14 +106,21 @@ class Circuits(OnFiles):
 
     def test_a_controller_that_breaks_the_assumptions(self):
         words = ["--outs", "it", "--assume", "parts/always.hoa", "--guarantee", "parts/always.hoa", "--as", "it=r"]
-        said = b"a controller can make the assumptions fail, so this one may win without keeping the guarantees\n"
-        for flags in ((), ("--strict",), ("--moore",), ("-o", "out")):
-            done = self.tool("synth", *flags, *words)
-            self.assertEqual((done.returncode, done.stderr), (10, said), flags)
-        self.assertEqual(self.tool("synth", "--quiet", *words).stderr, b"")
+        for command in ("synth", "synth --strict", "synth --moore", "synth -o out", "core", "page --parts"):
+            done = self.tool(*command.split(), *([self.file("it.parts", " ".join(words).encode() + b"\n")] if "page" in command else words))
+            self.assertEqual((done.returncode % 10, done.stderr.decode().split("change: it is 0\n")[-1]), (0, FAILS), command)
+        for command in ("synth", "core"):
+            self.assertEqual(self.tool(command, "--quiet", *words).stderr, b"")
         for assumed in ([], ["--assume", "parts/always.hoa", "--as", "it=other"]):
             done = self.tool("synth", "--outs", "it", *assumed, "--guarantee", "parts/always.hoa")
-            self.assertEqual((done.returncode, done.stderr), (10, b""))
+            self.assertEqual((done.returncode, done.stderr), (10, b"" if assumed else b"in this controller some outputs never change: it is 1\n"))
+
+    def test_the_assumption_that_can_fail_is_named_with_a_play(self):
+        """Of three assumptions one can be made to fail: the environment is bound to what the controller says later."""
+        self.file("ok.hoa", BOUND)
+        assumed = [word for name in ("tick", "tock") for word in ("--assume", "parts/again-and-again.hoa", "--as", f"it={name}")]
+        done = self.tool("core", *assumed[:4], "--assume", "ok.hoa", *assumed[4:], "--guarantee", "parts/answered.hoa", "--as", "request=tick", "answer=red", "--outs", "cmd", "red")
+        self.assertEqual((done.returncode, done.stderr.decode()), (10, FAILS_LATER))
 
     def test_a_certificate_is_for_an_automaton(self):
         done = self.tool("synth", "--cert", "--guarantee", "parts/always.hoa", "--outs", "it")

@@ -26,10 +26,19 @@ class Forms(unittest.TestCase):
         long = []
         for name in ALL:
             lines = documents.read(name)
-            long += [f"{name}:{at}: {len(line)}" for at, line in enumerate(lines, 1) if len(line) > (160 if line.startswith("|") else 120)]
+            long += [f"{name}:{at}: {len(line)}" for at, line in enumerate(lines, 1) if len(line) > 120 and not line.startswith("|")]
             if len(lines) - 1 > LINES.get(name, len(lines)):
                 long.append(f"{name}: {len(lines) - 1} lines")
         self.found(long)
+
+    def test_each_row_of_a_table_has_all_cells(self):
+        tables = [(name, table) for name in ALL for table in documents.tables_of(documents.read(name))]
+        self.assertGreater(len(tables), 40)
+        self.found([f"{name}:{at}: {count} cells of {table[0][1]}" for name, table in tables for at, count in table if count != table[0][1]])
+
+    def test_a_row_that_is_broken_is_seen(self):
+        lines = ["| a | b `x\\|y` |", "|---|---|", "| c | d,", "    e |", "", "```", "| no", "```", "| `a | b` | c \\| d |"]
+        self.assertEqual(documents.tables_of(lines), [[(1, 2), (2, 2), (3, 1)], [(9, 3)]])
 
     def test_sentences(self):
         long = []

@@ -33,6 +33,7 @@ NAMED = (
     "gates_in_text_order",
     "implicit_bits_reversed",
     "input_repeated_or_early_line",
+    "mark_missing",
     "minimum_read_as_maximum",
     "missing_letters_dropped",
     "no_moves_given",
@@ -40,11 +41,12 @@ NAMED = (
     "overlap_accepted",
     "raises_not_counted",
     "region_too_small",
+    "second_pass_missing",
     "stem_sets_counted",
     "unknown_names_skipped",
     "wrong_polarity_or_reset",
 )
-MOST_CRATES = 10
+MOST_CRATES = 12
 VERDICTS = {"refused", "refused by a name", "to be tried"}
 
 

@@ -1,4 +1,5 @@
 """Tests of what tools/install installs, of the man page, and of the completions."""
+import importlib
 import os
 import pty
 import re
@@ -77,6 +78,8 @@ class Installed(unittest.TestCase):
         self.assertEqual(self.completed("psyn", "show", "--reach", ""), [""])
         self.assertIn("true", self.completed("psyn", "solve", "--by", "tru"))
         self.assertEqual(self.completed("psyn", "judge", "--picture", "lo"), ["loop.cert", "loop.pg"])
+        self.assertEqual(self.completed("psyn", "solve", "--time", "9", "--keep", "lo"), ["loop.cert", "loop.pg"])
+        self.assertEqual(self.completed("psyn", "solve", "--time", ""), [""])
 
     def test_bash_completes_files_by_their_kinds(self):
         self.assertEqual(self.completed("psyn", "check", "lo"), ["loop.pg"])
@@ -84,6 +87,9 @@ class Installed(unittest.TestCase):
         self.assertEqual(self.completed("psyn", "synth", "--moore", "a"), ["arbiter.hoa"])
         self.assertEqual(self.completed("psyn", "sim", "toggle"), ["toggle.aag"])
         self.assertEqual(self.completed("psyn", "synth", "toggle"), ["toggle.aag", "toggle.v"])
+        self.assertEqual(self.completed("psyn", "each", "cl"), ["closed"])
+        self.assertEqual(self.completed("psyn", "each", "check", "loop.pg", "loop.cert", "lo"), ["loop.pg"])
+        self.assertEqual(self.completed("psyn", "each", "synth", "a.hoa", "--mo"), ["--moore"])
 
     def test_bash_completes_parts_behind_their_flags(self):
         self.assertEqual(self.completed("psyn", "compose", "--assume", "a"), ["arbiter.hoa"])
@@ -130,13 +136,16 @@ class Tables(unittest.TestCase):
     def test_what_follows_from_the_tables_is_stored(self):
         self.assertEqual(subprocess.run([os.path.join(TOP, "tools", "command-files"), "--check"], check=False).returncode, 0)
 
-    def test_a_flag_is_the_same_in_each_command(self):
+    def test_a_flag_takes_the_same_in_each_command(self):
         flags = [flag for command in COMMANDS.values() for flag in command.all_flags] + list(EVERYWHERE)
-        self.assertEqual(len(set(flags)), len({flag.name for flag in flags}))
+        self.assertEqual(len({(flag.name, flag.value, flag.many) for flag in flags}), len({flag.name for flag in flags}))
 
     def test_each_command_is_a_file_of_its_own(self):
         folder = os.path.join(TOP, "tools", "psyntool", "commands")
-        self.assertEqual(sorted(name.removesuffix(".py") for name in os.listdir(folder) if name[0] != "_"), sorted(COMMANDS))
+        own = [name for name, command in COMMANDS.items() if not command.module]
+        self.assertEqual(sorted(name.removesuffix(".py") for name in os.listdir(folder) if name[0] != "_"), sorted(own))
+        for command in COMMANDS.values():
+            self.assertTrue(callable(importlib.import_module(command.place).run), command.name)
 
     def test_the_stored_manual_is_written_from_the_tables(self):
         with open(os.path.join(TOP, "docs", "psyn.1"), encoding="utf-8") as file:

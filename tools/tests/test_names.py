@@ -17,19 +17,41 @@ FAMILIES = {
     "one line of a format, as it is read and as it is written": "fields head_text latch_line symbol_line",
     "a text has an answer, and only one": "HasOneAnswer HasSomeAnswer",
     "the same property of bytes and numbers": "AreRising BeginsWithZero IsByteRun IsDigit IsWord StopsBefore bytes_of is_among is_digit place_in",
-    "the same property of two types of faults": "IsOutOfMemory IsRefusal IsTold NamesVertices",
+    "the same property of two types of faults": "IsOutOfMemory IsRefusal NamesVertices",
     "the same view of two types": "draft_of moves_of name_bytes names_of with_move",
+    "bytes, tokens and steps of the lexer of HOA texts, and of that of specifications": "class_of class_step comment_by comment_len goes_on "
+    "head_or_zero is_between is_inner is_unquoted lex_behind nesting_limit one_more scan_step text_step with_name word_sign",
+    "the steps of the parser of specifications, and steps of another kind elsewhere": "counted ended fresh is_end joined moved number_of "
+    "parts_of run tail_of value_of with_formula",
+    "the word of a lasso, which automata and formulas read": "Repeats lasso_word",
+    "what formulas, tableaux and fair cycles have of their own, as games and automata do": "AreDistinct Fits IsAnswer IsRun Keeps Leads",
 }
+# Acceptance marks are those of HOA texts; a fair cycle has marks of any kind on its edges.
+WITH_MARKS = ("ps_hoa", "ps_automaton", "ps_automaton_tests", "ps_fairness", "ps_game_tests")
 PLAYER = re.compile(r"\b(?:player|owner|winner)s?: u8\b|\((?:player|owner|winner)\b[^)]*\): \(u8\b")
 NUMBERS_OF_PLAYERS = {
-    "ps_certificate/src/entries.rt": "the public field of `Entry`, which may be any number until the certificate fits",
     "ps_game/src/builder.rt": "`GameBuilder::vertex` takes the number of an owner",
     "ps_game_tests/src/games.rt": "passes the number on to `GameBuilder::vertex`",
     "ps_product/src/exploring.rt": "a field of a struct that is copied: a copy of a `Player` in it gets no proof",
     "ps_referee/src/fault.rt": "the public field of `JudgeFault`",
 }
 PROOFS_OF_FUNCTIONS = ("Answers.antt", "Invariants.antt", "Proof.antt", "Lib.antt")
-SAME_LEMMA_FILES = {}
+# The crates, and what the file of each has.
+SAME_LEMMA_FILES = {
+    "Bits.antt": "ps_automaton ps_formula: sets that are numbers; one bit of the rows of truths",
+    "Building.antt": "ps_automaton ps_tlsf: the automaton of a draft; tables of formulas that grow",
+    "Forms.antt": "ps_tlsf ps_zielonka: the formulas that operators form; one iteration of the solver",
+    "Joining.antt": "ps_diagram ps_tlsf: overlays of trees; lists appended one after another",
+    "Laps.antt": "ps_formula ps_verify: passes over a lap; laps of a trace",
+    "Members.antt": "ps_ids ps_tableau: an id in a list; elements of lists",
+    "NameLemmas.antt": "ps_hoa ps_tlsf: texts compared; the number of a declared name",
+    "Placing.antt": "ps_attractor ps_tlsf: one more vertex; the formulas of the sections in a table",
+    "Rounds.antt": "ps_machine ps_tableau: a step is two moves; rounds of a fair run",
+    "Scanning.antt": "ps_hoa ps_tlsf: moving forward in the texts of each format",
+    "Sound.antt": "ps_pgsolver ps_tableau: successors that are known; soundness of tableaux",
+    "Tables.antt": "ps_formula ps_label: tables of nodes; tables of aliases",
+    "Ways.antt": "ps_components ps_tableau: paths joined; covers made from covers",
+}
 
 
 def places_of_names():
@@ -62,7 +84,7 @@ class Names(unittest.TestCase):
             with open(path, encoding="utf-8") as file:
                 code = [line for line in file if not line.lstrip().startswith("//")]
             words = set(re.findall(r"(?<![A-Za-z])[Mm]arks?(?![A-Za-z])", "".join(code)))
-            if words and crate not in ("ps_hoa", "ps_automaton", "ps_automaton_tests"):
+            if words and crate not in WITH_MARKS:
                 others.append(f"{path}: {' '.join(sorted(words))}")
         self.assertEqual(others, [])
 

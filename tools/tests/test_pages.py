@@ -1,6 +1,7 @@
 """Tests of pages: the rules in JavaScript under node, compared with `sim` and `lasso`; the HTML text; and pages in
 Chromium, compared with `play`."""
 import base64
+import dataclasses
 import glob
 import html
 import json
@@ -14,11 +15,11 @@ import unittest.mock
 
 from psyntool import program
 from psyntool.command import Request
-from psyntool.commands import play as command
 from psyntool.ends import Refused
 from psyntool.pages import clauses, contents, drawing, writing
+from psyntool.parts import part
 from psyntool.plays import reading, telling
-from psyntool.plays.board import Play
+from psyntool.plays.board import Board, Play
 from psyntool.table import COMMANDS
 from psyntool.texts import report
 from tests.test_gallery import GALLERY
@@ -29,7 +30,7 @@ from upkeep.sweeps import TOP
 
 PAGES = os.path.join(TOP, "tools", "psyntool", "pages")
 ASSETS = ("template.html", "page.css", "rules.js", "page.js")
-MOST_LINES = 500
+MOST_LINES = 700
 NODE, CHROMIUM = ("node", "nodejs"), ("chromium", "chromium-browser", "google-chrome")
 SEED, BOARDS, PLAYS, LETTERS = 69, 40, 5, 12
 # An automaton that alternates between two states at every letter; the two circuits are written by hand.
@@ -51,6 +52,8 @@ document.title = document.activeElement.textContent + "/";
 document.getElementById("back").focus(); document.activeElement.click(); document.activeElement.click();
 document.title += document.activeElement.textContent;
 """
+NEVER = b"aag 1 1 0 1 0\n2\n0\ni0 r\no0 g\n"
+NOT_DRAWN = rb"the automaton has [0-9]+ states, too many for a picture: the page draws what is around the present state\n"
 RUNS = []
 
 
@@ -100,7 +103,7 @@ class Rules(unittest.TestCase):
                 self.assertRegex(self.verdict(board, text, printed, play), self.wanted(play))
                 kinds[board.winner, board.am_first, play["loop"] is None] = True
             longest = Play(board, printed.encode())
-            command.automatic(longest)
+            longest.hold_out()
             self.assertEqual((these[0]["text"], these[0]["stimulus"]), (shown(longest), longest.stimulus()))
         self.assertEqual(len(kinds), 6)
         counts.ran("pages", "plays by the rules under node", sum(map(len, said)))
@@ -132,13 +135,28 @@ class Rules(unittest.TestCase):
             steps.append({**step, "latches": list(map(int, latches)), "letter": [letter[number] for number in range(len(numbers))]})
         return steps
 
+    def test_circuits_that_psyn_did_not_print(self):
+        """The rules try where a letter leads. The gates of a circuit may stand in any order."""
+        drawn, free = list(boards(random.Random(SEED + 1), 12)), []
+        for *_, board in drawn:
+            made = dataclasses.replace(board.circuit, gates=board.circuit.gates[::-1])
+            free.append(Board(board.automaton, board.game, board.certificate, made, board.specification, is_printed=False))
+        said, kinds = self.played([(contents.of(board), [[], ["1" * len(board.mine)] * 3]) for board in free]), set()
+        for (text, printed, _), board, these in zip(drawn, free, said):
+            for play in these:
+                self.look_at(board, play)
+                self.assertEqual(play["steps"], self.simulated(board, printed, play))
+                self.assertRegex(self.verdict(board, text, printed, play), self.wanted(play))
+            kinds.add((board.winner, board.am_first))
+        self.assertEqual(len(kinds), 4)
+
     def test_boards_by_hand(self):
         """A play closes a loop when a state recurs with the same latches; a latch may start at 1, and a letter may have
         no bits."""
         made = [report.read(program.ask(f"synth --full\n{text}".encode()).text).parts[1:] for text in (TURNS, NO_INPUT)]
         own = report.read(program.ask(f"synth --full\n{NO_INPUT}".encode()).text).parts[0]
         given = [(TURNS, NO_LATCH, *made[0]), (TURNS, FROM_ONE, *made[0]), (NO_INPUT, own, *made[1])]
-        said = [plays[0] for plays in self.played([(contents.of(reading.board_of(*texts)), [["1", "0", "0", "1"]]) for texts in given[:2]])]
+        said = [plays[0] for plays in self.played([(contents.of(reading.board_of(*texts)), [["1", "0"]]) for texts in given[:2]])]
         self.assertEqual([[step["digits"] for step in play["steps"]] for play in said], [["1", "0"]] * 2)
         self.assertEqual([[bits(step["letter"]) for step in play["steps"]] for play in said], [["10", "00"], ["11", "00"]])
         (nothing,) = self.played([(contents.of(reading.board_of(*given[2])), [[]])])
@@ -157,12 +175,22 @@ class Rules(unittest.TestCase):
         return f"^{('accepted', 'rejected')[greatest % 2]} stem {loop} lap {len(steps) - loop}$"
 
 
+    def test_names_in_a_picture_differ_where_states_differ(self):
+        ends = ["owed: x", "owed: y", "owed: x; and more"]
+        names = [f"at floor 0; no call waits; {end}" for end in ends]
+        lines = [[end] for end in ends]
+        program = "const r = require(process.argv[1]); const n = JSON.parse(process.argv[2]);"
+        program += "console.log(JSON.stringify([r.tellingNames(n), r.tellingNames(n).map((it) => r.linesOf(it, 36, 3)), r.linesOf('aa bb cccccc d', 3, 3)]))"
+        said = subprocess.run([self.node, "-e", program, os.path.join(PAGES, "rules.js"), json.dumps(names)], capture_output=True, check=True).stdout
+        self.assertEqual(json.loads(said), [ends, lines, ["aa", "bb", "cc\u2026"]])
+
+
 class Pages(OnFiles):
     """The contents of a page's HTML text."""
 
     def page(self, *words):
         done = self.tool("page", *words)
-        self.assertEqual((done.returncode, done.stderr), (0, b""), words)
+        self.assertEqual((done.returncode, re.sub(NOT_DRAWN, b"", done.stderr)), (0, b""), words)
         return done.stdout.decode()
 
     def solved(self, name, text, *flags):
@@ -178,6 +206,16 @@ class Pages(OnFiles):
             self.assertTrue(f"<title>{name}: " in page, name)
             self.assertTrue(re.search(r"<strong>(UN)?REALIZABLE</strong>: there is (a|no) controller", page), name)
         self.assertEqual(len(lists), 8)
+
+    def test_a_list_can_be_strict_and_of_a_controller_that_moves_first(self):
+        same = self.file("same.hoa", b'HOA: v1 Start: 0 AP: 2 "r" "g" Acceptance: 0 t --BODY-- State: 0 [0&1 | !0&!1] 0 --END--\n')
+        self.file("it.parts", f"--outs g --assume {same} --as r=x --guarantee {same}\n".encode())
+        for flags, said in (([], "REALIZABLE"), (["--moore"], "UNREALIZABLE"), (["--strict"], "REALIZABLE")):
+            page = self.tool("page", "--parts", *flags, "it.parts").stdout.decode()
+            self.assertTrue(f"<title>it: {said}</title>" in page)
+            self.assertEqual("the controller moves first" in page, "--moore" in flags)
+            self.assertEqual("a guarantee has broken" in page, "--strict" not in flags)
+        self.assertEqual(self.tool("page", "--strict", "it", "it.hoa").stderr, b"psyn: page --strict wants --parts\n")
 
     def test_files_and_a_list_make_the_same_page(self):
         path = os.path.join(GALLERY, "traffic.parts")
@@ -200,6 +238,16 @@ class Pages(OnFiles):
         self.assertEqual([it for it in re.findall(r'(?:href|src|action)="([^"]*)"', page) if not it.startswith(("#", "data:text/plain;base64,"))], [])
         self.assertEqual(re.findall(r"https?://|@import|url\((?!#)", page), [])
 
+    def test_a_circuit_that_psyn_did_not_print(self):
+        spec, copy = self.file("it.hoa", AUTOMATON), self.file("copy.aag", NEVER.replace(b"\n0\n", b"\n1\n"))
+        page = self.page("--circuit", copy, spec)
+        self.assertTrue("<title>copy: REALIZABLE</title>" in page)
+        self.assertTrue("psyn did not print this circuit; but it is proved of <code>verify</code>" in page)
+        self.assertTrue("<code>wins</code> for this circuit" in page)
+        self.solved("copy", AUTOMATON, "--force")
+        self.file("copy.aag", NEVER.replace(b"\n0\n", b"\n1\n"))
+        self.assertTrue("psyn did not print this circuit" in self.page("copy", spec))
+
     def test_names_are_escaped(self):
         page = self.page("odd", self.solved("odd", ODD))
         self.assertEqual(len(re.findall(r"(?i)<script", page)), 2)
@@ -213,7 +261,6 @@ class Pages(OnFiles):
     def test_what_is_not_printed_by_psyn_is_refused(self):
         path = self.solved("out", AUTOMATON)
         for ending, old, new, said in (
-            (".aag", b"\nc", b"\nc\nc", b"out.aag is not what psyn prints for this certificate, so nothing is proved of it"),
             (".aag", b"aag", b"agg", b"this is no circuit: its first line is not `aag M I L O A`"),
             (".cert", b"psyncert 1", b"psyncert 3", b"this is no certificate"),
             (".cert", b"odd 1", b"odd 3", b"out.cert: synth answers to it: fault 54 "),
@@ -227,6 +274,12 @@ class Pages(OnFiles):
             self.assertEqual((done.returncode, done.stdout, done.stderr.count(b"\n")), (2, b"", 1), done.stderr)
             self.assertIn(said, done.stderr)
             self.file(name, right)
+        self.file("never", NEVER)
+        self.file("out.aag", NEVER)
+        for words, name in ((("out", path), b"out.aag"), (("--circuit", "never", path), b"never")):
+            done = self.tool("page", *words)
+            self.assertEqual((done.returncode, done.stderr), (2, b"psyn: " + name + b" loses, so there is no page of it: `verify` tells a counterexample\n"))
+        self.assertIn(b"don't have the names of its propositions", self.tool("page", "--circuit", self.file("other", NEVER.replace(b"o0 g", b"o0 x")), path).stderr)
         self.assertEqual(self.tool("page", "none", path).stderr, b"psyn: none.aag: No such file or directory\n")
         self.assertEqual(self.tool("page", "out", "out.pg").stderr, b"psyn: out.pg is a game; page wants PREFIX and a specification\n")
         self.assertEqual(self.tool("page", "--parts").stderr.count(b"\n"), 1)
@@ -238,18 +291,21 @@ class Pages(OnFiles):
             writing.page("out", given.board, [])
 
     def test_a_picture_wants_graphviz_and_no_more_than_it_can_show(self):
-        graph = {number: {"lines": ("", ""), "to": [(number + 1) % 401]} for number in range(401)}
-        self.assertEqual(drawing.drawn(graph, "s", None), drawing.Picture("", graph))
+        graph = {number: {"lines": ("", ""), "to": [(number + 1) % 41]} for number in range(41)}
+        self.assertEqual(drawing.drawn(graph, None), drawing.Picture("", graph))
+        graph = {number: {"lines": ("", ""), "to": range(11)} for number in range(10)}
+        self.assertEqual(drawing.drawn(graph, None), drawing.Picture("", graph))
         few = {0: {"lines": ("", ""), "to": [0]}}
-        self.assertEqual(drawing.drawn(few, "s", lambda: "no dot"), drawing.Picture("", few))
+        self.assertEqual(drawing.drawn(few, lambda: "no dot"), drawing.Picture("", few))
+        loops = ["HOA: v1 Start: 0 AP: 0 Acceptance: 0 t --BODY-- " + "".join(f"State: {state} [t] {(state + 1) % count} " for state in range(count)) + "--END--" for count in (2, 13, 3)]
+        parts = [part.part_of("it", "", {}, text) for text in loops]
         if not shutil.which("dot"):
+            self.assertEqual(drawing.of_parts(parts), ["", "", ""])
             self.skipTest("Graphviz is not installed")
-        shown = drawing.drawn(few, "s", lambda: "digraph { s0 -> s0; }")
+        self.assertEqual([svg.count('class="node"') for svg in drawing.of_parts(parts)], [3, 0, 4])
+        shown = drawing.drawn(few, lambda: "digraph { s0 -> s0; }")
         self.assertIn("<title>s0</title>", shown.svg)
         self.assertEqual((shown.graph, re.findall(r' id="|xmlns', shown.svg)), (None, []))
-        many = {number: {"lines": ("", ""), "to": list(range(20))} for number in range(20)}
-        of_map = drawing.drawn(many, "s", None)
-        self.assertEqual((of_map.svg.count('class="node"'), of_map.graph), (20, many))
 
     def test_it_is_short_and_its_clauses_are_there(self):
         lines = 0
@@ -292,7 +348,7 @@ class InChromium(OnFiles):
         specification = path if path.endswith(".hoa") else f"{name}.hoa"
         said = self.tool("play", "--auto", name, specification).stdout.decode()
         with open(os.path.join(self.room, f"{name}.stim"), encoding="utf-8") as file:
-            moves = [line for line in file.read().split("\n")[:-1] if line != "-"]
+            moves = [line for line in file.read().split("\n")[:-1] if line != "-" and not line.startswith("#")]
         page = self.file(f"{name}.html", self.tool("page", name, specification).stdout)
         return page, moves, said[: said.rindex("\n", 0, -1)]
 
@@ -300,12 +356,15 @@ class InChromium(OnFiles):
         return html.unescape(re.search(r'<pre id="test">(.*?)</pre>', document, re.S)[1])
 
     def test_plays_of_the_gallery(self):
-        # the page of the lift's automaton has a map (a picture without labels), besides the graph around the present
-        # state
-        for name, places in (("lift", 3), ("handshake", 2)):
+        # marked are the present states of the parts that are not broken, and the present state and vertex
+        for name, places in (("lift", 7), ("handshake", 5)):
             page, moves, said = self.page(name, os.path.join(GALLERY, f"{name}.parts"))
             document = self.document(page, f"#test={','.join(moves)}")
             self.assertEqual(self.trace(document), said)
+            width = int(re.search(r'<svg id="wave"[^>]* width="([0-9]+)"', document)[1])
+            loop = re.search(r'<text x="([0-9]+)"[^>]*>the loop begins</text>', document)
+            self.assertGreaterEqual(width, int(loop[1]) + 8 * len("the loop begins"))
+            self.assertEqual(re.findall(r"<span>(now|broken)", document), ["now"] * 5 if name == "lift" else ["now", "broken", "now", "now"])
             if shutil.which("dot"):
                 self.assertEqual(len(re.findall(r'<g class="(?:node )?here">', document)), places)
 

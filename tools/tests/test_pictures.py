@@ -18,6 +18,15 @@ def made_of(dot):
     return dot
 
 
+class Automata(unittest.TestCase):
+    def test_more_edges_than_a_picture_can_show_are_refused(self):
+        states = "".join(f"State: {state} " + " ".join(f"[t] {target}" for target in range(26)) + " " for state in range(26))
+        read = automaton.read(f"HOA: v1 Start: 0 AP: 0 Acceptance: 0 t --BODY-- {states} --END--")
+        with self.assertRaisesRegex(Refused, "26 vertices and 676 edges, and a picture of more than 600 edges can't be read: --reach 0 draws"):
+            automata.picture(read)
+        self.assertEqual(made_of(automata.picture(read, 0)).count("  s"), 1)
+
+
 class Games(unittest.TestCase):
     def drawn(self, text, *others, **more):
         return made_of(games.picture(game.read(text.decode()), *others, **more))

@@ -3,6 +3,7 @@ verdict."""
 import os
 import pty
 import random
+import re
 import subprocess
 import sys
 import unittest
@@ -33,7 +34,7 @@ few.stim has these letters of the controller; lasso: rejected stem 4 lap 1
 BEGIN = """\
 You are the controller, and the environment has a circuit that wins.
 Type the number of a choice, or the names of your propositions that are to be true, `-` for none;
-a for the choice with `*`, which holds out longest; b for one step back; q to leave.
+a for the choice with `*`, which holds out longest; b for one step back; e to end where a state has come again; q to leave.
 
 step 0: no r1 waits; g0 is next; no r0 before
 the environment says r1
@@ -54,9 +55,14 @@ few.stim has these letters of the controller; lasso: rejected stem 1 lap 1
 ENVIRONMENT = """\
 You are the environment, and the controller has a circuit that wins.
 Type the number of a choice, or the names of your propositions that are to be true, `-` for none;
-a for the choice with `*`, which holds out longest; b for one step back; q to leave.
+a for the choice with `*`, which holds out longest; b for one step back; e to end where a state has come again; q to leave.
 
 step 0: off
+*  1  -  -> off (priority 2)
+   2  r  -> off (priority 2)
+> 
+if the play ends here (e), step 0 comes again and again; the greatest priority there is 2, even: the automaton accepts
+step 1: off (priority 2)
 *  1  -  -> off (priority 2)
    2  r  -> off (priority 2)
 > 
@@ -66,6 +72,7 @@ the loop begins
 step 0 comes again and again; the greatest priority there is 2, even: the automaton accepts
 out.stim has these letters of the environment; lasso: accepted stem 0 lap 1
 """
+LAMP = b'HOA: v1 Start: 0 AP: 2 "r" "g" controllable-AP: 1 Acceptance: 0 t --BODY-- State: 0 "dark" [!1] 0 [1] 1 State: 1 "light" [!1] 0 [1] 1 --END--\n'
 LEFT = "the play is left; no stimulus is written\n"
 
 
@@ -87,7 +94,7 @@ class Commands(OnFiles):
         self.conflict()
         self.assertEqual(self.played("--auto", "few", "few.hoa"), AUTO)
         with open(os.path.join(self.room, "few.stim"), encoding="utf-8") as file:
-            self.assertEqual(file.read(), "00\n00\n00\n-\n00\n")
+            self.assertEqual(file.read(), "# written by psyn\n00\n00\n00\n-\n00\n")
         self.assertEqual(self.tool("lasso", "--env", "few.hoa", "few.aag", "few.stim").stdout, b"rejected stem 4 lap 1\n")
 
     def test_what_is_typed(self):
@@ -106,6 +113,31 @@ class Commands(OnFiles):
     def test_the_environment_against_a_controller(self):
         self.tool("synth", "-o", "out", self.file("it.hoa", AUTOMATON))
         self.assertEqual(self.played("out", "it.hoa", given="2\n"), ENVIRONMENT)
+        self.assertEqual(self.played("out", "it.hoa", given="2\ne\n"), ENVIRONMENT)
+
+    def test_a_play_goes_on_behind_a_state_that_comes_again(self):
+        self.tool("synth", "-o", "out", self.file("it.hoa", AUTOMATON))
+        said = self.played("out", "it.hoa", given="e\n2\n1\n2\n2\ne\n1\n")
+        self.assertIn("> no state has come again with the same latches, so the play has no end yet\n", said)
+        self.assertIn("\nsteps 0 to 3 come again and again; the greatest priority there is 2, even: the automaton accepts\n", said)
+        with open(os.path.join(self.room, "out.stim"), encoding="utf-8") as file:
+            self.assertEqual(file.read(), "# written by psyn\n-\n1\n0\n1\n1\n")
+        self.assertTrue(self.played("out", "it.hoa", given="2\n2\nq\n").endswith(LEFT))
+
+    def test_among_equal_moves_the_one_that_keeps_most_guarantees(self):
+        """Two guarantees conflict. The third can be kept, though that does not delay the loss."""
+        lines = ["--outs g x", "--assume parts/always.hoa --as it=r", "--guarantee parts/again-and-again.hoa --as it=x"]
+        lines += ["--guarantee parts/always.hoa --as it=!x", "--guarantee parts/answered.hoa --as request=r answer=g", ""]
+        self.tool("synth", "--parts", "-o", "it", self.file("it.parts", "\n".join(lines).encode()))
+        said = self.played("--auto", "it", "it.hoa")
+        self.assertIn("\n0     no r waits; owed: again-and-again(x)  r            g           1\n", said)
+        self.assertEqual(re.findall("never meets the guarantee (.*)", said), ["again-and-again(x)"])
+
+    def test_another_circuit_leads_elsewhere(self):
+        self.tool("synth", "-o", "out", self.file("it.hoa", LAMP))
+        for output, state in (("0", "dark"), ("1", "light")):
+            self.file("out.aag", f"aag 1 1 0 1 0\n2\n{output}\ni0 r\no0 g\n".encode())
+            self.assertEqual(set(re.findall("-> (.*) [(]", self.played("out", "it.hoa", given="q\n"))), {state})
 
     def test_a_list_in_the_place_of_the_automaton(self):
         parts = self.file("it.parts", CONFLICT.encode())
@@ -164,10 +196,11 @@ class Drawn(unittest.TestCase):
     def test_drawn_specifications(self):
         draw, ends = random.Random(7), {}
         for text, printed, board in boards(draw, 40):
-            for choose in (board.longest, draw.choice):
+            for is_longest in (True, False):
                 play = Play(board, printed.encode())
-                while not play.is_over:
-                    play.take(choose(play.choices()).letter)
+                self.assertEqual([play.aimed(choice) for choice in play.choices()], play.choices())
+                while not play.is_over and play.loop is None:
+                    play.take((play.longest if is_longest else draw.choice)(play.choices()).letter)
                 command.judged(play, text)
                 told = telling.ended(play)
                 self.look_at(play, told)

@@ -130,6 +130,20 @@ class Layout(unittest.TestCase):
         self.assertEqual(layout.text_within_width(COMMENT, False), FILLED)
         self.assertEqual(layout.text_within_width(FILLED, False), FILLED)
 
+    def test_a_row_of_a_table_stays_one_line(self):
+        row = "| " + " | ".join(["a cell of many words"] * 8) + " |"
+        for text in (row, f"-- A table follows here.\n-- {row}\n-- |---|\n", f"# Table\n\n{row}\n|---|\n"):
+            self.assertEqual(layout.text_within_width(text, False), text)
+        self.assertNotEqual(layout.text_within_width(row[2:-2], False), row[2:-2])
+
+    def test_paragraphs_of_a_document_are_filled(self):
+        words = " ".join(["word"] * 30)
+        text = f"# {words}\n\n- One.\n- {words}\n  end.\n\n{words}\n```text\n{words}\n```\n| {words} |\n    {words}\n> {words}\n"
+        first, rest = " ".join(["word"] * 23), " ".join(["word"] * 7)
+        filled = text.replace(f"- {words}\n  end.", f"- {first}\n  {rest} end.").replace(f"\n\n{words}\n", f"\n\n{first} word\n{rest[5:]}\n")
+        self.assertEqual(layout.document_within_width(text), filled)
+        self.assertEqual(layout.document_within_width(filled), filled)
+
     def test_clauses_are_broken_and_code_is_not(self):
         self.assertEqual(layout.text_within_width(CODE, True), WRAPPED)
         self.assertEqual(layout.text_within_width(WRAPPED, True), WRAPPED)

@@ -68,8 +68,20 @@ class Archive(unittest.TestCase):
     def installed_is_right(self):
         psyn, examples = os.path.join(self.room, "prefix", "bin", "psyn"), os.path.join(TOP, "examples", "files")
         self.assertEqual(self.ran(psyn, "check", *(os.path.join(examples, name) for name in ("loop.pg", "loop.cert"))).stdout, "valid\n")
-        self.assertEqual(self.ran(psyn, "--version").stdout.splitlines()[0], f"psyn 0.0.1, commit {'c' * 40}, proved with rattle-kit-0 logic 0")
+        self.version_tells_the_program(psyn)
         self.assertTrue(os.path.getsize(os.path.join(self.room, "prefix", "share", "zsh", "site-functions", "_psyn")))
+
+    def version_tells_the_program(self, psyn):
+        """`version` says that a program is proved only if it is the one that the release was packed with."""
+        behind, total = os.path.join(self.room, "prefix", "libexec", "psyn", "psyn"), releases.sum_of(program())
+        first, second = self.ran(psyn, "--version").stdout.splitlines()[:2]
+        self.assertEqual(first, f"psyn 0.0.1, commit {'c' * 40}, proved with rattle-kit-0 logic 0")
+        self.assertEqual(second, f"program {behind}, SHA-256 {total}: of this release")
+        with open(behind, "ab") as file:
+            file.write(b"\0")
+        first, second = self.ran(psyn, "--version").stdout.splitlines()[:2]
+        self.assertEqual(first, f"psyn 0.0.1, commit {'c' * 40}")
+        self.assertEqual(second, f"program {behind}, SHA-256 {releases.sum_of(behind)}: not of a release")
 
     def write(self, data):
         with open(os.path.join(self.room, "archive"), "wb") as file:
@@ -105,9 +117,10 @@ class Gate(unittest.TestCase):
 
 class Version(unittest.TestCase):
     def test_the_repository_says_what_it_is(self):
-        first, second, end = releases.lines().split("\n")
-        self.assertRegex(first, r"^psyn \d+\.\d+\.\d+, commit ([0-9a-f]{40}( with changes)?|unknown), proved with rattle-kit-\S+ logic \w+$")
-        self.assertTrue(second and not end)
+        first, second, third, end = releases.lines().split("\n")
+        self.assertRegex(first, r"^psyn \d+\.\d+\.\d+, commit ([0-9a-f]{40}( with changes)?|unknown)$")
+        self.assertTrue(second.endswith(f", SHA-256 {releases.sum_of(program())}: not of a release"))
+        self.assertTrue(third and not end)
 
     def test_the_file_of_a_release_is_read_again(self):
         self.assertEqual(releases.of_text(RELEASE.text()), RELEASE)

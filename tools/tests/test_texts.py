@@ -179,7 +179,7 @@ class Others(unittest.TestCase):
     def test_a_circuit(self):
         made = circuit.read(CIRCUIT.decode())
         self.assertEqual((made.names("i"), made.names("l"), made.names("o")), (["push"], ["lamp"], ["dark", "o1", "o2"]))
-        for text in ("", "aag x", "aag 1 1 0 0 0\n", "aag 1 1 0 0 0\nx\n", "aag " + "9" * 5_000 + " 0 0 0 0\n"):
+        for text in ("", "aag x", "aag 1 1 0 0 0\n", "aag 1 1 0 0 0\nx\n", "aag " + "9" * 5_000 + " 0 0 0 0\n", "aag ² 0 0 0 0\n"):
             with self.subTest(text[:20]), self.assertRaises(Unreadable):
                 circuit.read(text)
 

@@ -2,12 +2,14 @@
 import os
 import shutil
 import subprocess
+import sys
 import unittest
 
+from psyntool import families
 from psyntool.command import EVERYWHERE
 from psyntool.program import path as program
 from psyntool.table import COMMANDS
-from tests.tool import AUTOMATON, CERTIFICATE, CIRCUIT, GAME, OnFiles
+from tests.tool import AUTOMATON, CERTIFICATE, CIRCUIT, GAME, TOOL, OnFiles
 
 
 class Commands(OnFiles):
@@ -71,7 +73,8 @@ class Commands(OnFiles):
         for ending in (".aag", ".pg", ".cert"):
             with open(prefix + ending, "rb") as file:
                 parts.append(file.read())
-        self.assertEqual(done.stdout + b"%%\n".join(parts), whole)
+        self.assertTrue(parts[0].endswith(b"\nc\nwritten by psyn\n"))
+        self.assertEqual(done.stdout + b"%%\n".join([parts[0].removesuffix(b"c\nwritten by psyn\n"), *parts[1:]]), whole)
         self.assertEqual(self.tool("check", prefix + ".pg", prefix + ".cert").stdout, b"valid\n")
         self.assertEqual(self.tool("-o", prefix, "game", automaton).returncode, 2)
 
@@ -229,6 +232,29 @@ class Refusals(OnFiles):
     def test_a_program_that_is_not_there(self):
         done = self.tool("sim", self.file("circuit", CIRCUIT), "-", environment={"PSYN": os.path.join(self.room, "none")})
         self.assertIn(b"there is no such file, and no program", done.stderr)
+
+
+class Start(OnFiles):
+    def modules(self, *words):
+        """The modules of the tool that a command line imports."""
+        code = "import sys; sys.path.insert(0, sys.argv[1]); from psyntool.main import main; main(sys.argv[2:]); print(*sys.modules)"
+        command = [sys.executable, "-B", "-c", code, os.path.dirname(TOOL), *words]
+        said = subprocess.run(command, capture_output=True, text=True, check=True, cwd=self.room).stdout
+        return {name.removeprefix("psyntool.") for name in said.split() if name.startswith("psyntool.")}
+
+    def test_only_what_a_command_needs_is_imported(self):
+        parsing = set("main running words command table kinds usages places console signals ends texts".split())
+        asking = parsing | set("asking files program unmentioned texts.binary".split())
+        self.assertEqual(self.modules("chek"), parsing)
+        self.assertEqual(self.modules("help"), parsing | {"commands", "commands.help"})
+        self.assertEqual(self.modules("check", self.file("game", GAME), self.file("certificate", CERTIFICATE)), asking)
+        self.file("automaton", AUTOMATON)
+        self.assertEqual(self.modules("synth", "automaton"), asking | set("commands commands.synth outputs remarks texts.report texts.circuit".split()))
+        self.file("grant", b"aag 1 1 0 1 0\n2\n2\ni0 r\no0 g\n")
+        self.assertEqual(self.modules("verify", "automaton", "grant"), asking | set("commands commands.verify outputs".split()))
+
+    def test_the_families_of_games_are_told(self):
+        self.assertTrue(COMMANDS["games"].says.endswith(f": {', '.join(families.FAMILIES)}"))
 
 
 class Help(OnFiles):

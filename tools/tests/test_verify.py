@@ -106,7 +106,6 @@ class Verify(unittest.TestCase):
             self.assertEqual(changes.answered(program(), AUTOMATON.decode(), text, False, False), said)
 
 
-CLOCKED = b"aag 2 2 0 1 0\n2\n4\n0\ni0 clk\ni1 r\no0 g\n"
 NEVER = b"aag 1 1 0 1 0\n2\n0\ni0 r\no0 g\n"
 WITHOUT_NAMES = b"HOA: v1 Start: 0 AP: 0 controllable-AP: Acceptance: 0 t --BODY-- State: 0 [t] 0 --END--\n"
 
@@ -125,6 +124,22 @@ class OfTheTool(OnFiles):
         with open(os.path.join(self.room, "lost.vcd"), "rb") as file:
             self.assertIn(b"$scope module lasso $end", file.read())
         self.assertIn(b"rejected", self.tool("lasso", spec, late, "lost.stim").stdout)
+
+    def test_of_a_long_run_its_two_ends_are_shown(self):
+        latches = [f"{2 * number} {2 * number - 2 if number > 2 else 1}\n" for number in range(2, 152)]
+        late = self.file("late", f"aag 151 1 150 1 0\n2\n{''.join(latches)}303\ni0 r\no0 g\n".encode())
+        head = b'HOA: v1 Start: 0 AP: 2 "r" "g" controllable-AP: 1 Acceptance: 1 Fin(0) --BODY-- State: 0 [1] 0 '
+        broken = "", 51, ["150   0      !r !g   no edge", "there is no edge: the run ends"]
+        odd = "[!1] 0 {0}", 52, ["150   0      !r !g   0", "the lap begins; it comes again behind step 151", "151   0      !r !g   0"]
+        for edge, count, end in (broken, odd):
+            spec = self.file("spec", head + edge.encode() + b" --END--\n")
+            told = self.tool("verify", spec, late).stderr.decode().splitlines()
+            self.assertEqual((told[50], told[51]), ("49    0      !r g", f".. {count} steps are not shown .."))
+            self.assertEqual(told[-len(end) :], end)
+            self.assertLess(len(told), 106)
+        lasso = self.file("lasso", b"0\n" * 60 + b"-\n" + b"0\n" * 60)
+        traced = self.tool("lasso", "--trace", spec, self.file("silent", NEVER), lasso).stdout.decode().splitlines()
+        self.assertEqual(traced[52:55], [".. 20 steps are not shown ..", "the lap begins at step 60; it comes again behind step 119", "70    0      !r !g   0"])
 
     def test_files_that_can_not_be_written(self):
         self.file("spec", AUTOMATON)
@@ -150,13 +165,55 @@ class OfTheTool(OnFiles):
         self.assertEqual(self.refused("convert", "--drop", "push", self.file("never", NEVER)), "no input of the circuit is called 'push'")
 
     def test_an_input_that_nothing_reads(self):
-        spec, clocked = self.file("spec", AUTOMATON), self.file("clocked", CLOCKED)
-        done = self.tool("verify", spec, clocked)
+        self.file("spec", AUTOMATON)
+        for name, rest in (("clocked", "2\n4\n4\ni0 clk\ni1 r\no0 g\n"), ("twice", "2\n4\n2\ni1 clk\ni0 r\no0 g\nc\ni1 x\n")):
+            self.file(name, f"aag 2 2 0 1 0\n{rest}".encode())
+            done = self.tool("verify", "spec", name)
+            told = f"{name}: input clk left out: the automaton does not mention it, and nothing reads it\n"
+            self.assertEqual((done.stdout, done.stderr.decode(), done.returncode), (b"wins\n", told, 0))
+            self.assertEqual(self.tool("verify", "--quiet", "spec", name).stdout, b"wins\n")
+        for given, behind in ((b"01\n-\n10\n", "standard input: so are the digits of clk\n"), (b"1\n-\n0\n", ""), (b"r\n-\n!r\n", "")):
+            done = self.tool("lasso", "spec", "clocked", "-", given=given)
+            self.assertEqual((done.stdout, done.stderr.decode()), (b"accepted stem 1 lap 1\n", told.replace("twice", "clocked") + behind))
+        far = self.tool("verify", "spec", self.file("far", b"aag 5 3 0 1 0\n2\n4\n8\n16\ni0 clk\ni1 r\ni2 rst\no0 g\n"))
+        self.assertEqual((far.stdout, far.returncode), (b"fault 62 Literal at 16\n", 1))
+        self.assertIn(b"/far: inputs clk, rst left out: the automaton does not mention them, and nothing reads them\n", far.stderr)
+        self.assertIn(b"/far:5:1: Literal\n  16\n", far.stderr)
+
+    def test_an_input_that_the_automaton_does_not_mention_is_read(self):
+        spec, circuit = self.file("spec", AUTOMATON), self.file("circuit", b"aag 3 2 0 1 1\n2\n4\n6\n6 2 4\ni0 clk\ni1 r\no0 g\n")
+        done = self.tool("verify", spec, circuit)
         self.assertEqual((done.stdout, done.returncode), (b"fault 72 Symbols\n", 1))
-        told = b"among the circuit's inputs: too many clk\nnothing reads clk: `convert --drop NAME` leaves out such an input\ncause:"
+        told = b"among the circuit's inputs: too many clk\nthe circuit reads clk, which the automaton does not mention\ncause:"
         self.assertEqual(done.stderr[: len(told)], told)
-        dropped = self.tool("convert", "--drop", "clk", clocked)
-        self.assertEqual(self.tool("verify", "--quiet", spec, "-", given=dropped.stdout).stdout.split(b"\n")[0], b"loses")
+
+    def test_an_answer_of_another_tool_is_a_circuit(self):
+        spec, grant = self.file("spec", AUTOMATON), b"aag 1 1 0 1 0\n2\n2\ni0 r\no0 g\n"
+        binary = self.tool("convert", self.file("grant", grant)).stdout
+        full = self.tool("synth", "--full", spec).stdout
+        above = "the line REALIZABLE above the circuit"
+        for text, told in (
+            (b"REALIZABLE\n" + grant, f"{above} is left out\n"),
+            (b"REALIZABLE \r\n\r\n" + grant.replace(b"\n", b"\r\n"), f"{above} is left out\nit: 5 carriage return(s) at line ends are left out\n"),
+            (b"REALIZABLE\n" + binary, f"{above} is left out\nit: converted from the binary form of AIGER; places are those of the ASCII form\n"),
+            (full, f"{above}, and what is below it, is left out\n"),
+        ):
+            self.file("it", text)
+            done = self.tool("verify", spec, "it")
+            self.assertEqual((done.stdout, done.stderr.decode(), done.returncode), (b"wins\n", f"it: {told}", 0))
+        wrong = self.tool("verify", spec, self.file("it", b"UNREALIZABLE\naag 1 1 0 1 0\n2\n4\n"))
+        self.assertIn(b"it:4:1: Literal\n  4\n", wrong.stderr)
+        self.assertEqual(self.refused("verify", spec, self.file("it", b"UNREALIZABLE\n")), f"{self.room}/it: this is an answer UNREALIZABLE without a circuit")
+
+    def test_a_byte_0_in_a_comment(self):
+        spec, grant = self.file("spec", AUTOMATON), b"aag 1 1 0 1 0\n2\n2\ni0 r\no0 g\nc\nwritten by abc\0\n"
+        path = self.file("grant", grant)
+        done = self.tool("verify", spec, path)
+        self.assertEqual((done.stdout, done.stderr), (b"wins\n", b""))
+        binary = self.file("binary", self.tool("convert", path).stdout)
+        self.assertEqual(self.tool("convert", "--quiet", binary).stdout, grant)
+        self.assertEqual(self.tool("verify", spec, binary).stdout, b"wins\n")
+        self.assertEqual(self.refused("verify", spec, self.file("grant", grant.replace(b"o0 g", b"o0 g\0"))), f"{path}: this is no text (it holds a byte 0)")
 
     def test_odd_names(self):
         head = 'HOA: v1 Start: 0 AP: 2 "a  b" "$end\\"ü" controllable-AP: 1 Acceptance: 0 t'
@@ -167,6 +224,41 @@ class OfTheTool(OnFiles):
         with open(os.path.join(self.room, "odd.vcd"), encoding="utf-8") as file:
             names = [line.split()[4] for line in file if line.startswith("$var")]
         self.assertEqual(names, ["a__b", '_end"ü', "lap"])
+
+
+BROKEN = """\
+step  state                                 letter       sets
+0     0 no r waits; no free waits           !free r !g   1
+1     1 r waits for 1 step; no free waits   !free !r !g  1
+2     4 r waits for 2 steps; no free waits  !free !r !g  1
+3     6 r waits for 3 steps; no free waits  !free !r !g
+step 3 breaks the guarantee answered-within-3(r,g)
+  behind each r comes g, at most 3 steps later
+"""
+UNMET = """\
+rejected stem 1 lap 1
+step  state                        letter       sets
+0     0 no r waits; no free waits  !free !r !g  1
+the lap begins; it comes again behind step 1
+1     0 no r waits; no free waits  free !r !g   0
+the lap never meets the guarantee answered(free,g)
+  behind each free comes g, at its step or later
+"""
+
+
+class OfParts(OnFiles):
+    """The run of an automaton that was composed of parts names the parts that fail."""
+
+    def test_the_guarantee_that_breaks_is_named_and_the_run_stops_there(self):
+        parts = {"free": ("again-and-again", "it=free"), "r": ("answered-within-3", "request=r answer=g"), "f": ("answered", "request=free answer=g")}
+        stored = {name: [os.path.join(TOP, "examples", "parts", f"{part}.hoa"), "--as", *renamed.split()] for name, (part, renamed) in parts.items()}
+        words = ["--outs", "g", "--assume", *stored["free"], "--guarantee", *stored["r"], "--guarantee", *stored["f"]]
+        spec, never = self.file("spec", self.tool("compose", *words).stdout), self.file("never", b"aag 2 2 0 1 0\n2\n4\n0\ni0 r\ni1 free\no0 g\n")
+        done = self.tool("verify", spec, never)
+        self.assertEqual((done.stdout[:6], done.stderr.decode()), (b"loses\n", BROKEN))
+        strict = self.tool("verify", self.file("strict", self.tool("compose", "--strict", *words).stdout), never).stderr.decode()
+        self.assertEqual(strict, BROKEN.replace("!free !r !g\n", "!free !r !g  no edge\nthere is no edge: the run ends\n"))
+        self.assertEqual(self.tool("lasso", "--trace", spec, never, "-", given=b"00\n-\n01\n").stdout.decode(), UNMET)
 
 
 class Shrink(OnFiles):
@@ -188,9 +280,9 @@ class Shrink(OnFiles):
     @unittest.skipUnless(any(map(shutil.which, NAMES)), "abc is not installed")
     def test_what_is_no_circuit_of_the_automaton(self):
         spec = self.file("spec", AUTOMATON)
-        other = self.tool("shrink", spec, self.file("clocked", CLOCKED))
+        other = self.tool("shrink", spec, self.file("other", b"aag 1 1 0 1 0\n2\n2\ni0 clk\no0 g\n"))
         self.assertEqual((other.stdout, other.returncode), (b"", 1))
-        self.assertTrue(other.stderr.startswith(b"fault 72 Symbols\namong the circuit's inputs: too many clk\n"))
+        self.assertTrue(other.stderr.startswith(b"fault 72 Symbols\namong the circuit's inputs: missing r; too many clk\n"))
         twice = self.tool("shrink", spec, spec).stderr
         self.assertEqual(twice, f"psyn: {spec} is an automaton; shrink wants AUTOMATON CIRCUIT\n".encode())
         empty = self.tool("shrink", self.file("all", WITHOUT_NAMES), self.file("empty", b"aag 0 0 0 0 0\n"))

@@ -17,7 +17,7 @@ _psyn() {
       @VALUED@) ((at++)); many= ;;
       @MANY@) many=${COMP_WORDS[at]} ;;
       -?*) many= ;;
-      *) if [[ -z $command ]]; then command=${COMP_WORDS[at]}; elif [[ -z $many ]]; then ((place++)); fi ;;
+      *) if [[ -z $command || $command == @ANOTHER@ ]]; then command=${COMP_WORDS[at]}; elif [[ -z $many ]]; then ((place++)); fi ;;
     esac
   done
   case $command in
@@ -25,7 +25,7 @@ _psyn() {
 @CASES@
   esac
   case $before in
-    -o | --picture) mapfile -t COMPREPLY < <(compgen -f -- "$word"); return ;;
+    @PATHED@) mapfile -t COMPREPLY < <(compgen -f -- "$word"); return ;;
     --by) mapfile -t COMPREPLY < <(compgen -c -- "$word"); return ;;
     @NUMBERED@) COMPREPLY=(); return ;;
   esac
@@ -38,6 +38,8 @@ _psyn() {
     ?*) COMPREPLY=(); return ;;
   esac
   [[ -n $words ]] && mapfile -t COMPREPLY < <(compgen -W "$words" -- "$word") && return
+  # a command that runs another one reads files again and again
+  [[ ${#kinds[@]} -gt 0 ]] && place=$((place % ${#kinds[@]}))
   endings=${kinds[place]:-$endings}
   mapfile -t all < <(compgen -f -- "$word")
   for name in "${all[@]}"; do
@@ -59,7 +61,7 @@ _psyn() {
       @VALUED@) ((at++)); many= ;;
       @MANY@) many=${words[at]} ;;
       -?*) many= ;;
-      *) if [[ -z $command ]]; then command=${words[at]}; elif [[ -z $many ]]; then ((place++)); fi ;;
+      *) if [[ -z $command || $command == @ANOTHER@ ]]; then command=${words[at]}; elif [[ -z $many ]]; then ((place++)); fi ;;
     esac
   done
   case $command in
@@ -69,7 +71,8 @@ _psyn() {
   case $many in
     @PARTED@) words_here=() kinds=() place=1; kinds[1]=hoa ;;
   esac
-  if [[ -z $command ]]; then
+  [[ ${#kinds} -gt 0 ]] && place=$(((place - 1) % ${#kinds} + 1))
+  if [[ -z $command || $command == @ANOTHER@ ]]; then
     _describe 'command' commands
   elif [[ ${#words_here} -gt 0 ]]; then
     _describe 'word' words_here
@@ -92,7 +95,8 @@ def filled(template, **parts):
 
 def valued():
     """The flags that take one value, with the name of the value."""
-    return {flag.name: flag.value for command in COMMANDS.values() for flag in command.all_flags if flag.value and not flag.many}
+    flags = [*(flag for command in COMMANDS.values() for flag in command.all_flags), *EVERYWHERE]
+    return {flag.name: flag.value for flag in flags if flag.value and not flag.many}
 
 
 def many(value=""):
@@ -112,7 +116,12 @@ def endings(command):
 
 def words_of(command):
     """The words that may follow a command in place of files."""
-    return {"help": list(COMMANDS), "games": list(FAMILIES)}.get(command.name, [])
+    return {"help": list(COMMANDS), "each": list(COMMANDS), "games": list(FAMILIES)}.get(command.name, [])
+
+
+def another():
+    """The command that runs another command, which the word behind it names."""
+    return next(command.name for command in COMMANDS.values() if command.runs_another)
 
 
 def bash():
@@ -122,15 +131,18 @@ def bash():
         parts += [f"kinds=({' '.join(repr(one) for one in endings(command))})"] if endings(command) else []
         parts += [f"words='{' '.join(words_of(command))}'"] if words_of(command) else []
         cases.append(f"    {command.name}) {'; '.join(parts)} ;;")
-    numbered = [name for name, value in valued().items() if value == "N"]
+    numbered = [name for name, value in valued().items() if value in ("N", "SECONDS", "MIB")]
+    pathed = [name for name, value in valued().items() if value in ("FILE", "PREFIX")]
     return HEAD.format("bash") + "\n" + filled(
         BASH,
         valued=" | ".join(valued()),
         many=" | ".join(many()),
         parted=" | ".join(many("PART..")),
+        another=another(),
         commands=" ".join(COMMANDS),
         cases="\n".join(cases),
         numbered=" | ".join(numbered),
+        pathed=" | ".join(pathed),
         everywhere=" ".join(flag.name for flag in EVERYWHERE),
     )
 
@@ -152,6 +164,7 @@ def zsh():
         valued="|".join(valued()),
         many="|".join(many()),
         parted="|".join(many("PART..")),
+        another=another(),
         commands=zsh_words({name: command.says for name, command in COMMANDS.items()}),
         cases="\n".join(cases),
         everywhere=zsh_words({flag.name: flag.says for flag in EVERYWHERE}),

@@ -89,6 +89,22 @@ def sentences_of(paragraph):
     return re.split(r"(?<=[.?!])[)*']*\s+", bare)
 
 
+def tables_of(lines):
+    """The tables, each as a list of its rows: the number of the row's line, and the number of its cells. A row is one
+    line; `\\|` does not end a cell, and neither does the end of the line."""
+    tables, inside, before = [], False, 0
+    for number, line in enumerate(lines, 1):
+        if line.startswith("```"):
+            inside = not inside
+        if inside or not line.startswith("|"):
+            continue
+        if not before or before + 1 < number:
+            tables.append([])
+        before = number
+        tables[-1].append((number, len(re.findall(r"(?<!\\)\|", line)) - 1))
+    return tables
+
+
 def links_of(lines):
     """The links to files of the repository, each with the number of its line."""
     return [

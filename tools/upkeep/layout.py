@@ -1,6 +1,7 @@
 """Lays out definitions, proofs and clauses: text that fits on one line is put on one line, and a longer line is broken
 where the cost is least."""
 import re
+import textwrap
 
 from upkeep.antt import indent_of
 
@@ -136,6 +137,11 @@ ENTRY = re.compile(r"\S.*?\s{2,}\S")
 # In .rt files, only lines that begin with one of these words are laid out by this module; `rt fmt` lays out all other
 # lines.
 CLAUSE = re.compile(r"\s*(ghost|requires|ensures)\b")
+# How a line of a document begins that is no prose; and how an item of a list begins.
+NO_PROSE = ("|", "#", "```", ">", "    ")
+BULLET = re.compile(r"\s*(- |\d+\. )")
+# A row of a table in a document or in a comment: one line of any length.
+ROW = re.compile(r"\s*(--|//[/!]?)?\s*\|.*\|\s*")
 IMPORT = re.compile(r"(\s*(?:pub |ghost )?use [^{]*\{)(.*)(\}.*)")
 
 
@@ -145,7 +151,9 @@ def kinds_of(lines):
     kinds, entry, more = [], None, None
     for line in lines:
         _, gap, text = COMMENT.fullmatch(line).groups()
-        if not text or text.startswith("#") or len(gap) < 2:
+        if ROW.fullmatch(line):
+            kind, entry, more = "row", None, None
+        elif not text or text.startswith("#") or len(gap) < 2:
             kind, entry, more = ("text" if text and not text.startswith("#") else "example"), None, None
         elif entry is not None and len(gap) > entry:
             more = len(gap) if more is None else more
@@ -167,9 +175,10 @@ def comment_filled(lines):
     for at, (line, kind) in enumerate(zip(lines, kinds)):
         head, gap, text = COMMENT.fullmatch(line).groups()
         indent = head + gap
-        words = re.findall(r"\S+\s*", f"{rest} {text}" if rest else text)
+        words = [line] if kind == "row" else re.findall(r"\S+\s*", f"{rest} {text}" if rest else text)
+        indent = "" if kind == "row" else indent
         goes_on = at + 1 < len(lines) and kinds[at + 1] == kind != "example" and not starts[at + 1]
-        further = indent + " " * {"text": 0, "entry": 10 if starts[at] else 0, "example": 4}[kind]
+        further = indent + " " * {"text": 0, "row": 0, "entry": 10 if starts[at] else 0, "example": 4}[kind]
         rest = ""
         while words:
             now = indent + words.pop(0)
@@ -245,10 +254,31 @@ def text_within_width(text, is_code_file):
         if is_ours and at in comments:
             out += comment_filled(comments[at])
             behind = at + len(comments[at])
-        elif is_ours and len(line) > WIDTH:
+        elif is_ours and len(line) > WIDTH and not ROW.fullmatch(line):
             out += within_width(line)
         else:
             out.append(line)
+    return "\n".join(out)
+
+
+def document_within_width(text):
+    """The text of a document, where each paragraph that has a long line is filled anew. Tables, code, headings and
+    quotations stay as they are."""
+    lines, out, at, inside = text.split("\n"), [], 0, False
+    while at < len(lines):
+        end = at + 1
+        inside ^= lines[at].startswith("```")
+        is_prose = not inside and lines[at].strip() and not lines[at].startswith(NO_PROSE)
+        while is_prose and end < len(lines) and lines[end].strip() and not lines[end].startswith(NO_PROSE[:-1]) and not BULLET.match(lines[end]):
+            end += 1
+        paragraph, at = lines[at:end], end
+        if is_prose and max(map(len, paragraph)) > WIDTH:
+            bullet = BULLET.match(paragraph[0])
+            indent = " " * (bullet.end() if bullet else indent_of(paragraph[0]))
+            words = " ".join(line.strip() for line in paragraph)
+            begin = " " * indent_of(paragraph[0])
+            paragraph = textwrap.wrap(words, WIDTH, initial_indent=begin, subsequent_indent=indent, break_long_words=False, break_on_hyphens=False)
+        out += paragraph
     return "\n".join(out)
 
 

@@ -2,7 +2,7 @@
 docs/psyn.1"""
 import re
 
-from psyntool import faults
+from psyntool import faults, reporting
 from psyntool.command import flags_told
 from psyntool.table import COMMANDS
 
@@ -29,12 +29,17 @@ FORMATS = {
     "circuit": "AIGER 1.9 in ASCII (`aag`), without properties; the tool also accepts the binary form (`aig`).",
     "stimulus": "a line for each letter, with a digit 0 or 1 for each input; for lasso, a line `-` between the stem and the lap.",
 }
+JSON = """\
+With `--json`, a command prints one line of JSON in place of its answer, an object with the following fields. A field that does
+not apply is null. `each --json` prints such a line for each run. Explanations still go to standard error.
+"""
 STATUSES = {
     "0": "an answer",
     "10": "REALIZABLE: a controller's circuit follows",
     "20": "UNREALIZABLE: an environment's circuit follows",
     "1": "a fault, or an answer that could not be written completely",
     "2": "the command line or a file was refused",
+    "3": "with --check: the answer is loses, rejected, or fault 40, 50 or 51 of judge",
     "130": "ended by Ctrl-C; 143 by TERM and 129 by HUP",
 }
 
@@ -62,6 +67,7 @@ def page():
     section("COMMANDS", *(entry(it.usage, it.says + ".") for it in COMMANDS.values() if it.is_of_the_program))
     section("COMMANDS OF THE TOOL ALONE", *(entry(it.usage, it.says + ".") for it in COMMANDS.values() if not it.is_of_the_program))
     section("FLAGS", "Flags may stand anywhere; after \\fB\\-\\-\\fR no word is a flag.\n", *(entry(name, f"{says}.") for name, says in flags_told(COMMANDS)))
+    section("JSON", plain(JSON), *(entry(name, f"{says}.") for name, says in reporting.FIELDS.items()))
     section("FORMATS", *(entry(name, says) for name, says in FORMATS.items()))
     section("EXIT STATUS", *(entry(status, says + ".") for status, says in STATUSES.items()))
     told = [(f"{fault.number or ''} {fault.name}".strip(), fault.entries["Cause"]) for fault in faults.read_document()]

@@ -1,5 +1,6 @@
 """Makes the archive of a release: the program, the tool, its documents and examples, docs/PROVED.md, and the sums of
 all files."""
+import dataclasses
 import glob
 import gzip
 import hashlib
@@ -49,7 +50,8 @@ def contents(program, release, lines):
     with open(program, "rb") as file:
         files["psyn"] = (file.read(), True)
     files |= {name: (make().encode(), False) for name, make in COMPLETIONS.items()}
-    files["RELEASE"] = (release.text().encode(), False)
+    summed = dataclasses.replace(release, program=hashlib.sha256(files["psyn"][0]).hexdigest())
+    files["RELEASE"] = (summed.text().encode(), False)
     files["GATE"] = ("".join(f"{line}\n" for line in [f"commit {release.commit}", *lines]).encode(), False)
     sums = "".join(f"{hashlib.sha256(data).hexdigest()}  {name}\n" for name, (data, _) in sorted(files.items()))
     files[SUMS] = (sums.encode(), False)

@@ -1,2 +1,1 @@
-"""The commands, one file each: `COMMAND` describes a command's usage and names the function that runs it. `table` lists
-them."""
+"""The commands, one file each: its function `run` runs the command. `table` describes the commands."""

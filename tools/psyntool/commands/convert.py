@@ -1,10 +1,7 @@
 """`convert`: converts a circuit from the ASCII form of AIGER to the binary form, or back."""
 from psyntool import console
-from psyntool.command import Command, Flag
-from psyntool.kinds import Kind
+from psyntool.command import DROP
 from psyntool.texts import binary, circuit
-
-DROP = Flag("--drop", "leave out the input of that name, which nothing may read (as the clock that yosys adds)", "NAME")
 
 
 def run(request):
@@ -17,6 +14,3 @@ def run(request):
     else:
         console.write(binary.binary_form(made))
     return 0
-
-
-COMMAND = Command("convert", "a circuit in the other form of AIGER: `aag` to `aig`, and back", (Kind.CIRCUIT,), run, own=(DROP,))

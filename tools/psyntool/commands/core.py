@@ -1,8 +1,7 @@
 """`core`: if a specification in parts has no controller, the guarantees that conflict; otherwise the assumptions that a
 controller needs."""
-from psyntool import console, outputs
-from psyntool.command import MOORE, OF_PARTS, TO_FILES, Command
-from psyntool.kinds import Kind
+from psyntool import console, outputs, remarks
+from psyntool.command import TO_FILE
 from psyntool.parts import cores, specification
 from psyntool.parts.composing import Composer
 
@@ -11,13 +10,18 @@ WORD = {True: "REALIZABLE", False: "UNREALIZABLE"}
 
 
 def run(request):
-    paths, prefix = [], request.value(TO_FILES)
+    paths, prefix = [], request.value(TO_FILE)
     if prefix is not None:
-        paths = outputs.checked([f"{prefix}.hoa"], TO_FILES.shown, prefix)
-    found = cores.core_of(cores.Asking(specification.asked(request), request.passed))
+        paths = outputs.own(request, [f"{prefix}.hoa"], TO_FILE.shown, prefix)
+    asked = specification.asked(request)
+    outputs.refuse_read(request, paths)
+    asking = cores.Asking(asked, request.passed)
+    found = cores.core_of(asking)
     if paths:
         outputs.write_all({paths[0]: Composer(found.specification).composed().text()})
     console.write_text("\n".join([WORD[found.has_controller], head(found), *rows(found.parts), ""]))
+    if found.has_controller and not request.quiet:
+        console.tell(*remarks.failing(asking.composer, request.passed))
     return STATUS[found.has_controller]
 
 
@@ -36,14 +40,3 @@ def rows(parts):
     """A line for each part, with its name and with the sentence that describes it."""
     width = max((len(part.title) for part in parts), default=0)
     return [f"  {part.title:<{width}}  {part.sentence}".rstrip() for part in parts]
-
-
-COMMAND = Command(
-    "core",
-    "of parts without a controller guarantees that conflict, with one the assumptions that it needs; none can be left out",
-    (Kind.LIST,),
-    run,
-    flags=(MOORE,),
-    own=(*OF_PARTS, TO_FILES),
-    least=0,
-)

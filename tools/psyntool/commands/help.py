@@ -1,6 +1,6 @@
 """`help`: what the tool can do, or how one command is used."""
 from psyntool import console, places
-from psyntool.command import Command, flags_told
+from psyntool.command import flags_told
 from psyntool.ends import Refused
 from psyntool.words import nearest
 
@@ -29,6 +29,9 @@ The same by buttons, with pictures, on a page for a browser; of a list of parts 
   {name} page out spec.hoa > page.html
   {name} page --parts arbiter.parts > page.html
 
+The same of any circuit that wins, whoever made it:
+  {name} page --circuit mine.aag spec.hoa > page.html
+
 Who wins this game, by which moves?
   {name} solve game.pg > solution.cert
 
@@ -56,6 +59,13 @@ A certificate, or a circuit, from the solution of another solver, whatever its c
   {name} solve --by 'oink {{game}} {{solution}}' game.pg
   {name} synth --by 'oink {{game}} {{solution}}' arbiter.hoa
 
+Several files in one run, with a line for each; the same as JSON for another program, with limits for each run:
+  {name} each synth arbiter.hoa lift.hoa
+  {name} each --json --time 60 --memory 4000 verify arbiter.hoa arbiter.aag lift.hoa lift.aag
+
+Does this circuit win? The exit status tells (0, or 3 if it loses):
+  {name} verify --check --quiet arbiter.hoa arbiter.aag
+
 The commands of the program:
 {programs}
 
@@ -66,10 +76,12 @@ Flags, which stand anywhere (behind `--` no word is one):
 {flags}
 
 The answer of the program is printed unchanged, and its exit status is this tool's: 0 for an answer (10 and 20 for REALIZABLE and
-UNREALIZABLE), 1 for a fault or an answer that could not be written whole, 2 for a refused command line or file, 130 for Ctrl-C.
+UNREALIZABLE), 1 for a fault or an answer that could not be written whole, 2 for a refused command line or file, 3 with --check for
+the other verdict, 130 for Ctrl-C.
 What is wrong is explained on standard error: file, line and column, the cause, how to mend it (docs/FAULTS.md). A text whose last
-line is not ended is ended by a newline; carriage returns at line ends and a byte order mark are left out; standard error says so,
-and places are those of your file. With --quiet the tool becomes the program.
+line is not ended is ended by a newline. Left out are carriage returns at line ends, a byte order mark, a line REALIZABLE above a
+circuit, and an input of it that the automaton does not mention and nothing reads. Standard error says so, and places are those of
+your file. With --quiet the tool becomes the program.
 
 The program is $PSYN, or {program}.
 """
@@ -111,6 +123,3 @@ def run(request):
         raise Refused(f"there is no command {request.words[0]}{nearest(request.words[0], commands)}")
     console.write_text(use_of(commands[request.words[0]]))
     return 0
-
-
-COMMAND = Command("help", "what the tool can do, or how a command is used", ("COMMAND",), run, least=0)

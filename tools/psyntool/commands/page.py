@@ -2,9 +2,10 @@
 links that save the texts."""
 import os
 
-from psyntool import asking, console, files, program
-from psyntool.command import PARTS, Command
+from psyntool import asking, console, files, outputs, program, remarks
+from psyntool.command import CIRCUIT, ENV, FULL, MOORE, PARTS, STRICT
 from psyntool.ends import Refused, Unwritten
+from psyntool.files import Reader
 from psyntool.kinds import Kind
 from psyntool.pages import writing
 from psyntool.parts import specification
@@ -12,12 +13,21 @@ from psyntool.parts.composing import Composer
 from psyntool.plays import reading
 from psyntool.texts import report
 
+# Of an automaton with more states than this, standard error says at once that it is not drawn. A smaller one may be too
+# large for a picture too, as the page then says.
+MANY = 200
+
 
 def run(request):
     if request.has(PARTS):
         return of_parts(request)
+    request.refuse_without(STRICT, PARTS)
+    if request.has(CIRCUIT):
+        return of_circuit(request)
+    request.refuse_without(MOORE, PARTS)
     given = reading.given(request)
-    refuse_other(given)
+    tell_what_is_not_drawn(request, len(given.board.automaton.states))
+    board = judged(given)
     prefix = os.path.basename(request.words[0])
     titles = [kind.title for kind in reading.KINDS]
     texts = [(title, prefix + ending, text.bytes) for title, ending, text in zip(titles, reading.ENDINGS, given.printed)]
@@ -26,30 +36,76 @@ def run(request):
     texts.append(("specification", name, given.specification.bytes))
     if kind is Kind.LIST:
         texts.append(("automaton of its parts", f"{prefix}.hoa", given.automaton.encode("utf-8", "surrogateescape")))
-    console.write_text(writing.page(prefix, given.board, texts))
+    console.write_text(writing.page(prefix, board, texts))
     return 0
+
+
+def tell_what_is_not_drawn(request, count):
+    if count > MANY and not request.quiet:
+        console.tell(f"the automaton has {count:,} states, too many for a picture: the page draws what is around the present state")
 
 
 def of_parts(request):
     """Composes the parts of a list, runs the program on the composed automaton, and prints a page that is made from the
     program's answer. If the answer is a fault or was cut off, prints and explains the answer instead."""
-    text = Composer(specification.asked(request)).composed().text()
+    composer = Composer(specification.asked(request))
+    text = composer.composed().text()
+    tell_what_is_not_drawn(request, text.count("\nState: "))
     whole = files.Text(Kind.AUTOMATON, "the automaton of these parts", text.encode("utf-8", "surrogateescape"))
-    answer = program.ask(files.joined("synth", ["--full"], [whole]))
+    answer = program.ask(files.joined("synth", [*request.passed, FULL.name], [whole]))
     if not asking.is_had(answer):
         console.write(answer.bytes)
         return asking.told(request, [whole], answer)
     printed = report.read(answer.bytes.decode("utf-8", "surrogateescape")).parts
     name = "parts" if request.words[0] == "-" else os.path.splitext(os.path.basename(request.words[0]))[0]
-    texts = [(kind.title, name + ending, part.encode("utf-8", "surrogateescape")) for kind, ending, part in zip(reading.KINDS, reading.ENDINGS, printed)]
+    stored = (printed[0] + outputs.CIRCUIT_ENDING, *printed[1:])
+    texts = [(kind.title, name + ending, part.encode("utf-8", "surrogateescape")) for kind, ending, part in zip(reading.KINDS, reading.ENDINGS, stored)]
     texts.append(("specification", f"{name}.hoa", whole.bytes))
     console.write_text(writing.page(name, reading.board_of(text, *printed), texts))
+    if answer.status == 10 and not request.quiet:
+        console.tell(*remarks.constants(answer), *remarks.failing(composer, request.passed))
     return 0
 
 
-def refuse_other(given):
-    """Refuses a game or a circuit that the program does not print for the given certificate, since nothing is proved of
-    such a game or circuit."""
+def of_circuit(request):
+    """The page of a circuit that psyn did not print. The program makes the game of the automaton and its certificate, and
+    judges the circuit."""
+    reader = Reader(request)
+    spec, made = reader.texts((Kind.FILE, Kind.CIRCUIT), (request.words[0] if request.words else "-", request.value(CIRCUIT)))
+    text = reading.automaton_of(reader, spec, request.command.name)
+    whole = files.Text(Kind.AUTOMATON, spec.name, text.encode("utf-8", "surrogateescape"))
+    tell_what_is_not_drawn(request, text.count("\nState: "))
+    printed = [made.string]
+    for command in ("game", "cert"):
+        answer = program.ask(files.joined(command, request.passed, [whole]))
+        if not asking.is_had(answer):
+            console.write(answer.bytes)
+            return asking.told(request, [whole], answer)
+        printed.append(answer.text)
+    board = reading.board_of(text, *printed, name=spec.name, is_printed=False)
+    refuse_losing(board, whole, made)
+    name = os.path.splitext(os.path.basename(request.value(CIRCUIT)))[0]
+    texts = [(kind.title, name + ending, part.encode("utf-8", "surrogateescape")) for kind, ending, part in zip(reading.KINDS, reading.ENDINGS, printed)]
+    texts.append(("specification", f"{name}.hoa", whole.bytes))
+    console.write_text(writing.page(name, board, texts))
+    return 0
+
+
+def refuse_losing(board, whole, made):
+    """Refuses a circuit that `verify` does not find to win."""
+    flags = [*([ENV.name] if board.winner else []), *([] if board.game.vertices[0].owner else [MOORE.name])]
+    answer = program.ask(files.joined("verify", flags, [whole, made]))
+    if answer.died:
+        raise Unwritten(f"verify of this circuit: {answer.died}")
+    if answer.is_fault:
+        raise Refused(f"{made.name}: verify answers to it: {answer.text.rstrip()}")
+    if answer.bytes != b"wins\n":
+        raise Refused(f"{made.name} loses, so there is no page of it: `verify` tells a counterexample")
+
+
+def judged(given):
+    """The board for a page of given files. A game that the program does not print for the given certificate is refused,
+    since nothing is proved of it; another circuit is judged by `verify`."""
     flags = ["--cert", "--full", *([] if given.board.game.vertices[0].owner else ["--moore"])]
     specified = files.Text(Kind.AUTOMATON, given.specification.name, given.automaton.encode("utf-8", "surrogateescape"))
     answer = program.ask(files.joined("synth", flags, [specified, given.printed[2]]))
@@ -58,17 +114,10 @@ def refuse_other(given):
     if answer.is_fault:
         raise Refused(f"{given.printed[2].name}: synth answers to it: {answer.text.rstrip()}")
     said = report.read(answer.bytes.decode("utf-8", "surrogateescape")).parts
-    other = next((text.name for text, part in zip(given.printed[:2], said) if text.string != part), None)
-    if other is not None:
-        raise Refused(f"{other} is not what psyn prints for this certificate, so nothing is proved of it")
-
-
-COMMAND = Command(
-    "page",
-    "a page for a browser, in one file: a play by buttons against the circuit in files PREFIX.., with pictures and what is proved; with "
-    "--parts, of psyn's answer to a list of parts",
-    ("PREFIX", "SPEC"),
-    run,
-    own=(PARTS,),
-    instead={PARTS.name: (Kind.LIST,)},
-)
+    if given.printed[1].string != said[1]:
+        raise Refused(f"{given.printed[1].name} is not what psyn prints for this certificate, so nothing is proved of it")
+    if given.printed[0].string.removesuffix(outputs.CIRCUIT_ENDING) == said[0]:
+        return given.board
+    board = reading.board_of(given.automaton, *(text.string for text in given.printed), name=given.specification.name, is_printed=False)
+    refuse_losing(board, specified, given.printed[0])
+    return board

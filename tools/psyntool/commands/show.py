@@ -1,12 +1,11 @@
 """`show`: a picture of a game, of an automaton or of a circuit, as Graphviz DOT."""
 from psyntool import console
-from psyntool.command import Command, Flag
+from psyntool.command import REACH
 from psyntool.ends import Refused
 from psyntool.kinds import Kind
 from psyntool.pictures import automata, circuits, games
 from psyntool.texts import automaton, certificate, circuit, game, report, solution
 
-REACH = Flag("--reach", "only what so many steps from the start reach (of a circuit: from the outputs back)", "N")
 READERS = {Kind.GAME: game.read, Kind.CERTIFICATE: certificate.read, Kind.AUTOMATON: automaton.read, Kind.CIRCUIT: circuit.read, Kind.SOLUTION: solution.read}
 WANTED = "show draws a game, a game and its certificate or solution, with both the automaton behind them, an automaton, or a circuit"
 
@@ -46,13 +45,3 @@ def drawn(found, reach):
     if set(found) == {Kind.CIRCUIT}:
         return circuits.picture(found[Kind.CIRCUIT], reach)
     raise Refused(f"there is no picture of {' and '.join(kind.with_article for kind in found)}; {WANTED}")
-
-
-COMMAND = Command(
-    "show",
-    "a picture of a game, with its certificate or solution and its automaton, of an automaton or of a circuit, as Graphviz DOT",
-    (Kind.FILE, Kind.FILE, Kind.FILE),
-    run,
-    own=(REACH,),
-    least=1,
-)

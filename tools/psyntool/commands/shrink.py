@@ -5,7 +5,6 @@ import tempfile
 from dataclasses import replace
 
 from psyntool import asking, children, console, files, program
-from psyntool.command import ENV, MOORE, Command
 from psyntool.ends import FAULT, Refused, Unwritten
 from psyntool.kinds import Kind
 from psyntool.texts import binary, circuit
@@ -57,13 +56,3 @@ def by_abc(abc, made):
             after = circuit.read(binary.ascii_form(file.read()).decode("utf-8", "surrogateescape"))
     symbols = {place: name for place, name in after.symbols.items() if place[0] != "l"}
     return replace(after, symbols=symbols, comment="")
-
-
-COMMAND = Command(
-    "shrink",
-    "a circuit made smaller by abc, if the smaller one wins",
-    (Kind.AUTOMATON, Kind.CIRCUIT),
-    run,
-    flags=(ENV, MOORE),
-    is_of_the_program=False,
-)

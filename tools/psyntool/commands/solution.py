@@ -1,7 +1,5 @@
 """`solution`: a certificate's winners and moves, in the format that other solvers write."""
 from psyntool import console
-from psyntool.command import Command
-from psyntool.kinds import Kind
 from psyntool.pictures.games import OTHER_GAME
 from psyntool.texts import Unreadable, certificate, game, solution
 
@@ -14,6 +12,3 @@ def run(request):
     entries = {identity: solution.Entry(entry.winner, entry.move, 0) for identity, entry in judged.entries.items()}
     console.write_text(solution.Solution(entries).text())
     return 0
-
-
-COMMAND = Command("solution", "a certificate's winners and moves as a solution (`paritysol`)", (Kind.GAME, Kind.CERTIFICATE), run)

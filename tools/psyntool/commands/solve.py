@@ -1,14 +1,15 @@
 """`solve`: a certificate of a game; with --by, made from the solution of another solver."""
-from psyntool import asking, judging, solvers
-from psyntool.command import BY, PICTURE, of_the_program
+from psyntool import asking
+from psyntool.command import BY, KEEP, PICTURE
 
 
 def run(request):
-    judging.check_picture(request)
+    request.refuse_without(PICTURE, BY)
+    request.refuse_without(KEEP, BY)
     if not request.has(BY):
         return asking.run(request)
-    path, solver = judging.path_of(request), solvers.Solver(request)
-    return solver.hand_on(*solver.judged(request.texts()[0]), path)
+    from psyntool import judging, solvers
 
-
-COMMAND = of_the_program("solve", "a certificate of a game", run, own=(BY, PICTURE))
+    solver = solvers.Solver(request)
+    [game], path = judging.texts_and_path(request)
+    return solver.hand_on(*solver.judged(game), path)

@@ -1,57 +1,79 @@
 """`synth`: a circuit for an automaton, or for a specification in parts. With -o, the circuit, the game and the
 certificate go to separate files; with --by, another solver solves the game."""
-from psyntool import asking, console, files, judging, outputs, program, solvers
-from psyntool.command import BY, CERT, FULL, MOORE, OF_PARTS, PARTS, PICTURE, TO_FILES, of_the_program
+from psyntool import asking, console, files, outputs, program
+from psyntool.command import BY, CERT, FULL, KEEP, MOORE, OF_PARTS, PARTS, PICTURE, TO_FILES
 from psyntool.ends import FAULT, Refused
 from psyntool.kinds import Kind
-from psyntool.parts import specification
-from psyntool.parts.composing import ASSUMPTIONS_FAIL, Composer
-from psyntool.texts import Unreadable, automaton, report
+from psyntool.texts import Unreadable, report
 
 ENDINGS = (".aag", ".pg", ".cert")
-BY_BREAKING = "a controller can make the assumptions fail, so this one may win without keeping the guarantees"
 
 
 def run(request):
-    judging.check_picture(request)
+    request.refuse_without(PICTURE, BY)
+    request.refuse_without(KEEP, BY)
     if any(request.has(flag) for flag in (PARTS, *OF_PARTS)):
         return run_on_parts(request)
     paths = paths_of(request, ENDINGS) if request.has(TO_FILES) else []
-    if request.has(BY):
-        solving = Solving(request)
-        return solving.run(request.texts(), paths, {})
-    if not paths:
-        return asking.run(request)
-    return to_files(request, request.texts(), paths, {})
+    if not paths and not request.has(BY):
+        return hand_on(request, request.texts())
+    solving, texts = Solving(request) if request.has(BY) else None, request.texts()
+    outputs.refuse_read(request, paths)
+    return solving.run(texts, paths, {}) if solving else to_files(request, texts, paths, {})
 
 
 def run_on_parts(request):
-    """Runs `synth` on a specification in parts. If a controller can make the assumptions fail, a line on standard error
-    says so."""
+    """Runs `synth` on a specification in parts. If a controller can make assumptions fail, lines on standard error say
+    so."""
+    from psyntool import remarks
+    from psyntool.parts import specification
+    from psyntool.parts.composing import Composer
+
     if request.has(CERT):
         raise Refused(f"{CERT.name} is for an automaton: compose makes one of parts")
     paths = paths_of(request, (*ENDINGS, ".hoa")) if request.has(TO_FILES) else []
     solving = Solving(request) if request.has(BY) else None
-    whole = Composer(specification.asked(request)).composed()
+    asked = specification.asked(request)
+    outputs.refuse_read(request, paths)
+    composer = Composer(asked)
+    whole = composer.composed()
     texts = [files.Text(Kind.AUTOMATON, "the automaton of these parts", whole.text().encode("utf-8", "surrogateescape"))]
     others = {path: whole.text() for path in paths[-1:]}
     if solving:
         status = solving.run(texts, paths[:-1], others)
     elif paths:
         status = to_files(request, texts, paths[:-1], others)
-    elif request.quiet:
-        program.become(files.joined("synth", request.passed, texts))
     else:
-        status = asking.hand_on(request, texts, program.ask(files.joined("synth", request.passed, texts)))
-    if status == 10 and not request.quiet and whole.specification.assumptions and can_break(request, whole):
-        console.tell(BY_BREAKING)
+        status = hand_on(request, texts)
+    if status == 10 and not request.quiet:
+        console.tell(*remarks.failing(composer, request.passed))
     return status
+
+
+def hand_on(request, texts, flags=None):
+    """Prints the program's answer, and names outputs that never change. With --quiet, the tool becomes the program."""
+    given = files.joined("synth", request.passed if flags is None else flags, texts)
+    if asking.may_become(request) and flags is None:
+        program.become(given)
+    answer = program.ask(given)
+    status = asking.hand_on(request, texts, answer)
+    remark(request, answer)
+    return status
+
+
+def remark(request, answer):
+    if not request.quiet and asking.is_had(answer):
+        from psyntool import remarks
+
+        console.tell(*remarks.constants(answer))
 
 
 class Solving:
     """A run of `synth` in which another solver solves the game."""
 
     def __init__(self, request):
+        from psyntool import judging, solvers
+
         if request.has(CERT):
             raise Refused(f"{CERT.name} and {BY.name} can't stand together: the certificate is that of the other solver's solution")
         self.request, self.picture, self.solver = request, judging.path_of(request), solvers.Solver(request)
@@ -60,30 +82,25 @@ class Solving:
         """Prints the answer of `synth` for the certificate that is made from the other solver's solution; explains the
         error of a wrong solution."""
         request = self.request
+        outputs.refuse_read(request, filter(None, [self.picture]))
         game = program.ask(files.joined("game", [name for name in request.passed if name == MOORE.name], texts))
         if not asking.is_had(game):
             return asking.hand_on(request, texts, game)
         solved, certificate = self.solver.judged(files.Text(Kind.GAME, "the game of this automaton", game.bytes))
         if not asking.is_had(certificate):
+            from psyntool.texts import automaton
+
             return self.solver.hand_on(solved, certificate, self.picture, automaton.read(texts[0].string) if self.picture else None)
         given = [*texts, files.Text(Kind.CERTIFICATE, f"the certificate of {self.solver.name}", certificate.bytes)]
         flags = [CERT.name, *request.passed]
         if paths:
             return to_files(request, given, paths, others, flags)
-        return asking.hand_on(request, given, program.ask(files.joined("synth", flags, given)))
-
-
-def can_break(request, whole):
-    """Whether a controller can make the assumptions fail: the program is asked about an automaton in which no word
-    meets the guarantees."""
-    flags = [name for name in request.passed if name == MOORE.name]
-    head = " ".join(["synth", *flags]) + "\n"
-    return program.ask((head + whole.text(ASSUMPTIONS_FAIL)).encode("utf-8", "surrogateescape")).status == 10
+        return hand_on(request, given, flags)
 
 
 def paths_of(request, endings):
     prefix = request.value(TO_FILES)
-    return outputs.checked([prefix + ending for ending in endings], TO_FILES.shown, prefix)
+    return outputs.own(request, [prefix + ending for ending in endings], TO_FILES.shown, prefix)
 
 
 def to_files(request, texts, paths, others, passed=()):
@@ -95,7 +112,9 @@ def to_files(request, texts, paths, others, passed=()):
         return asking.hand_on(request, texts, answer)
     if answer.died:
         return asking.told(request, texts, answer)
-    return stored(answer, paths, others)
+    status = stored(answer, paths, others)
+    remark(request, answer)
+    return status
 
 
 def stored(answer, paths, others):
@@ -106,15 +125,6 @@ def stored(answer, paths, others):
     if not said or len(said.parts) != len(paths):
         console.tell("psyn: the answer is none of `synth --full`, so no file is written")
         return FAULT
-    outputs.write_all({**dict(zip(paths, said.parts)), **others})
+    outputs.write_all({**dict(zip(paths, (said.parts[0] + outputs.CIRCUIT_ENDING, *said.parts[1:]))), **others})
     console.write_text(said.word + "\n")
     return answer.status
-
-
-COMMAND = of_the_program(
-    "synth",
-    "a controller, or an environment that defeats every finite-state one; with --cert by the certificate of its game",
-    run,
-    own=(TO_FILES, BY, PICTURE, PARTS, *OF_PARTS),
-    instead={flag.name: (Kind.LIST,) for flag in (PARTS, *OF_PARTS)},
-)

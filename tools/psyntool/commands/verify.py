@@ -3,15 +3,11 @@ environment's circuit. If the circuit loses, the output has a stimulus on which 
 step by step."""
 import os
 
-from psyntool import asking, console, files, outputs, program, tracing
-from psyntool.command import Flag, of_the_program
-from psyntool.commands import wave
+from psyntool import asking, console, files, outputs, program
+from psyntool.command import STIMULUS, WAVE
 from psyntool.ends import Refused
 from psyntool.kinds import Kind
-from psyntool.texts import circuit, stimulus, vcd
 
-STIMULUS = Flag("--stimulus", "where the circuit loses: the stimulus goes to FILE", "FILE")
-WAVE = Flag("--wave", "where the circuit loses: what it does on the stimulus goes to FILE, as a VCD file", "FILE")
 LOSES = b"loses\n"
 
 
@@ -24,23 +20,27 @@ def run(request):
     if len({os.path.realpath(request.value(flag)) for flag in flags}) < len(flags):
         raise Refused(f"{STIMULUS.name} and {WAVE.name} name the same file")
     texts = request.texts()
+    outputs.refuse_read(request, [request.value(flag) for flag in flags])
     answer = program.ask(files.joined("verify", request.passed, texts))
     status = asking.hand_on(request, texts, answer)
     if not asking.is_had(answer) or not answer.bytes.startswith(LOSES):
         return status
+    from psyntool import tracing
+    from psyntool.texts import stimulus
+
     given = files.Text(Kind.STIMULUS, "the stimulus", answer.bytes.removeprefix(LOSES))
     read = stimulus.read(given.string)
     made = {STIMULUS: lambda: given.bytes, WAVE: lambda: wave_of(texts[1], read)}
     outputs.write_all({request.value(flag): made[flag]() for flag in flags})
     if not request.quiet:
-        console.tell(*tracing.trace([*texts, given], len(read.stem), len(read.lap)).splitlines())
+        console.tell(*tracing.trace([*texts, given], len(read.stem), len(read.lap), is_stopped=True).splitlines())
     return status
 
 
 def wave_of(text, read):
     """A VCD text of what the circuit does on a lasso stimulus: on the stem, and then on laps (repetitions of the
     repeated part) until the latches at the start of a lap repeat."""
+    from psyntool.commands import wave
+    from psyntool.texts import circuit, vcd
+
     return vcd.wave(circuit.read(text.string), wave.until_it_comes_again([text], read).text, len(read.stem))
-
-
-COMMAND = of_the_program("verify", "wins if the automaton accepts all that the circuit does, else a stimulus on which it does not", run, own=(STIMULUS, WAVE))

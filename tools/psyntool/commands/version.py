@@ -1,11 +1,8 @@
-"""`version`: prints psyn's version, its commit, and the kit with which it was proved."""
+"""`version`: prints psyn's version and its commit; the sum of the program, and whether it is that of a release; and the
+kit with which a release was proved."""
 from psyntool import console, releases
-from psyntool.command import Command
 
 
 def run(_request):
     console.write_text(releases.lines())
     return 0
-
-
-COMMAND = Command("version", "which psyn this is", (), run)

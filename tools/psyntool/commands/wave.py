@@ -1,9 +1,7 @@
 """`wave`: what a circuit does, as a VCD file for a wave viewer. A lasso is written as its stem, and then as laps
 (repetitions of its repeated part) until the latches repeat."""
 from psyntool import asking, console, program
-from psyntool.command import Command
 from psyntool.ends import Refused
-from psyntool.kinds import Kind
 from psyntool.texts import circuit, stimulus, vcd
 
 LONGEST = 65_536
@@ -46,6 +44,3 @@ def until_it_comes_again(texts, given):
             end = len(given.stem) + (again or laps) * len(given.lap)
             return program.Answer(b"".join(row + b"\n" for row in rows[:end]), 0, "")
         laps *= 2
-
-
-COMMAND = Command("wave", "what sim prints, as a VCD file", (Kind.CIRCUIT, Kind.STIMULUS), run)

@@ -1,21 +1,18 @@
-"""The pictures of a page: as `show` draws them, or a map without labels if there are many edges, or the graph itself,
-which the page draws in pieces."""
+"""The pictures of a page: as `show` draws them or, if there are many vertices or edges, the graph itself, of which the page
+draws what is around a vertex. Each part of a specification has a small picture of its own."""
 import re
 import subprocess
 from dataclasses import dataclass
 
 from psyntool.pictures import automata, games
-from psyntool.pictures.dot import MOST
 from psyntool.plays.board import PLAYERS
 from psyntool.texts import labels
 
-# If the graph has more edges than this, labels would overlap, and dot would take minutes.
-FEW_EDGES = 100
+# A graph with more vertices or edges than this is not drawn whole: nobody could read it, and dot might take minutes.
+FEW_VERTICES, FEW_EDGES = 40, 100
+# A part with more states or edges than this has no picture, and a page has no more small pictures than this.
+SMALL_STATES, SMALL_EDGES, MOST_SMALL = 12, 40, 40
 SECONDS = 30
-MAP = (
-    "digraph map { layout=sfdp; overlap=prism; outputorder=edgesfirst; node [fontname=Helvetica, shape=circle, fixedsize=true, width=0.55, "
-    "style=filled, fillcolor=white]; edge [color=grey70, arrowsize=0.5];"
-)
 
 
 @dataclass(frozen=True)
@@ -33,46 +30,54 @@ def of_automaton(board):
     for state in read.states:
         targets = dict.fromkeys(edge.target for edge in read.edges.get(state, ()))
         graph[state] = {"lines": (f"state {state}", read.state_names.get(state, "")), "to": list(targets)}
-    return drawn(graph, "s", lambda: automata.picture(read))
+    return drawn(graph, lambda: automata.picture(read))
 
 
 def of_game(board):
     graph = {vertex.identity: {"lines": lines_of(board, vertex), "to": vertex.successors} for vertex in board.game.vertices}
-    return drawn(graph, "v", lambda: games.picture(board.game, board.certificate, board.automaton))
+    return drawn(graph, lambda: games.picture(board.game, board.certificate, board.automaton))
+
+
+def is_small(graph):
+    return len(graph) <= FEW_VERTICES and sum(len(vertex["to"]) for vertex in graph.values()) <= FEW_EDGES
+
+
+def of_parts(parts):
+    """A small picture as SVG for each part of a specification, or an empty string for a part that is too large."""
+    edges = [sum(map(len, part.automaton.edges.values())) for part in parts]
+    small = [part for part, count in zip(parts, edges) if len(part.automaton.states) <= SMALL_STATES and count <= SMALL_EDGES][:MOST_SMALL]
+    made = dict(zip(small, svgs_of("\n".join(automata.picture(part.automaton, has_legend=False) for part in small), len(small))))
+    return [made.get(part, "") for part in parts]
 
 
 def lines_of(board, vertex):
     """A vertex of the game in words: the automaton's state and the priority, or the letter that was chosen; and the
     player who moves there."""
-    key = board.names.keys[vertex.identity]
+    key, number = board.names.keys[vertex.identity], f"vertex {vertex.identity}"
     mover = f"the {PLAYERS[1 - vertex.owner]} moves"
     if key.letter is None:
-        return f"{board.title(key.state)}", f"priority {key.priority}; {mover}"
+        return f"{number}, priority {key.priority}; {mover}", board.title(key.state)
     said = "no edge" if key.state is None else labels.letter_text(key.letter, board.automaton.names) or "no letter"
-    return said, mover
+    return f"{number}; {mover}", said
 
 
-def drawn(graph, sign, draw):
-    """The picture of a graph; `sign` is the prefix of the vertex names in DOT."""
-    if len(graph) > MOST:
-        return Picture("", graph)
-    if sum(len(vertex["to"]) for vertex in graph.values()) <= FEW_EDGES:
-        svg = svg_of(draw())
-        return Picture(svg, None if svg else graph)
-    lines = [MAP, *(f'{sign}{one} [label="{one}"];' for one in graph)]
-    lines += [f"{sign}{one} -> {sign}{target};" for one, vertex in graph.items() for target in vertex["to"]]
-    return Picture(svg_of("\n".join([*lines, "}"])), graph)
+def drawn(graph, draw):
+    """The picture of a graph, if it is small."""
+    svg = svgs_of(draw(), 1)[0] if is_small(graph) else ""
+    return Picture(svg, None if svg else graph)
 
 
-def svg_of(dot):
-    """The SVG picture of a DOT text, without ids, which must be unique in a page; empty if Graphviz is missing or too
-    slow."""
+def svgs_of(dot, count):
+    """The SVG pictures of a number of DOT texts, without ids, which must be unique in a page; empty if Graphviz is missing
+    or too slow."""
+    if not count:
+        return []
     try:
         done = subprocess.run(["dot", "-Tsvg"], input=dot.encode("utf-8", "replace"), capture_output=True, timeout=SECONDS, check=False)
     except (OSError, subprocess.TimeoutExpired):
-        return ""
-    found = re.search(r"<svg.*</svg>", done.stdout.decode("utf-8", "replace"), re.S)
-    if done.returncode or not found:
-        return ""
-    svg = re.sub(r"(?s)<!--.*?-->\n?", "", found[0])
-    return re.sub(r' (?:id|xmlns(?::xlink)?)="[^"]*"', "", svg)
+        return [""] * count
+    found = re.findall(r"(?s)<svg.*?</svg>", done.stdout.decode("utf-8", "replace"))
+    if done.returncode or len(found) != count:
+        return [""] * count
+    bare = (re.sub(r"(?s)<!--.*?-->\n?", "", svg) for svg in found)
+    return [re.sub(r' (?:id|xmlns(?::xlink)?)="[^"]*"', "", svg) for svg in bare]

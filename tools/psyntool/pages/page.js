@@ -5,7 +5,7 @@ const byId = (id) => document.getElementById(id);
 const SVG = byId("wave").namespaceURI;
 const AROUND = 12;
 const LONGEST = 10000;
-const BOX = { wide: 270, tall: 64, width: 222, height: 40, signs: 34 };
+const BOX = { wide: 290, tall: 100, width: 242, height: 84, signs: 36, lines: 3 };
 let play = begun(board);
 
 /** An element of a document, or with a namespace of a picture, with attributes and text. */
@@ -25,13 +25,14 @@ function show(message = "") {
   const choices = choicesOf(board, play);
   byId("standing").replaceChildren(...standing(choices, message).map(([text, kind]) => made("p", text, { class: kind })));
   byId("choices").replaceChildren(...choices.map(choiceItem));
-  for (const id of ["auto", "whole"]) byId(id).disabled = over;
+  for (const id of ["auto", "whole"]) byId(id).disabled = over || Boolean(board.letters);
   for (const id of ["back", "again"]) byId(id).disabled = !play.steps.length;
   byId("letter").hidden = over;
   byId("trace").tBodies[0].replaceChildren(...traceRows());
   showWave();
   byId("stimulus").href = `data:text/plain,${encodeURIComponent(stimulusOf(play))}`;
   byId("address").href = `#moves=${movesText(play)}`;
+  showParts();
   showPlace("automaton", "s", play.state, titleOf(board, play.state));
   const vertex = play.state === null ? null : vertexOf(board, play);
   showPlace("game", "v", vertex, vertex === null ? "no edge" : `vertex ${vertex}, of state ${play.state} and priority ${board.vertices[vertex][1]}`);
@@ -42,7 +43,9 @@ function standing(choices, message) {
   const behind = play.steps.length && play.state !== null ? ` (priority ${priorityText(play.steps.at(-1))})` : "";
   const told = [[`step ${play.steps.length}: ${titleOf(board, play.state)}${behind}`, "state"]];
   if (message) told.push([message, "end"]);
-  if (isOver(play)) return [...told, [endOf(board, play).join("\n"), "end"]];
+  const end = endOf(board, play).join("\n");
+  if (isOver(play)) return [...told, [end, "end"]];
+  if (end) told.push([`The play may end here, or go on. If it ends, ${end}`, "end"]);
   if (!board.amFirst) told.push([`The ${board.other} says ${letterText(board, theirLetter(board, play), [...board.names.keys()])}`, "theirs"]);
   return [...told, [`${choices.length} ${choices.length === 1 ? "choice" : "choices"} of the ${board.me}:`, "count"]];
 }
@@ -85,18 +88,31 @@ function showWave() {
   const loop = loopOf(play);
   const from = begin + loop * cell;
   const marks = loop === null ? [] : [shape("path", { class: "loop", d: `M${from} 0V${bottom}` }), shape("text", { x: from, y: bottom + 32 }, "the loop begins")];
-  const width = begin + Math.max(4, play.steps.length + 1) * cell;
+  const width = Math.max(begin + Math.max(4, play.steps.length + 1) * cell, loop === null ? 0 : from + 8 * "the loop begins".length);
   for (const [key, value] of [["width", width], ["height", bottom + 40]]) byId("wave").setAttribute(key, value);
   byId("wave").replaceChildren(...lines, ...at, ...marks);
 }
 
 // ---- pictures
 
+/** Marks the present state of each part in its picture, and names it. */
+function showParts() {
+  const figures = document.querySelectorAll("#parts figure");
+  board.parts.forEach((part, place) => {
+    const { broke, state } = partRun(part, play);
+    const picture = figures[place].querySelector("svg");
+    figures[place].querySelector("span").textContent = state === null ? `broken at step ${broke}` : `now: ${part.titles[state]}`;
+    figures[place].querySelector(".picture").hidden = !picture;
+    if (picture) mark(picture, state === null ? "" : `s${state}`);
+  });
+}
+
 /** Marks a place in the picture that Graphviz made, and draws what lies around it where the board has the graph. */
 function showPlace(name, sign, place, title) {
   const picture = byId(name).querySelector("svg");
   const graph = board.pictures[name];
-  const part = graph ? ` The ${picture ? "second " : ""}picture shows at most ${AROUND} others around it, of ${Object.keys(graph).length}.` : "";
+  const count = graph ? Object.keys(graph).length : 0;
+  const part = graph ? ` The whole, of ${count}, is too large for a picture; this one shows at most ${AROUND} others around it.` : "";
   byId(`${name}-says`).textContent = `Marked: ${title}.${part}`;
   byId(name).hidden = !picture;
   byId(`${name}-around`).hidden = !graph;
@@ -131,9 +147,9 @@ function curve([x, y], [left, top]) {
   return shape("path", { d: `M${right} ${from}C${right + bend} ${from + sink} ${left - bend} ${to + sink} ${left} ${to}` });
 }
 
-function box(lines, [x, y], isCenter) {
+function box(lines, name, [x, y], isCenter) {
   const group = shape("g", { class: isCenter ? "here" : "other" });
-  const shown = lines.map((line) => (line.length > BOX.signs ? `${line.slice(0, BOX.signs - 1)}\u2026` : line));
+  const shown = [lines[0], ...linesOf(name, BOX.signs, BOX.lines)];
   group.append(shape("title", {}, lines.join("\n")), shape("rect", { x, y, width: BOX.width, height: BOX.height }));
   group.append(...shown.map((line, place) => shape("text", { x: x + 6, y: y + 16 + place * 17 }, line)));
   return group;
@@ -151,7 +167,8 @@ function drawAround(picture, graph, center) {
   const edges = [...corners.keys()].flatMap((id) => graph[id].to.filter((to) => isDrawn(id, to)).map((to) => curve(corners.get(id), corners.get(to))));
   picture.setAttribute("width", Math.max(1, columns.length) * BOX.wide);
   picture.setAttribute("height", most * BOX.tall + 40);
-  picture.replaceChildren(...edges, ...[...corners].map(([id, corner]) => box(graph[id].lines, corner, id === center)));
+  const names = tellingNames([...corners.keys()].map((id) => graph[id].lines[1]));
+  picture.replaceChildren(...edges, ...[...corners].map(([id, corner], place) => box(graph[id].lines, names[place], corner, id === center)));
   picture.querySelectorAll(".here").forEach(pin);
 }
 
@@ -169,11 +186,7 @@ function go(next) {
 const pressed = {
   back: () => go(playOf(board, play.steps.slice(0, -1).map((step) => step.digits))),
   auto: () => go(longestStep(board, play)),
-  whole: () => {
-    let next = play;
-    while (!isOver(next) && next.steps.length < LONGEST) next = longestStep(board, next);
-    go(next);
-  },
+  whole: () => go(heldOut(board, play, LONGEST)),
   again: () => go(begun(board)),
 };
 for (const [id, run] of Object.entries(pressed)) byId(id).addEventListener("click", run);

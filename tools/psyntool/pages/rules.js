@@ -54,8 +54,9 @@ function loopOf(play) {
   return play.state === null || found < 0 ? null : found;
 }
 
+/** Whether no step can follow. A play with a loop may end, or go on. */
 function isOver(play) {
-  return play.state === null || loopOf(play) !== null;
+  return play.state === null;
 }
 
 /** The game's vertex where the play stands. */
@@ -65,13 +66,48 @@ function vertexOf(board, play) {
 
 /** What can be chosen: { said, digits, after, broken }; the first of those that hold out longest has `isLongest`. */
 function choicesOf(board, play) {
+  if (board.letters) return isOver(play) ? [] : choicesTried(board, play);
   const { longest, choices } = isOver(play) ? { choices: [] } : board.choices[vertexOf(board, play)];
   return choices.map(([said, digits, after, broken], place) => ({ said, digits, after, broken, isLongest: place === longest }));
 }
 
-/** The play behind the choice that holds out longest. */
+/** What can be chosen against a circuit that was not printed with the game: where it leads is tried; none is known to hold out longest. */
+function choicesTried(board, play) {
+  const letters = board.amFirst ? board.letters[vertexOf(board, play)] : lettersApart(board, play);
+  const tried = letters.map(([said, digits]) => {
+    const { state, steps } = stepped(board, play, digits);
+    const after = state === null ? null : board.places[`${state}/${steps.at(-1).priority}`];
+    const isBroken = (part) => part.side === "guarantee" && partRun(part, { steps }).broke === steps.length - 1;
+    const broken = state === null ? board.parts.filter(isBroken).map((part) => part.title) : [];
+    return { said, digits, after, broken, isLongest: false };
+  });
+  return [...tried.filter((choice) => choice.after !== null), ...tried.filter((choice) => choice.after === null)];
+}
+
+/** One of my letters for each place to which one leads, behind the circuit's letter: as text and as digits. */
+function lettersApart(board, play) {
+  const { rows, roots } = board.moves;
+  const found = new Map();
+  const seen = new Set();
+  const theirs = theirLetter(board, play);
+  const visit = (row, letter) => {
+    if (seen.has(row)) return;
+    seen.add(row);
+    if (rows[row].length === 1) {
+      found.set(row, letter);
+      return;
+    }
+    const [number, low, high] = rows[row];
+    for (const bit of board.inputs.includes(number) ? [0, 1] : [theirs[number]]) visit(bit ? high : low, letter.with(number, bit));
+  };
+  visit(roots[play.state], theirs);
+  return [...found.values()].map((letter) => [letterText(board, letter, board.inputs), board.inputs.map((number) => letter[number]).join("")]);
+}
+
+/** The play behind the choice that holds out longest, or behind the first one where none is known to. */
 function longestStep(board, play) {
-  return stepped(board, play, choicesOf(board, play).find((choice) => choice.isLongest).digits);
+  const choices = choicesOf(board, play);
+  return stepped(board, play, (choices.find((choice) => choice.isLongest) || choices[0]).digits);
 }
 
 /** The moves of a play as an address has them, and back again: null where they are none of this board. */
@@ -86,16 +122,24 @@ function movesOf(board, text) {
   return words.every(isMove) ? words.map((word) => word.replace("-", "")) : null;
 }
 
-/** The play of these moves, up to its end. */
+/** The play behind choices that hold out longest, at least one, up to a loop, to no edge, or to so many steps. */
+function heldOut(board, play, most) {
+  let next = play;
+  do next = longestStep(board, next);
+  while (!isOver(next) && loopOf(next) === null && next.steps.length < most);
+  return next;
+}
+
+/** The play of these moves, up to a step without an edge. */
 function playOf(board, moves) {
   return moves.reduce((play, digits) => (isOver(play) ? play : stepped(board, play, digits)), begun(board));
 }
 
-/** My letters as a stem and a lap, which is the loop, or the last letter where there is no edge; a play without an end is a stem. */
+/** My letters as a stem and a lap, which is the loop, or the last letter where there is no edge; a play without either is a stem. */
 function stimulusOf(play) {
   const lines = play.steps.map((step) => step.digits);
-  const lap = play.state === null ? lines.length - 1 : (loopOf(play) ?? lines.length);
-  const parts = isOver(play) ? [...lines.slice(0, lap), "-", ...lines.slice(lap)] : lines;
+  const lap = isOver(play) ? lines.length - 1 : loopOf(play);
+  const parts = lap === null ? lines : [...lines.slice(0, lap), "-", ...lines.slice(lap)];
   return parts.map((line) => `${line}\n`).join("");
 }
 
@@ -127,11 +171,11 @@ function rowsOf(board, play) {
   return play.steps.map((step, place) => [String(place), titleOf(board, step.state), ...said(step), priorityText(step)]);
 }
 
-/** How the play ended, in lines; none where it goes on. */
+/** How the play ended, or may end here, in lines; none where there are an edge and no loop. */
 function endOf(board, play) {
-  if (!isOver(play)) return [];
   const last = play.steps.length - 1;
   const loop = loopOf(play);
+  if (!isOver(play) && loop === null) return [];
   let told = `at step ${last} there is no edge: the automaton rejects, whatever follows`;
   if (loop !== null) {
     const greatest = Math.max(...play.steps.slice(loop).map((step) => step.priority));
@@ -153,17 +197,36 @@ function partText(part, play, loop) {
   return part.sentence ? [said, `  ${part.sentence}`] : [said];
 }
 
-/** Runs a part beside a play: the step that broke it or null, and the steps at which it was met. */
+/** Runs a part beside a play: the step that broke it or null, its state then, and the steps at which it was met. */
 function partRun(part, play) {
   let state = part.start;
   const met = [];
   for (const [place, step] of play.steps.entries()) {
     const move = state === null ? null : valueAt(part.moves.rows, part.moves.roots[state], step.letter);
-    if (move === null) return { broke: place, met };
+    if (move === null) return { broke: place, state: null, met };
     if (move[1]) met.push(place);
     state = move[0];
   }
-  return { broke: null, met };
+  return { broke: null, state, met };
+}
+
+/** Of names that are lists of pieces, what tells them apart: the pieces that not all of them have, or all where nothing is left. */
+function tellingNames(names) {
+  const pieces = names.map((name) => name.split("; "));
+  const isCommon = (piece) => names.length > 1 && pieces.every((those) => those.includes(piece));
+  return pieces.map((those, place) => those.filter((piece) => !isCommon(piece)).join("; ") || names[place]);
+}
+
+/** A text in lines of at most so many signs, at most so many lines; what is left out is marked. */
+function linesOf(text, signs, most) {
+  const lines = [""];
+  for (const word of text.split(" ").flatMap((it) => it.match(new RegExp(`.{1,${signs}}`, "gu")) || [])) {
+    const longer = lines.at(-1) ? `${lines.at(-1)} ${word}` : word;
+    if ([...longer].length <= signs) lines[lines.length - 1] = longer;
+    else lines.push(word);
+  }
+  if (lines.length <= most) return lines;
+  return [...lines.slice(0, most - 1), `${[...lines[most - 1]].slice(0, signs - 1).join("")}\u2026`];
 }
 
 /** The trace as text, in columns. */
@@ -189,5 +252,5 @@ function around(graph, center, most) {
   return new Map([...behind, ...reached(-1, before, behind, most + 1 - behind.size)]);
 }
 
-const forNode = { around, begun, choicesOf, isOver, longestStep, loopOf, movesOf, movesText, playOf, stepped, stimulusOf, theirLetter, traceText };
+const forNode = { around, begun, choicesOf, heldOut, isOver, linesOf, longestStep, loopOf, movesOf, movesText, playOf, stepped, stimulusOf, tellingNames, theirLetter, traceText };
 if (typeof module !== "undefined") module.exports = forNode;

@@ -9,9 +9,11 @@ import re
 from psyntool import places, releases
 from psyntool.ends import Refused
 from psyntool.pages import contents, drawing
-from psyntool.pages.clauses import CLAUSES, SENTENCES
+from psyntool.pages.clauses import CLAUSES, OF_ANOTHER, SENTENCES
 
 MOST_BYTES = 33_554_432
+# A small picture that is wider than so many points has a row of its own.
+WIDTH, WIDE = 450, ' class="whole"'
 WORDS = ("REALIZABLE", "UNREALIZABLE")
 VERDICTS = (
     "there is a controller, and this circuit is one.",
@@ -22,6 +24,8 @@ VERDICTS = (
 def page(title, board, texts):
     """The HTML page for a play against a circuit. The page has a link that saves each of the given texts; a text is
     given by a title, a file name and bytes."""
+    if sum(len(data) for _, _, data in texts) * 4 / 3 > MOST_BYTES:
+        refuse_size()
     pictures = {"automaton": drawing.of_automaton(board), "game": drawing.of_game(board)}
     known = {**contents.of(board), "pictures": {name: picture.graph for name, picture in pictures.items()}}
     script = f"{asset('rules.js')}{asset('page.js')}"
@@ -36,9 +40,10 @@ def page(title, board, texts):
         other=board.other,
         specification=specification_of(board),
         proved=proved_of(board),
-        clauses="\n".join(clause_entry(name) for name in CLAUSES if f"{{{name}}}" in "".join(SENTENCES[board.winner])),
+        clauses="\n".join(clause_entry(name) for name in CLAUSES if f"{{{name}}}" in "".join(sentences_of(board))),
         automaton=pictures["automaton"].svg,
         game=pictures["game"].svg,
+        parts=parts_of(board),
         texts=", ".join(link_of(*text) for text in texts),
         css=asset("page.css"),
         board=json.dumps(known, separators=(",", ":"), ensure_ascii=False).replace("<", "\\u003c"),
@@ -46,8 +51,12 @@ def page(title, board, texts):
         hash="sha256-" + base64.b64encode(hashlib.sha256(script.encode()).digest()).decode(),
     )
     if len(whole) > MOST_BYTES:
-        raise Refused(f"the page would have more than {MOST_BYTES:,} bytes, which no browser shows well: `play` shows the same")
+        refuse_size()
     return as_utf8(whole)
+
+
+def refuse_size():
+    raise Refused(f"the page would have more than {MOST_BYTES:,} bytes, which no browser shows well: `play` shows the same")
 
 
 def as_utf8(text):
@@ -85,17 +94,44 @@ def specification_of(board):
     return f"<details open><summary>What is wanted, in {len(rows)} parts</summary>\n<ul>\n{items}\n</ul></details>"
 
 
+def parts_of(board):
+    """The parts of a specification with their small pictures, as a section of the page; empty without parts."""
+    if board.specification is None:
+        return ""
+    rows = [(side, part) for side, parts in (("assumed", board.specification.assumptions), ("guaranteed", board.specification.guarantees)) for part in parts]
+    items = [
+        f'<figure{is_wide(svg) * WIDE}><figcaption>{side}: {escaped(part.sentence)} <code>{escaped(part.title)}</code><br><span></span></figcaption>'
+        f'<div class="wide picture" tabindex="0" role="group" aria-label="the part {escaped(part.title)}, with its present state marked">{svg}</div></figure>'
+        for (side, part), svg in zip(rows, drawing.of_parts([part for _, part in rows]))
+    ]
+    said = "\n".join(items)
+    return f'<section aria-labelledby="parts-title">\n<h2 id="parts-title">The parts</h2>\n<div id="parts">\n{said}\n</div>\n</section>'
+
+
+def is_wide(svg):
+    """Whether a picture has a row of its own."""
+    width = re.search(r'width="([0-9]+)pt"', svg)
+    return bool(width) and int(width[1]) > WIDTH
+
+
 def proved_of(board):
     """What is proved, as HTML: three sentences with links to the page's list of proved clauses, and then a paragraph
     that names the prover and psyn's version."""
     links = {name: f'<a href="#clause-{name}"><code>{name}</code></a>' for name in CLAUSES}
-    release = releases.here()
+    release, printed = releases.here(), "this game and this circuit for this certificate"
+    if not board.is_printed:
+        printed = "this game and this certificate for this automaton, and <code>wins</code> for this circuit"
     said = [
-        " ".join(SENTENCES[board.winner]).format(**links),
+        " ".join(sentences_of(board)).format(**links).replace("`verify`", "<code>verify</code>"),
         f"This is proved with {escaped(release.kit)} of all that psyn prints. When this page was made, by psyn {escaped(release.version)}, the "
-        "program printed this game and this circuit for this certificate. The page itself is tested, and not proved.",
+        f"program printed {printed}. The page itself is tested, and not proved.",
     ]
     return "\n".join(f"<p>{paragraph}</p>" for paragraph in said)
+
+
+def sentences_of(board):
+    first, *others = SENTENCES[board.winner]
+    return (first if board.is_printed else OF_ANOTHER[board.winner], *others)
 
 
 def clause_entry(name):

@@ -68,6 +68,18 @@ class Diagrams:
             known[key] = found
         return found
 
+    def parting(self, sets, other):
+        """The diagram that has, at each letter, the value of the first of the sets with the letter, or another value at
+        a letter that is in no set. The sets are pairs of a diagram with the values true and false, and a value."""
+        never, always = self.leaf(False), self.leaf(True)
+        sets = [(one, value) for one, value in sets if one != never]
+        if not sets or sets[0][0] == always:
+            return self.leaf(sets[0][1] if sets else other)
+        proposition = min(self.propositions[one] for one, _ in sets)
+        sides = [(self.sides(one, proposition), value) for one, value in sets]
+        low, high = ([(both[side], value) for both, value in sides] for side in (0, 1))
+        return self.node(proposition, self.parting(low, other), self.parting(high, other))
+
     def mapped(self, one, function, known):
         """The diagram that results from applying the function to each value of the given diagram."""
         found = known.get(one)

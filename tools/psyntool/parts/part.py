@@ -13,6 +13,12 @@ from psyntool.texts import Unreadable, automaton, hoa, labels
 from psyntool.texts.labels import Proposition
 
 SAFETY, BUCHI = True, ("Inf", 0)
+# Stands before the new name of a proposition that is negated.
+NOT = "!"
+
+
+class NotComposed(Unreadable):
+    """An item `part:` of an automaton is none that `compose` writes."""
 
 
 class Move(NamedTuple):
@@ -66,26 +72,53 @@ def part_of(stem, sentence, renamed, text):
     unknown = [old for old in renamed if old not in read.names]
     if unknown:
         raise Refused(f"it has no proposition {unknown[0]}, so --as can't rename it; it has {', '.join(read.names) or 'none'}")
-    names = tuple(renamed.get(name, name) for name in read.names)
+    shown = [renamed.get(name, name) for name in read.names]
+    names = tuple(renamed.get(name, name).removeprefix(NOT) for name in read.names)
     twice = next((name for name in names if names.count(name) > 1), None)
     if twice is not None:
         raise Refused(f"two of its propositions would be {twice}")
     text = with_names(text, renamed)
+    negated = {number for number, old in enumerate(read.names) if renamed.get(old, "").startswith(NOT)}
     read = automaton.read(text)
+    if negated:
+        text = with_negations(read, negated)
+        read = automaton.read(text)
     said = hoa.unquoted(" ".join(read.headers.get("name:", ['""'])))
-    part = Part(f"{stem}({','.join(names)})" if renamed else stem, sentence or said, read, text)
+    part = Part(f"{stem}({','.join(shown)})" if renamed else stem, sentence or said, read, text)
     Moves(part, {name: number for number, name in enumerate(names)}, Diagrams())
     return part
 
 
+def with_negations(read, negated):
+    """The text of an automaton in whose labels the propositions with the given numbers are negated."""
+    diagrams, aliases = Diagrams(), {}
+
+    def of_label(label):
+        parts = ((it, labels.NOT) if isinstance(it, Proposition) and it.number in negated else (it,) for it in label)
+        return diagrams.of_label([it for some in parts for it in some], aliases)
+
+    for name, label in read.aliases.items():
+        aliases[name] = of_label(label)
+    words = ["HOA: v1", *(f"name: {name}" for name in read.headers.get("name:", ())), f"Start: {read.start}", f"AP: {len(read.names)}", *map(quoted, read.names)]
+    if "controllable-AP:" in read.headers:
+        words += ["controllable-AP:", *map(str, sorted(read.controllable))]
+    words += ["Acceptance: " + ("1 Inf(0)" if read.condition == BUCHI else "0 t"), "--BODY--"]
+    for state in read.states:
+        words += [f"State: {state}", *(quoted(name) for name in [read.state_names.get(state)] if name)]
+        for edge in read.edges.get(state, ()):
+            marks = f"{{{' '.join(map(str, sorted(edge.marks)))}}}"
+            words += [f"[{label}] {edge.target} {marks}" for value, label in diagrams.labels(of_label(edge.label)).items() if value]
+    return " ".join([*words, "--END--"])
+
+
 def with_names(text, renamed):
     """The text on one line, without comments and with renamed propositions, also in the names of the automaton and of
-    its states."""
+    its states. The list of propositions has no negations."""
     words, is_listed = [], False
     for token in (it.text for it in hoa.tokens_of(text)):
         if token.startswith('"'):
             said = hoa.unquoted(token)
-            new = renamed.get(said, said) if is_listed else re.sub(r"\w+", lambda word: renamed.get(word[0], word[0]), said)
+            new = renamed.get(said, said).removeprefix(NOT) if is_listed else re.sub(r"\w+", lambda word: renamed.get(word[0], word[0]), said)
             token = token if new == said else quoted(new)
         elif token.endswith(":"):
             is_listed = token == "AP:"
@@ -106,7 +139,7 @@ def from_item(title, sentence, text, names):
     except Unreadable:
         read = None
     if read is None or read.condition not in (SAFETY, BUCHI) or not set(names).issuperset(read.names):
-        raise Unreadable("an item `part:` of this automaton was not written by compose")
+        raise NotComposed(f"the item `part:` of {title!r} was not written by compose")
     return Part(title, sentence, read, text)
 
 

@@ -5,19 +5,22 @@ import re
 import shlex
 from dataclasses import dataclass, field
 
-from psyntool import faults, marking, program, words
-from psyntool.command import AS, ASSUME, GUARANTEE, OF_PARTS, OUTS, STRICT
+from psyntool import console, faults, marking, program, words
+from psyntool.command import AS, ASSUME, GUARANTEE, MOORE, OF_PARTS, OUTS, STRICT
 from psyntool.ends import Refused
 from psyntool.files import Reader
 from psyntool.kinds import Kind
-from psyntool.parts import part
+from psyntool.parts import part, slips
+from psyntool.parts.part import NotComposed
 from psyntool.texts import Unreadable, automaton, hoa
 
 MOST_PROPOSITIONS = 64
 # The number of strings in a header item `part:`: whether the part is assumed or guaranteed, its title, its sentence and
 # its text.
 WORDS_OF_AN_ITEM = 4
-FLAGS = {flag.name: flag for flag in OF_PARTS}
+FLAGS = {flag.name: flag for flag in (*OF_PARTS, MOORE)}
+# Signs of labels and of lists, which no new name of a proposition has, and words that are constants in labels.
+NO_NAME = re.compile(r"(?:t|f|true|false|\d+)|.*[!&|()<>=,;\[\]{}\"].*", re.S)
 # An empty circuit and an empty stimulus: the program reports a fault of the automaton before any fault of these two
 # texts.
 NO_CIRCUIT = b"aag 0 0 0 0 0\n%%\n-\n"
@@ -49,12 +52,13 @@ class Specification:
 
 @dataclass
 class Wish:
-    """A part that the user asks for: whether it is assumed, its file, its sentence, and the new names of its
-    propositions."""
+    """A part that the user asks for: whether it is assumed, its file, its sentence, the line of the list that names it
+    (as the beginning of a message), and the new names of its propositions."""
 
     is_assumed: bool
     path: str
     sentence: str = ""
+    place: str = ""
     renamed: dict = field(default_factory=dict)
 
 
@@ -62,27 +66,30 @@ class Wishes:
     """The parts and settings that a command line, and a list that it names, ask for."""
 
     def __init__(self):
-        self.parts, self.outs, self.is_strict = [], None, False
+        self.parts, self.outs, self.is_strict, self.is_moore = [], None, False, False
 
-    def take(self, given, folder="", sentences=None):
-        """Adds the parts and settings that flags of a command line or list ask for; paths are relative to `folder`."""
-        self.is_strict = self.is_strict or STRICT.name in given
+    def take(self, given, words_listed=()):
+        """Adds the parts and settings that the flags of a command line ask for, or those of a list with these words."""
+        self.is_strict, self.is_moore = self.is_strict or STRICT.name in given, self.is_moore or MOORE.name in given
         said = sorted((place, name, word) for name in FLAGS if FLAGS[name].many for place, word in given.get(name, ()))
         count = len(self.parts)
         for place, name, word in said:
+            of = words_listed[place] if words_listed else Word(word)
             if name == OUTS.name:
                 self.outs = [*(self.outs or []), word]
             elif name == AS.name:
-                self.rename(word, count)
+                refused_behind(of.place, self.rename, word, count)
             else:
-                path = word if word == "-" else os.path.join(folder, word)
-                self.parts.append(Wish(name == ASSUME.name, path, (sentences or {}).get(place, "")))
+                path = word if word == "-" else os.path.join(of.folder, word)
+                self.parts.append(Wish(name == ASSUME.name, path, of.sentence, of.place))
 
     def rename(self, word, count):
         """Renames a proposition of the last part, which must come from the same command line or list."""
         old, equals, new = word.partition("=")
         if not (old and equals and new):
             raise Refused(f"{AS.shown}: {word!r} is no OLD=NEW")
+        if NO_NAME.fullmatch(new.removeprefix(part.NOT)) or new == part.NOT:
+            raise Refused(f"{AS.shown}: {new!r} in {word} is no name of a proposition, and no name behind {part.NOT!r}")
         if len(self.parts) == count:
             raise Refused(f"{AS.shown}: {word} stands behind no part")
         if old in self.parts[-1].renamed:
@@ -90,10 +97,21 @@ class Wishes:
         self.parts[-1].renamed[old] = new
 
 
+@dataclass(frozen=True)
+class Word:
+    """A word of a list: its line as the beginning of a message, the list's folder, and the sentence above it."""
+
+    text: str
+    place: str = ""
+    folder: str = ""
+    sentence: str = ""
+
+
 def listed(text, wishes):
     """Reads a list, which consists of words of a command line on several lines. A comment is the sentence that
     describes each part below it, up to an empty line or to the next comment."""
-    said, sentences, comment, was_comment = [], {}, [], False
+    said, comment, was_comment = [], [], False
+    folder = "" if text.name == "standard input" else os.path.dirname(text.name)
     for row, line in enumerate(text.string.split("\n"), 1):
         bare = line.strip()
         if bare.startswith("#"):
@@ -106,26 +124,37 @@ def listed(text, wishes):
             found = shlex.split(line, comments=True)
         except ValueError:
             raise Refused(f"{text.name}:{row}: a quote is not closed") from None
-        for word in found:
-            sentences[len(said)] = " ".join(comment)
-            said.append(word)
-    given, others = refused_behind(text.name, words.split, said, FLAGS)
+        said += [Word(word, f"{text.name}:{row}", folder, " ".join(comment)) for word in found]
+    refuse_other_words(text.name, said)
+    given, others = refused_behind(text.name, words.split, [word.text for word in said], FLAGS)
     if others:
-        raise Refused(f"{text.name}: {others[0]!r} stands behind no flag; a list has --assume, --guarantee, --as, --outs and --strict")
-    refused_behind(text.name, wishes.take, given, "" if text.name == "standard input" else os.path.dirname(text.name), sentences)
+        place = next(word.place for word in said if word.text == others[0])
+        raise Refused(f"{place}: {others[0]!r} stands behind no flag; a list has {', '.join(FLAGS)}")
+    wishes.take(given, said)
+
+
+def refuse_other_words(name, said):
+    """Refuses a text that does not begin with a flag, and so is no list, and a flag that no list has."""
+    if said and not said[0].text.startswith("-"):
+        raise Refused(f"{said[0].place}: {said[0].text!r} begins no list of parts: a list has {', '.join(FLAGS)}, as in `--guarantee part.hoa`")
+    for word in said:
+        flag = word.text.partition("=")[0]
+        if flag.startswith("-") and flag != "-" and flag not in FLAGS:
+            raise Refused(f"{word.place}: a list has no flag {flag}{words.nearest(flag, FLAGS)}; it has {', '.join(FLAGS)}")
 
 
 def refused_behind(name, function, *values):
-    """The result of a function that parses a file; if the function refuses something, the file's name is put before the
+    """The result of a function; if the function refuses something, the name, which says where, is put before the
     message."""
     try:
         return function(*values)
     except Refused as error:
-        raise Refused(f"{name}: {error}") from None
+        raise Refused(f"{name}: {error}" if name else str(error)) from None
 
 
 def asked(request):
-    """The specification that a command line asks for."""
+    """The specification that a command line asks for. If a list says that the controller moves first, the request has
+    the flag that says so."""
     reader, wishes = Reader(request), Wishes()
     paths = list(request.words)
     for text in reader.texts([Kind.LIST] * len(paths), paths):
@@ -137,6 +166,8 @@ def asked(request):
         raise Refused(f"{request.command.name} wants parts: {GUARANTEE.shown}, {ASSUME.shown}, or a list of them")
     if [*paths, *(wish.path for wish in wishes.parts)].count("-") > 1:
         raise Refused("standard input can be one of the files only")
+    if wishes.is_moore and MOORE in request.command.flags:
+        request.given[MOORE.name] = True
     return made(wishes, reader)
 
 
@@ -154,6 +185,8 @@ def made(wishes, reader):
     sides = [tuple(it for it, wish in zip(parts, wishes.parts) if wish.is_assumed == is_assumed) for is_assumed in (True, False)]
     for side in sides:
         refuse_same_titles(side)
+    if not reader.settings.quiet:
+        console.tell(*slips.told(parts, wishes.outs or ()))
     names = tuple(dict.fromkeys(name for it in parts for name in it.names))
     if len(names) > MOST_PROPOSITIONS:
         raise Refused(f"the parts have {len(names)} propositions, and psyn reads at most {MOST_PROPOSITIONS}")
@@ -174,7 +207,8 @@ def part_of(wish, reader, read):
         refuse_faults(read[wish.path])
     text = read[wish.path]
     stem = re.sub(r"\.hoa$", "", os.path.basename(text.name))
-    return refused_behind(text.name, part.part_of, stem, wish.sentence, wish.renamed, text.string)
+    place = ": ".join(filter(None, [wish.place, text.name]))
+    return refused_behind(place, part.part_of, stem, wish.sentence, wish.renamed, text.string)
 
 
 def refuse_faults(text):
@@ -210,6 +244,8 @@ def owned(parts, names, outs):
     mine, others = set(outs or ()), {}
     strange = next((name for name in outs or () if name not in names), None)
     if strange is not None:
+        if strange.rstrip(",;") in names:
+            raise Refused(f"{OUTS.shown}: no part has a proposition {strange!r}: write blanks between names, and no comma")
         raise Refused(f"{OUTS.shown}: no part has a proposition {strange}{words.nearest(strange, names)}")
     by = dict.fromkeys(mine, OUTS.name)
     for it in parts:
@@ -232,7 +268,7 @@ def kept(read):
         return None
     said = [hoa.unquoted(token) for token in tokens]
     if len(said) % WORDS_OF_AN_ITEM or any(side not in ("assume", "guarantee") for side in said[::WORDS_OF_AN_ITEM]):
-        raise Unreadable("an item `part:` of this automaton was not written by compose")
+        raise NotComposed("an item `part:` is not `assume` or `guarantee` with three strings behind it: it was not written by compose")
     sides = {"assume": [], "guarantee": []}
     for at in range(0, len(said), WORDS_OF_AN_ITEM):
         side, title, sentence, text = said[at : at + WORDS_OF_AN_ITEM]

@@ -4,23 +4,26 @@ import html
 from psyntool.pictures.dot import FONT, WIDTH, legend, quoted, within, wrapped
 
 LONGEST_NAME_IN_A_CIRCLE = 8
+# A picture with more pairs of states than this that have edges is unreadable, and `dot` takes minutes for it.
+MOST_EDGES = 600
 # If more pairs of states than this have edges, labels go into tables at the states, so that no label covers another.
 FEW_EDGES = 8
 TABLE_WIDTH = 48
 
 
-def picture(automaton, reach=None):
-    """States, and edges with their labels and acceptance sets; the title shows the acceptance condition and the owner
+def picture(automaton, reach=None, has_legend=True):
+    """States, and edges with their labels and acceptance sets; the legend shows the acceptance condition and the owner
     of each proposition."""
     targets = {state: [edge.target for edge in automaton.edges.get(state, ())] for state in automaton.states}
-    drawn = within("automaton", len(automaton.states), [automaton.start], targets.get, reach, "its start")
+    drawn = within("automaton", len(automaton.states), [automaton.start], targets.get, reach, "its start", MOST_EDGES)
     states = [state for state in automaton.states if drawn is None or state in drawn]
     between = {}
     for state in states:
         for edge in automaton.edges.get(state, ()):
             if drawn is None or edge.target in drawn:
                 between.setdefault(state, {}).setdefault(edge.target, []).append(edge)
-    lines = ["digraph automaton {", FONT, "  rankdir=LR; nodesep=0.3; ranksep=0.4;", automaton_legend(automaton, drawn is not None), "  node [shape=circle];"]
+    lines = ["digraph automaton {", FONT, "  rankdir=LR; nodesep=0.3; ranksep=0.4;"]
+    lines += [*([automaton_legend(automaton, drawn is not None)] if has_legend else []), "  node [shape=circle];"]
     lines += ["  begin [shape=point];", f"  begin -> s{automaton.start};"]
     if sum(map(len, between.values())) <= FEW_EDGES:
         lines += [state_line(state, automaton.state_names.get(state, "")) for state in states]

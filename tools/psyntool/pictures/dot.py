@@ -1,5 +1,6 @@
 """What all pictures in Graphviz DOT share: quoting, legends, and the choice of the vertices to draw."""
 import html
+import math
 import re
 from collections import Counter
 
@@ -49,25 +50,30 @@ def levels(begins, successors):
     return found
 
 
-def most_steps(found):
-    """The greatest number of steps in which so few vertices can be reached that they fit in a picture."""
-    counts, total = Counter(found.values()), 0
+def most_steps(found, successors, most_edges):
+    """The greatest number of steps in which so few vertices can be reached, and so few edges lead from them, that they
+    fit in a picture."""
+    counts, edges, total, links = Counter(found.values()), Counter(), 0, 0
+    for one, steps in found.items():
+        edges[steps] += len(set(successors(one)))
     for steps in sorted(counts):
-        total += counts[steps]
-        if total > MOST:
+        total, links = total + counts[steps], links + edges[steps]
+        if total > MOST or links > most_edges:
             return max(0, steps - 1)
     return max(counts, default=0)
 
 
-def within(what, count, begins, successors, reach, begin):
+def within(what, count, begins, successors, reach, begin, most_edges=math.inf):
     """The vertices that a picture shows: those that can be reached from `begins` in at most `reach` steps, or None for
-    all. A picture of too many vertices is refused."""
+    all. A picture of too many vertices or edges is refused."""
     found = levels(begins, successors)
-    if reach is None and count <= MOST:
-        return None
     drawn = {one for one, steps in found.items() if reach is None or steps <= reach}
-    if reach is not None and len(drawn) <= MOST:
-        return drawn
-    fitting = most_steps(found)
+    edges = sum(len(set(successors(one))) for one in drawn)
+    if edges <= most_edges and (count if reach is None else len(drawn)) <= MOST:
+        return None if reach is None else drawn
+    fitting = most_steps(found, successors, most_edges)
     has = f"this {what} has {count} vertices" if reach is None else f"--reach {reach} draws {len(drawn)} vertices"
-    raise Refused(f"{has}, and a picture of more than {MOST} can't be read: --reach {fitting} draws what so many steps from {begin} reach")
+    most = MOST
+    if edges > most_edges:
+        has, most = has.replace("vertices", f"vertices and {edges} edges"), f"{most_edges} edges"
+    raise Refused(f"{has}, and a picture of more than {most} can't be read: --reach {fitting} draws what so many steps from {begin} reach")

@@ -4,19 +4,28 @@ circuit, and the user's choices at each vertex.
 The circuit moves for the winning player, and the user for the losing player. The user's letters are the circuit's
 inputs.
 """
-from dataclasses import dataclass
+from dataclasses import dataclass, replace
 from functools import cached_property
 
 from psyntool import program
-from psyntool.ends import Unwritten
+from psyntool.ends import Refused, Unwritten
+from psyntool.parts import running
 from psyntool.parts.diagrams import Diagrams
 from psyntool.parts.part import Moves
 from psyntool.pictures.games import OTHER_GAME, Names
 from psyntool.texts import Unreadable
+from psyntool.texts.circuit import at
 
 PLAYERS = ("environment", "controller")
 OTHER_CIRCUIT = "the circuit is not the one that was printed with this game and this certificate"
+OTHER_NAMES = "the {} wins, but the circuit's inputs and outputs don't have the names of its propositions: `verify` tells which are missing"
 LONGEST_SET = 60
+# Where a letter without an edge leads: to no state, with priority 1.
+NO_END = (None, 1)
+# The most steps of a play that the tool plays for the user.
+LONGEST = 10_000
+# Of equal choices so many are compared, each by so many steps.
+MOST_TIED, LOOKAHEAD = 16, 40
 
 
 @dataclass(frozen=True)
@@ -49,8 +58,8 @@ class Step:
 class Board:
     """The data that stay the same during a play: the automaton, the game, the certificate and the circuit."""
 
-    def __init__(self, read, game, certificate, circuit, specification=None):
-        self.automaton, self.game, self.certificate, self.circuit = read, game, certificate, circuit
+    def __init__(self, read, game, certificate, circuit, specification=None, is_printed=True):
+        self.automaton, self.game, self.certificate, self.circuit, self.is_printed = read, game, certificate, circuit, is_printed
         if set(certificate.entries) != set(game.by_identity):
             raise Unreadable(OTHER_GAME)
         begin = game.vertices[0]
@@ -60,9 +69,9 @@ class Board:
         self.mine, self.theirs = owned[self.winner], owned[1 - self.winner]
         self.am_first = begin.owner != self.winner
         if sorted(circuit.names("i")) != sorted(name for _, name in self.mine) or sorted(circuit.names("o")) != sorted(name for _, name in self.theirs):
-            raise Unreadable(OTHER_CIRCUIT)
+            raise Unreadable(OTHER_CIRCUIT if is_printed else OTHER_NAMES.format(PLAYERS[1 - self.winner]))
         self.places = {(key.state, key.priority): identity for identity, key in self.names.keys.items() if key.letter is None}
-        self.diagrams = Diagrams(read.names)
+        self.diagrams, self.known_sets, self.known_ends, self.known_choices_at = Diagrams(read.names), {}, {}, {}
         numbers = {name: number for number, name in enumerate(read.names)}
         self.specification = specification
         sides = (specification.assumptions, specification.guarantees) if specification else ((), ())
@@ -126,11 +135,18 @@ class Board:
     def ends(self, state):
         """A decision diagram that gives, for each letter, the state and the priority to which the letter leads from the
         given state. For a letter without an edge, the diagram gives the state and the priority of the game's sink."""
-        whole = self.diagrams.leaf((None, 1))
-        for edge in self.automaton.edges.get(state, ()):
-            taken, ends = self.diagrams.of_label(edge.label, self.aliases), (edge.target, self.automaton.chain.priority(edge.marks))
-            whole = self.diagrams.joined(taken, whole, lambda is_taken, before, ends=ends: ends if is_taken else before, {})
-        return whole
+        if state not in self.known_ends:
+            edges = self.automaton.edges.get(state, ())
+            sets = [(self.set_of(edge.label), (edge.target, self.automaton.chain.priority(edge.marks))) for edge in edges]
+            self.known_ends[state] = self.diagrams.parting(sets, NO_END)
+        return self.known_ends[state]
+
+    def set_of(self, label):
+        """The letters of a label, as a decision diagram."""
+        # equal labels of an automaton's text are one object
+        if id(label) not in self.known_sets:
+            self.known_sets[id(label)] = self.diagrams.of_label(label, self.aliases)
+        return self.known_sets[id(label)]
 
     def set_text(self, said, letter):
         """The text that shows the user a set of letters: `anything` for all letters, otherwise the set's label or, if
@@ -150,11 +166,60 @@ class Board:
                 whole = self.diagrams.joined(whole, here, added, {})
         return whole
 
-    def longest(self, choices):
+    def longest(self, choices, theirs, states):
         """The choice that should delay the user's loss longest. This is the choice whose vertex has the greatest counts
-        in the certificate, compared from the greatest priority down; among equals, the choice whose vertex has the
-        smallest id."""
-        return max(choices, key=lambda choice: (choice.counts, -choice.vertex))
+        in the certificate, compared from the greatest priority down. Among equals, a controller takes the choice behind
+        which most guarantees are kept longest (`kept`); among equals again, the vertex with the smallest id is taken."""
+        most = max(choice.counts for choice in choices)
+        tied = sorted((choice for choice in choices if choice.counts == most), key=lambda choice: choice.vertex)[:MOST_TIED]
+        if len(tied) == 1 or self.winner == 0 or not self.guaranteed or None in states:
+            return tied[0]
+        return max(tied, key=lambda choice: self.kept(choice, theirs, states))
+
+    def kept(self, choice, theirs, states):
+        """How many guarantees are kept if the user makes a choice and then always the first that should delay the loss
+        longest, and the sum of the steps at which the others fail. `theirs` is the other player's letter if it is
+        known, and `states` are the present states of the guarantees."""
+        states, broke, met, seen = list(states), {}, {}, {}
+        for step in range(LOOKAHEAD):
+            true = {number for number, truth in self.letter_of(choice, theirs).items() if truth}
+            for place, moves in enumerate(self.guaranteed):
+                move = None if states[place] is None else self.diagrams.at(moves.of[states[place]], true)
+                states[place] = move and move.target
+                if move is None:
+                    broke.setdefault(place, step)
+                elif move.is_met or not moves.part.is_buchi:
+                    met[place] = step
+            vertex = None if choice.target is None else self.places[choice.target, choice.priority]
+            if vertex is None or vertex in seen:
+                break
+            seen[vertex] = step
+            theirs = self.their_letter(vertex)
+            choice = max(self.known_choices(vertex, theirs, tuple(states)), key=lambda it: (it.counts, -len(it.broken), -it.vertex))
+        if vertex in seen:
+            # what the loop does not meet fails too
+            for place in range(len(states)):
+                if met.get(place, -1) <= seen[vertex]:
+                    broke.setdefault(place, step)
+        return len(states) - len(broke), sum(broke.values())
+
+    def their_letter(self, vertex):
+        """The letter of the winner at a vertex where the winner moves first, else None."""
+        return None if self.am_first else self.names.keys[self.certificate.entries[vertex].move].letter
+
+    def letter_of(self, choice, theirs):
+        """The letter of both players at a choice; of the winner, who moves second, one that leads where the
+        certificate's move leads."""
+        if theirs is not None:
+            return {**theirs, **choice.letter}
+        between = self.names.keys[choice.vertex]
+        after = self.names.keys[self.certificate.entries[choice.vertex].move]
+        return {**(self.names.leading(between, after) or {}), **choice.letter}
+
+    def known_choices(self, vertex, theirs, states):
+        if (vertex, states) not in self.known_choices_at:
+            self.known_choices_at[vertex, states] = self.choices(vertex, theirs, states)
+        return self.known_choices_at[vertex, states]
 
 
 def broken_there(is_there, broken):
@@ -169,35 +234,21 @@ def added(some, more):
     return some + more
 
 
-@dataclass(frozen=True)
-class Run:
-    """A part after some steps: its state, or the step that violated it, and the steps that took an accepting edge."""
-
-    state: int | None
-    broke: int | None
-    met: tuple
-
-
-def run(moves, steps):
-    """Runs the automaton of a part on the letters that were played."""
-    state, met = moves.start, []
-    for place, step in enumerate(steps):
-        true = {number for number, truth in step.letter.items() if truth}
-        move = None if state is None else moves.diagrams.at(moves.of[state], true)
-        if move is None:
-            return Run(None, place, tuple(met))
-        met += [place] if move.is_met or not moves.part.is_buchi else []
-        state = move.target
-    return Run(state, None, tuple(met))
-
-
 class Circuit:
     """The circuit of a play, which the program simulates."""
 
     def __init__(self, board, text):
-        self.board, self.text = board, text
+        self.board, self.text, self.made = board, text, board.circuit.ordered
         numbers = {name: number for number, name in enumerate(board.automaton.names)}
         self.inputs, self.outputs = ([numbers[name] for name in board.circuit.names(kind)] for kind in "io")
+
+    def answer(self, latches, letter):
+        """The circuit's output letter at given latches and at a letter of the user."""
+        made = self.made
+        bits = {latch.literal // 2: int(bit) for latch, bit in zip(made.latches, latches)}
+        bits.update((literal // 2, int(letter[number])) for literal, number in zip(made.inputs, self.inputs))
+        values = made.known_values(bits)
+        return {number: bool(at(values, literal)) for number, literal in zip(self.outputs, made.outputs)}
 
     def digits(self, letter):
         """The user's letter as a line of a stimulus."""
@@ -228,6 +279,11 @@ class Play:
         return self.board.places[self.steps[-1].target, self.steps[-1].priority] if self.steps else self.board.begin
 
     @property
+    def letters(self):
+        """The letters that were played, each as the set of the true propositions."""
+        return [{number for number, truth in step.letter.items() if truth} for step in self.steps]
+
+    @property
     def lines(self):
         return [step.digits for step in self.steps]
 
@@ -241,10 +297,29 @@ class Play:
 
     @property
     def is_over(self):
-        return self.loop is not None or bool(self.steps) and self.state is None
+        """Whether no step can follow. A play with a loop may end, or go on."""
+        return bool(self.steps) and self.state is None
+
+    def aimed(self, choice):
+        """The choice with the place to which it leads against this circuit, which need not be the one that was printed
+        with the game."""
+        if not self.board.am_first:
+            return choice
+        theirs = self.circuit.answer(self.latches, choice.letter)
+        true = {number for number, truth in {**theirs, **choice.letter}.items() if truth}
+        target, priority = self.board.diagrams.at(self.board.ends(self.state), true)
+        return replace(choice, target=target, priority=priority)
 
     def choices(self):
-        return self.board.choices(self.vertex, self.theirs, [run(moves, self.steps).state for moves in self.board.guaranteed])
+        return self.board.choices(self.vertex, self.theirs, self.guarantees)
+
+    @property
+    def guarantees(self):
+        """The present states of the guarantees."""
+        return [running.run(moves, self.letters).state for moves in self.board.guaranteed]
+
+    def longest(self, choices):
+        return self.board.longest(choices, self.theirs, self.guarantees)
 
     def take(self, mine):
         """Plays a step: the user's letter, the circuit's letter, and the automaton's edge for both letters."""
@@ -258,11 +333,24 @@ class Play:
         if target is not None:
             self.look()
 
+    def hold_out(self):
+        """Plays for the user until there is a loop or no edge. Each step takes the choice that should delay the user's
+        loss longest (`Board.longest`)."""
+        while not self.is_over and self.loop is None:
+            if len(self.steps) == LONGEST:
+                raise Refused(f"the play has {LONGEST:,} steps and no end")
+            self.take(self.longest(self.choices()).letter)
+        return True
+
     def back(self):
         """Undoes the last step."""
         if self.steps:
             self.steps.pop()
             self.look()
+
+    def end_behind(self, last):
+        """Leaves out what was played behind a step, and the loop."""
+        self.steps, self.loop = self.steps[: last + 1], None
 
     def stimulus(self):
         """The user's letters as a lasso stimulus, whose lap (repeated part) is the loop of the play or, without a loop,

@@ -8,7 +8,7 @@ from psyntool.kinds import Kind
 from psyntool.parts import specification
 from psyntool.parts.composing import Composer
 from psyntool.plays.board import Board
-from psyntool.texts import automaton, certificate, circuit, game
+from psyntool.texts import Unreadable, automaton, certificate, circuit, game
 
 ENDINGS = (".aag", ".pg", ".cert")
 KINDS = (Kind.CIRCUIT, Kind.GAME, Kind.CERTIFICATE)
@@ -31,14 +31,19 @@ def given(request):
     reader = Reader(request)
     *printed, spec = reader.texts((*KINDS, Kind.FILE), (*(prefix + ending for ending in ENDINGS), path))
     text = automaton_of(reader, spec, request.command.name)
-    return Given(text, tuple(printed), spec, board_of(text, *(it.string for it in printed)))
+    return Given(text, tuple(printed), spec, board_of(text, *(it.string for it in printed), name=spec.name))
 
 
-def board_of(text, *printed):
-    """The `Board` of an interactive play, made of the texts of an automaton, a circuit, a game and a certificate."""
+def board_of(text, *printed, name="", is_printed=True):
+    """The `Board` of an interactive play, made of the texts of an automaton, a circuit, a game and a certificate. The
+    automaton's name is put before the message of a specification that can't be parsed. The circuit was printed with the
+    game and the certificate, or is another one."""
     read = automaton.read(text)
     these = game.read(printed[1]), certificate.read(printed[2]), circuit.read(printed[0])
-    return Board(read, *these, specification.kept(read))
+    try:
+        return Board(read, *these, specification.kept(read), is_printed)
+    except specification.NotComposed as error:
+        raise Unreadable(f"{name}: {error}") from None
 
 
 def automaton_of(reader, text, command):
@@ -46,6 +51,6 @@ def automaton_of(reader, text, command):
     if text.looks_like is Kind.LIST:
         return Composer(specification.of_list(text, reader)).composed().text()
     if text.looks_like is not Kind.AUTOMATON:
-        what = text.looks_like.with_article if text.looks_like else "no automaton"
+        what = text.looks_like.with_article if text.looks_like else "no automaton" if text.bytes.strip() else "empty"
         raise Refused(f"{text.name} is {what}; {command} wants PREFIX and a specification")
     return text.string

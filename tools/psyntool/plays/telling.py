@@ -1,11 +1,12 @@
 """What the user is told about an interactive play: its present state, the choices, and how it ended."""
-from psyntool.plays.board import run
+from psyntool.parts import running
 
 
 def standing(play):
     """The present state of the play, in lines."""
     board, behind = play.board, f" (priority {play.steps[-1].priority})" if play.steps else ""
-    told = [f"step {len(play.steps)}: {board.title(play.state)}{behind}"]
+    told = [] if play.loop is None else [f"if the play ends here (e), {looping(play)}"]
+    told.append(f"step {len(play.steps)}: {board.title(play.state)}{behind}")
     return told + ([] if play.theirs is None else [f"the {board.other} says {board.letter_text(play.theirs)}"])
 
 
@@ -13,8 +14,8 @@ def offered(play):
     """The user's choices, and for each a line with its number; `*` marks the choice that should delay the user's loss
     longest."""
     choices = play.choices()
-    best, width = play.board.longest(choices), max(len(choice.said) for choice in choices)
-    lines = [f"{'*' if choice is best else ' '}{number:>3}  {choice.said:<{width}}  -> {where(play.board, choice)}" for number, choice in enumerate(choices, 1)]
+    best, width = play.longest(choices), max(len(choice.said) for choice in choices)
+    lines = [f"{'*' if choice is best else ' '}{number:>3}  {choice.said:<{width}}  -> {where(play.board, play.aimed(choice))}" for number, choice in enumerate(choices, 1)]
     return choices, lines
 
 
@@ -33,26 +34,23 @@ def ended(play):
     if play.loop is None:
         told = [f"at step {last} there is no edge: the automaton rejects, whatever follows"]
     else:
-        greatest = max(step.priority for step in play.steps[play.loop :])
-        what = f"step {last} comes" if play.loop == last else f"steps {play.loop} to {last} come"
-        parity = "even: the automaton accepts" if greatest % 2 == 0 else "odd: the automaton rejects"
-        told = [f"{what} again and again; the greatest priority there is {greatest}, {parity}"]
+        told = [looping(play)]
     for side, parts in (("assumption", play.board.assumed), ("guarantee", play.board.guaranteed)):
         told += [line for moves in parts for line in of_part(play, side, moves)]
     return told
 
 
+def looping(play):
+    """The steps that are repeated, and what the automaton says to that."""
+    last, greatest = len(play.steps) - 1, max(step.priority for step in play.steps[play.loop :])
+    what = f"step {last} comes" if play.loop == last else f"steps {play.loop} to {last} come"
+    parity = "even: the automaton accepts" if greatest % 2 == 0 else "odd: the automaton rejects"
+    return f"{what} again and again; the greatest priority there is {greatest}, {parity}"
+
+
 def of_part(play, side, moves):
-    """A line which says that a part was violated, or that the loop never takes the part's accepting edges. The next
-    line is the sentence that describes the part."""
-    found, part = run(moves, play.steps), moves.part
-    if found.broke is not None:
-        said = f"step {found.broke} breaks the {side} {part.title}"
-    elif play.loop is not None and not any(place >= play.loop for place in found.met):
-        said = f"the loop never meets the {side} {part.title}"
-    else:
-        return []
-    return [said, f"  {part.sentence}"] if part.sentence else [said]
+    """Lines on a part that was violated, or that the loop does not meet."""
+    return running.told(side, moves, play.letters, play.loop)
 
 
 def table(play):

@@ -12,4 +12,4 @@ NUMBER = r"\d{1,20}"
 
 def is_number(word):
     """Whether a word (a string or bytes) is a number of at most 20 digits."""
-    return word.isdigit() and len(word) <= 20
+    return word.isdigit() and word.isascii() and len(word) <= 20

@@ -66,6 +66,45 @@ class Circuit:
         return replace(self, inputs=inputs, symbols=symbols)
 
     @property
+    def ordered(self):
+        """The circuit with each gate behind the gates that it reads. No gate may read itself, directly or through
+        others."""
+        left, order = {gate.literal // 2: gate for gate in self.gates}, []
+        for gate in self.gates:
+            waiting = [gate.literal // 2]
+            while waiting:
+                now = left.get(waiting[-1])
+                before = [side // 2 for side in now.sides if side // 2 in left] if now else []
+                if now and not before:
+                    order.append(left.pop(waiting[-1]))
+                waiting += before
+                if not before:
+                    waiting.pop()
+        return replace(self, gates=tuple(order))
+
+    def constants(self):
+        """The outputs that have the same value in every step, whatever the inputs are, with their values: those for
+        which this is seen if a latch that may change, and each input, counts as unknown."""
+        latches = {latch.literal // 2: latch.reset if latch.reset < 2 else None for latch in self.latches}
+        while True:
+            values = self.known_values(latches)
+            after = {latch.literal // 2: at(values, latch.next) for latch in self.latches}
+            joined = {one: value if after[one] == value else None for one, value in latches.items()}
+            if joined == latches:
+                break
+            latches = joined
+        found = {name: at(values, literal) for name, literal in zip(self.names("o"), self.outputs)}
+        return {name: value for name, value in found.items() if value is not None}
+
+    def known_values(self, latches):
+        """The value of each variable, None where it is unknown. A gate must stand after the gates that it reads."""
+        values = {0: 0, **latches}
+        for gate in self.gates:
+            sides = [at(values, side) for side in gate.sides]
+            values[gate.literal // 2] = 0 if 0 in sides else None if None in sides else 1
+        return values
+
+    @property
     def ending(self):
         """The symbols, one on each line, and the comment section."""
         return "".join(f"{kind}{number} {name}\n" for (kind, number), name in self.symbols.items()) + self.comment
@@ -79,6 +118,12 @@ class Circuit:
         rows += [(latch.literal, latch.next, latch.reset) if latch.reset else (latch.literal, latch.next) for latch in self.latches]
         rows += [*((literal,) for literal in self.outputs), *((gate.literal, *gate.sides) for gate in self.gates)]
         return "".join(" ".join(map(str, row)) + "\n" for row in rows) + self.ending
+
+
+def at(values, literal):
+    """The value of a literal; a variable without a value is unknown."""
+    value = values.get(literal // 2)
+    return None if value is None else value ^ literal & 1
 
 
 def numbers(lines, count, least):

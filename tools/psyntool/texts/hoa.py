@@ -1,6 +1,7 @@
 """Parses the Hanoi Omega-Automata format: tokens, header items, and states with their edges."""
 import re
 from dataclasses import dataclass, field
+from typing import NamedTuple
 
 from psyntool.texts import NUMBER, Unreadable
 from psyntool.texts.labels import AND, NOT, Alias, Operator, Proposition
@@ -12,8 +13,7 @@ BINDS = {"|": 1, "&": 2}
 NESTED = Operator("()", 1)
 
 
-@dataclass(frozen=True)
-class Token:
+class Token(NamedTuple):
     text: str
     offset: int
 
@@ -30,8 +30,9 @@ class Edge:
     offset: int
 
 
-def tokens_of(text):
-    """The tokens of a text without its comments. Comments nest, and a string may contain `/*` or `*/`."""
+def tokens_of(text, last=""):
+    """The tokens of a text without its comments, up to the first token that is `last` if there is one. Comments nest,
+    and a string may contain `/*` or `*/`."""
     tokens, depth, at = [], 0, 0
     for found in TOKEN.finditer(text):
         if found.start() < at:
@@ -45,6 +46,8 @@ def tokens_of(text):
             depth -= 1
         else:
             tokens.append(Token(sign, found.start()))
+            if sign == last:
+                break
     return tokens
 
 
@@ -53,6 +56,8 @@ class Reader:
 
     def __init__(self, tokens):
         self.tokens, self.at = tokens, 0
+        # the labels of edges that were parsed, by their tokens
+        self.labels = {}
 
     @property
     def now(self):
@@ -223,9 +228,16 @@ def bracketed(reader, aliases):
     """Parses a label in brackets; None if there is none."""
     if not reader.take(r"\[", must=False):
         return None
-    label = known_label(reader, aliases)
+    end = reader.at
+    while end < len(reader.tokens) and reader.tokens[end].text != "]":
+        end += 1
+    key = " ".join(token.text for token in reader.tokens[reader.at : end])
+    if key in reader.labels:
+        reader.at = end
+    else:
+        reader.labels[key] = known_label(reader, aliases)
     reader.take(r"\]")
-    return label
+    return reader.labels[key]
 
 
 def nth_letter(place, count):

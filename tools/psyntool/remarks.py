@@ -1,0 +1,73 @@
+"""Remarks on a controller that is right, and yet perhaps not the one that was wanted: outputs that never change, and
+assumptions that a controller can make fail."""
+from psyntool import program
+from psyntool.command import MOORE
+
+# Of a longer text, constant outputs are not looked for.
+LONGEST = 1 << 19
+# A play with more steps than this is not shown.
+MOST_STEPS = 40
+
+
+def constants(answer):
+    """A line that names the outputs of an answer's circuit that never change, if the answer is a controller and has
+    such outputs."""
+    from psyntool.texts import Unreadable, circuit, report
+
+    if answer.status != 10 or len(answer.bytes) > LONGEST:
+        return []
+    try:
+        made = circuit.read(report.read(answer.text).parts[0])
+    except Unreadable:
+        return []
+    said = [f"{name} is {value}" for name, value in made.constants().items()]
+    return [f"in this controller some outputs never change: {', '.join(said)}"] if said else []
+
+
+def failing(composer, passed):
+    """If a controller can make the assumptions of a specification fail: lines with the assumptions that it can make
+    fail, as few as possible, and with a play in which the environment keeps them as long as it can."""
+    from psyntool.parts import cores
+
+    of, flags = composer.specification, [name for name in passed if name == MOORE.name]
+
+    def can_fail(assumptions):
+        return asked("synth", flags, composer, assumptions).status == 10
+
+    if not of.assumptions or not can_fail(of.assumptions):
+        return []
+    parts = cores.shrunk(of.assumptions, can_fail)
+    titles = " and ".join(it.title for it in parts)
+    what = f"the assumption {titles} fail" if len(parts) == 1 else f"the assumptions {titles} fail together"
+    return [f"a controller can make {what}, so this one may win without keeping the guarantees", *example(composer, flags, parts)]
+
+
+def example(composer, flags, parts):
+    """A play against a controller that makes the assumptions fail."""
+    from psyntool.parts import running
+    from psyntool.plays import board, reading, telling
+    from psyntool.texts import report
+
+    answer = asked("synth --full", flags, composer, parts)
+    printed = report.read(answer.bytes.decode("utf-8", "surrogateescape")).parts
+    play = board.Play(reading.board_of(text_of(composer, parts), *printed), printed[0].encode("utf-8", "surrogateescape"))
+    play.hold_out()
+    broken = [found.broke for found in (running.run(moves, play.letters) for moves in play.board.assumed) if found.broke is not None]
+    if broken:
+        play.end_behind(min(broken))
+    rows = telling.table(play) if len(play.steps) <= MOST_STEPS else [f"after {len(play.steps)} steps:"]
+    return ["so it can play:", *rows, *(line for moves in play.board.assumed for line in telling.of_part(play, "assumption", moves))]
+
+
+def text_of(composer, assumptions):
+    """The automaton of the words in which one of the assumptions fails; with `--strict`, not behind a guarantee that
+    broke before."""
+    from psyntool.parts.composing import ASSUMPTIONS_FAIL
+
+    guarantees = composer.specification.guarantees if composer.specification.is_strict else ()
+    return composer.composed(assumptions, guarantees).text(ASSUMPTIONS_FAIL)
+
+
+def asked(command, flags, composer, assumptions):
+    head = " ".join([command, *flags]) + "\n"
+    return program.ask((head + text_of(composer, assumptions)).encode("utf-8", "surrogateescape"))

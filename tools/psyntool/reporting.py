@@ -1,0 +1,72 @@
+"""The line of JSON that --json prints in place of an answer."""
+import json
+import re
+
+from psyntool import console, running
+from psyntool.ends import WRONG_SOLUTIONS
+
+VERDICTS = ("REALIZABLE", "UNREALIZABLE", "wins", "loses", "accepted", "rejected", "valid", "closed")
+# The fields of the line, in order, as the manual describes them.
+FIELDS = {
+    "command": "the command",
+    "files": "the words behind it, in a list",
+    "status": "the exit status",
+    "verdict": "REALIZABLE, UNREALIZABLE, wins, loses, accepted, rejected, valid or closed, or of judge right or wrong",
+    "stem": "of lasso, and of verify where the circuit loses: the number of steps before the lap",
+    "lap": "the number of steps of the lap, which repeats for ever",
+    "fault": "the number of the fault",
+    "name": "the name of the fault",
+    "offset": "the place of the fault, in bytes from 0",
+    "seconds": "how long the command took",
+    "error": "why there is no answer, if it is no fault",
+    "answer": "what the command prints without --json; bytes that are no UTF-8 are replaced",
+}
+
+
+def run(request):
+    """Runs a command, prints one line of JSON about its answer, and returns the exit status."""
+    outcome = running.captured(request)
+    console.write_text(line_of(request, outcome))
+    if outcome.message:
+        console.tell(f"psyn: {outcome.message}")
+    return outcome.status
+
+
+def line_of(request, outcome):
+    """The line of JSON about a run."""
+    answer = outcome.written.decode("utf-8", "replace")
+    fault = re.match(r"fault (?:(\d+) )?(\w+)(?: at (\d+))?", answer)
+    number, name, offset = fault.groups() if fault else (None, None, None)
+    stem, lap = steps_of(answer)
+    told = {
+        "command": request.command.name,
+        "files": request.words,
+        "status": outcome.status,
+        "verdict": verdict_of(request.command.name, answer, number, outcome.message),
+        "stem": stem,
+        "lap": lap,
+        "fault": number and int(number),
+        "name": name,
+        "offset": offset and int(offset),
+        "seconds": round(outcome.seconds, 3),
+        "error": outcome.message or None,
+        "answer": answer,
+    }
+    return json.dumps(told) + "\n"
+
+
+def verdict_of(command, answer, number, message):
+    """The verdict that an answer is, or None."""
+    if command == "judge" and not message:
+        return "wrong" if number in WRONG_SOLUTIONS else "right" if number is None and answer.startswith("psyncert") else None
+    word = re.match(r"\w*", answer)[0]
+    return word if word in VERDICTS else None
+
+
+def steps_of(answer):
+    """The numbers of steps of the stem and of the lap that `lasso` or `verify` prints; each is None in another answer."""
+    found = re.match(r"(?:accepted|rejected) stem (\d+) lap (\d+)$", answer, re.M)
+    if found:
+        return int(found[1]), int(found[2])
+    found = re.match(r"loses\n((?:[01]*\n)*)-\n((?:[01]*\n)*)", answer)
+    return (found[1].count("\n"), found[2].count("\n")) if found else (None, None)
