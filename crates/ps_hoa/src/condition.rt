@@ -83,9 +83,9 @@ impl Infix for Conditions {
         matches!(kind, Kind::LeftParen)
     }
 
-    // Never called: in a condition, `!` may only come before the number of a set, not before an operand.
-    fn negated(&self, _alloc: Global, operand: Cond) -> Result<Cond, AllocError> {
-        Ok(operand)
+    // In a condition, `!` may only come before the number of a set, not before an operand.
+    fn negated(&self, _alloc: Global, _operand: Cond) -> Result<Option<Cond>, AllocError> {
+        Ok(None)
     }
 
     fn begun(

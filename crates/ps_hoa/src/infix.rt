@@ -1,6 +1,6 @@
 //! The parser of operands with connectives between them, for labels and for acceptance conditions.
 
-ghost use Rattle.std.specs.Prelude.{◌≡◌, ◌↔◌, [], ◌∷◌, ◌++◌, IfOk, IfSome, List, true};
+ghost use Rattle.std.specs.Prelude.{◌≡◌, ◌↔◌, [], ◌∷◌, ◌++◌, IfOk, List, option_map, true};
 ghost use Rattle.ps_hoa.specs.Operands.{InfixGrammar, between, holds as holds_at, nesting_limit, operand as operand_of};
 ghost use Rattle.ps_hoa.specs.Operands.{kind_of, rows};
 ghost use Rattle.ps_hoa.specs.Scan.{next_of, stream_of};
@@ -53,10 +53,14 @@ pub(crate) trait Infix {
     fn holds(&self, kind: Kind) -> bool
         ensures { result ≡ holds_at (grammar self.now).negated kind };
 
-    /// The value of an operand with `!` before it.
-    fn negated(&self, alloc: Global, operand: Self::Value) -> Result<Self::Value, AllocError>
-        ensures { IfOk result
-            (λ v. IfSome (grammar self.now).negated (λ negated. meaning v ≡ negated (meaning operand))) };
+    /// The value of an operand with `!` before it, if `!` may come before an operand.
+    fn negated(
+        &self,
+        alloc: Global,
+        operand: Self::Value,
+    ) -> Result<Option<Self::Value>, AllocError>
+        ensures { IfOk result (λ v. option_map meaning v
+            ≡ option_map (λ negated. negated (meaning operand)) (grammar self.now).negated) };
 
     /// A row with the given connective and the first operand.
     fn begun(
@@ -190,8 +194,11 @@ fn operand<G: Infix>(
     }
     tokens.skip();
     if is_kind(token, Kind::Not) {
-        let negated = operand(alloc, tokens, grammar, room - 1)?;
-        return Ok(grammar.negated(alloc, negated)?);
+        let plain = operand(alloc, tokens, grammar, room - 1)?;
+        let Some(negated) = grammar.negated(alloc, plain)? else {
+            unreachable!()
+        };
+        return Ok(negated);
     }
     let inner = row(alloc, tokens, grammar, room - 1, Connective::Or)?;
     expect(tokens, Kind::RightParen)?;

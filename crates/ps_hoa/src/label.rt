@@ -51,11 +51,11 @@ impl Infix for Scope<'_, '_> {
     }
 
     #[inline(always)]
-    fn negated(&self, alloc: Global, operand: Label) -> Result<Label, AllocError> {
-        match operand {
-            Label::Atom(proposition) => Ok(Label::Negated(proposition)),
-            operand => Ok(Label::Neg(Box::new(alloc, operand)?)),
-        }
+    fn negated(&self, alloc: Global, operand: Label) -> Result<Option<Label>, AllocError> {
+        Ok(Some(match operand {
+            Label::Atom(proposition) => Label::Negated(proposition),
+            operand => Label::Neg(Box::new(alloc, operand)?),
+        }))
     }
 
     #[inline(always)]

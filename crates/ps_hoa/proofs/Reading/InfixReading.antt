@@ -3,10 +3,10 @@
 -- - `operand_row`: for each connective, its operands satisfy `Row`, the hypotheses of the lemmas about rows of operands
 -- - `leaf_serves`, `too_deep`: the results for an operand that contains no other operand, and for an operand that is
 --   nested too deep
--- - `not_reads`, `not_fails`: the results for an operand after `!`
+-- - `not_reads`, `not_fails`, `negated_value`: the results for an operand after `!`, and its value
 -- - `paren_reads`, `paren_fails`, `paren_stays_open`: the results for an operand in parentheses
 use Rattle.std.proofs.Common.{◌≡◌, ℕ, zero, suc, ◌-◌, true, false, List, Option, None, Some, is_some, IfSome, refl}
-use Rattle.std.proofs.Common.{sym, ap, subst, ◌∙◌, arith, rules}
+use Rattle.std.proofs.Common.{option_map, sym, ap, subst, ◌∙◌, arith, rules}
 use Rattle.ps_text.specs.Answers.{Stream, Piece, Found, next_of as there_of, offset_of}
 use Rattle.ps_text.specs.Parts.{Part, either, mapped}
 use Rattle.ps_text.specs.Readers.{Stops, Reads}
@@ -55,6 +55,13 @@ other_holds n kind h differs = grind arith
 
 abbrev held : {V : Type 0} → (Connective → List V → V) → Part Sign V HoaCause → Part Sign V HoaCause
 held together P = inner (rows together connectives.Or P)
+
+-- the value of an operand with `!` before it
+pub negated_value : {V W : Type 0} (meaning : W → V) (h : Option (V → V)) (v : V) {o : Option W} {w : W} →
+    option_map meaning o ≡ option_map (λ negated. negated v) h → o ≡ Some w →
+    IfSome h (λ negated. meaning w ≡ negated v)
+negated_value meaning None v e is = tt
+negated_value meaning (Some negated) v e is = cc
 
 module _ {V : Type 0} (P : Part Sign V HoaCause) (together : Connective → List V → V)
     (l : Laws Odd P (Of is_start) Nothing ⊥) where

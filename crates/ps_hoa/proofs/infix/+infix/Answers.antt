@@ -6,7 +6,7 @@ use Rattle.ps_hoa.proofs.Reading.RowReading.{row_fails, row_done, row_shrinks}
 use Rattle.ps_hoa.proofs.Reading.HoaExits.{exit, serves_meets, value_is}
 use Rattle.ps_hoa.proofs.Reading.ExpectReading.{tests_right}
 use Rattle.ps_hoa.proofs.Reading.NextSign.{start_there}
-use Rattle.ps_hoa.proofs.Reading.InfixReading.{operand_row, leaf_serves, too_deep}
+use Rattle.ps_hoa.proofs.Reading.InfixReading.{operand_row, leaf_serves, too_deep, negated_value}
 use Rattle.ps_hoa.proofs.Reading.InfixReading.{not_reads, not_fails, paren_reads, paren_fails, paren_stays_open}
 use Rattle.ps_hoa.proofs.infix.+infix.Goals as goal
 
@@ -60,19 +60,20 @@ operand-returns-then-not-holds g t c =
 pub operand-returns-then-room-eq0 : goal.operand-returns-then-room-eq0
 operand-returns-then-room-eq0 g t c = grind (arith, too_deep, start_there)
 
-pub operand-returns-in_err-negated : goal.operand-returns-in_err-negated
-operand-returns-in_err-negated g t c =
+pub operand-returns-in_err-plain : goal.operand-returns-in_err-plain
+operand-returns-in_err-plain g t c =
     exit g.G.Infix.meaning _ _ _ (not_fails (g.G.Infix.grammar c.args.grammar.now) c.requires c.args.room _
     c.peek-token.ensures.next (sym c.holds.ensures ∙ c.if-not-holds.false)
-    c.if-room-eq0.false c.skip.ensures.rest (c.is_kind.ensures.0 c.if-is_kind.true)) c.in_err-negated.ensures
+    c.if-room-eq0.false c.skip.ensures.rest (c.is_kind.ensures.0 c.if-is_kind.true)) c.in_err-plain.ensures
     c.from_residual.ensures.1
 
 pub operand-returns-then-is_kind : goal.operand-returns-then-is_kind
 operand-returns-then-is_kind g t c =
     not_reads (g.G.Infix.grammar c.args.grammar.now) c.requires c.args.room _
     c.peek-token.ensures.next (sym c.holds.ensures ∙ c.if-not-holds.false)
-    c.if-room-eq0.false c.skip.ensures.rest (c.is_kind.ensures.0 c.if-is_kind.true) c.in_ok-negated.ensures
-    c.in_ok-negated-2.ensures
+    c.if-room-eq0.false c.skip.ensures.rest (c.is_kind.ensures.0 c.if-is_kind.true) c.in_ok-plain.ensures
+    (negated_value g.G.Infix.meaning (g.G.Infix.grammar c.args.grammar.now).negated _ c.in_ok-negated.ensures
+    c.in-Some.is)
 
 pub operand-returns-in_err-inner : goal.operand-returns-in_err-inner
 operand-returns-in_err-inner g t c =
