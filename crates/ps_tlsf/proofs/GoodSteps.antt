@@ -54,7 +54,7 @@ abbrev pub Holds : {S : Type 0} → (S → Type 0) → Result S TlsfCause → Ty
 Holds P (Ok s) = P s
 Holds P (Err cause) = Unit {0}
 
-holds_at : {S : Type 0} (P : S → Type 0) (r : Result S TlsfCause) (s : S) → Holds P r → r ≡ Ok s → P s
+pub holds_at : {S : Type 0} (P : S → Type 0) (r : Result S TlsfCause) (s : S) → Holds P r → r ≡ Ok s → P s
 holds_at P r s h e = subst (Holds P) e h
 
 -- a test chooses between an error and a result
@@ -73,7 +73,8 @@ holds_counted : (P : Work → Type 0) (b : Bool) (v : Work) (next : Work → Res
 holds_counted P true v next h = tt
 holds_counted P false v next h = h
 
-no_state : (found : Found TlsfCause) (s : State) → (let r : Result State (Found TlsfCause) = Err found in r) ≡ Ok s → ⊥
+pub no_state : (found : Found TlsfCause) (s : State) →
+    (let r : Result State (Found TlsfCause) = Err found in r) ≡ Ok s → ⊥
 no_state found s e = cc
 
 -- ## In a formula
@@ -121,7 +122,7 @@ nested_holds form work none s = holds_else (λ (w : Work). Shape 0 w.frames w.op
     (Ok (record work { frames = record { form = form; depth = depth_of work.frames + 1 } ∷ work.frames }))
     (nested_shape form work.frames (depth_of work.frames + 1) work.ops none s)
 
-number_small : (names : List Name) (text : List ℕ) → length names ≤ 64 → (n : ℕ) → number_of names text ≡ Some n →
+pub number_small : (names : List Name) (text : List ℕ) → length names ≤ 64 → (n : ℕ) → number_of names text ≡ Some n →
     nat_lt n 64 ≡ true
 number_small names text few n e =
     let d : Name = record { name = []; side = Inputs } in
@@ -263,12 +264,12 @@ formula_good p s t is few formed h = tt
 
 -- ## Outside formulas
 
-abbrev outside : Phase → Bool
+abbrev pub outside : Phase → Bool
 outside (phases.Operand section) = false
 outside (phases.Behind section) = false
 outside phase = true
 
-abbrev outside_any : Option Phase → Bool
+abbrev pub outside_any : Option Phase → Bool
 outside_any None = true
 outside_any (Some phase) = outside phase
 
@@ -309,7 +310,7 @@ section_outside (signs.Section section) = refl
 section_outside signs.RightBrace = refl
 section_outside sign = refl
 
-goes_outside : (p : Phase) (sign : Sign) → outside_any (goes p sign) ≡ true
+pub goes_outside : (p : Phase) (sign : Sign) → outside_any (goes p sign) ≡ true
 goes_outside phases.Items sign = item_outside sign
 goes_outside (phases.Colon item) signs.Colon = first_outside item
 goes_outside phases.FirstTag sign = tag_outside sign (item_or_close sign) (item_outside sign)

@@ -3,14 +3,17 @@ pub mod Words
 pub mod Bytes
 pub mod Lexicon
 pub mod Phases
+pub mod Outline
 pub mod Headings
 pub mod Names
 pub mod NameViews
 pub mod Machines
 pub mod Steps
 pub mod Trees
+pub mod Grammar
 pub mod Wholes
 pub mod Specifications
+pub mod Derivations
 pub mod SpecificationViews
 pub mod Meanings
 pub mod Reading

@@ -5,9 +5,15 @@
 //! |---|---|
 //! | `read(text)` | the specification, or the first `TlsfFault` in the text; at most 16,777,216 bytes |
 //! | `Specification` | propositions, order of moves, the formulas of the sections with their spans, the whole formula |
+//! | `names_of(propositions)`, `outputs_of` | the names of propositions; the numbers of the outputs among them |
 //! | `TlsfCause::number`, `name` | the number and name of an error in psyn's list of faults |
 //! | `one_answer`, `some_answer` | laws: a text has exactly one answer, its meaning or its first error |
 //! | `whole_is_of_sections` | law: the whole formula is made from the sections' formulas as TLSF defines it |
+//! | `texts_have_the_outline` | law: the tokens of a text are in the order that a grammar describes |
+//! | `refused_texts_lack_the_outline` | law: outside formulas, what is refused as syntax is in no such order |
+//! | `formulas_are_derived`, `derived_formulas_are_read` | laws: formulas are what the grammar derives, and no others |
+//! | `one_formula` | law: the grammar is unambiguous |
+//! | `names_differ` | law: no two propositions have the same name, and there are at most 64 |
 //!
 //! Parsing takes time proportional to the length of the text. No function calls itself: the operators of a formula are
 //! kept on a stack until their operands are complete.
@@ -30,8 +36,11 @@ mod work;
 
 pub use fault::{TlsfCause, TlsfFault};
 pub use heading::Span;
-pub use laws::{one_answer, some_answer, whole_is_of_sections};
-pub use names::Proposition;
+pub use laws::{
+    derived_formulas_are_read, formulas_are_derived, names_differ, one_answer, one_formula,
+    refused_texts_lack_the_outline, some_answer, texts_have_the_outline, whole_is_of_sections,
+};
+pub use names::{Proposition, names_of, outputs_of};
 pub use reader::read;
 pub use specification::{SectionFormula, Specification};
 pub use words::{Infix, Item, Order, Prefix, Section, Side, Sign};

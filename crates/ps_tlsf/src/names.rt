@@ -1,8 +1,9 @@
 //! The declared names.
 
-ghost use Rattle.std.specs.Prelude.{◌≡◌, ◌<◌, length, position, IfSome};
+ghost use Rattle.std.specs.Prelude.{◌≡◌, ◌<◌, ◌≤◌, length, map, position, IfOk, IfSome};
 ghost use Rattle.std.specs.Str.{bytes_eq};
-ghost use Rattle.ps_tlsf.specs.Names.{is_reserved};
+ghost use Rattle.ps_tlsf.specs.Names.{is_output, is_reserved, names_in, outputs_in};
+ghost use Rattle.ps_tlsf.specs.NameViews.{name_data};
 
 use crate::fault::TlsfCause;
 use crate::words::{Side, Sign, is_same};
@@ -107,4 +108,36 @@ fn number_among(list: &[Proposition], text: &[u8]) -> Option<usize>
 {
     list.iter()
         .position(|proposition| is_same(proposition.name.as_slice(), text))
+}
+
+/// The names of propositions, in the order of their numbers. Fails if out of memory.
+pub fn names_of(alloc: Global, propositions: &[Proposition]) -> Result<Vec<Vec<u8>>, AllocError>
+    ensures { IfOk result (λ names. map (λ name. name.items) names.items ≡ names_in (map name_data propositions.now)) }
+{
+    let mut names = Vec::new(alloc);
+    for proposition in propositions {
+        names.push(Vec::from_slice(alloc, &proposition.name)?)?;
+    }
+    Ok(names)
+}
+
+/// The numbers of the outputs among propositions, which are numbered in their order. Fails if out of memory.
+pub fn outputs_of(alloc: Global, propositions: &[Proposition]) -> Result<Vec<u32>, AllocError>
+    requires { length propositions.now ≤ 64 }
+    ensures { IfOk result (λ outputs. outputs.items ≡ outputs_in (map name_data propositions.now)) }
+{
+    let mut outputs = Vec::new(alloc);
+    for (number, proposition) in propositions.iter().enumerate() {
+        if is_output(proposition.side) {
+            outputs.push(number as u32)?;
+        }
+    }
+    Ok(outputs)
+}
+
+/// Whether a proposition is the controller's.
+fn is_output(side: Side) -> bool
+    ensures { result ≡ is_output side }
+{
+    matches!(side, Side::Outputs)
 }

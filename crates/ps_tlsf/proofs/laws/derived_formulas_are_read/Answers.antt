@@ -1,0 +1,5 @@
+use Rattle.ps_tlsf.proofs.DerivedReads.{derived_is_read}
+use Rattle.ps_tlsf.proofs.laws.derived_formulas_are_read.Goals as goal
+
+pub returns : goal.returns
+returns c = derived_is_read
