@@ -103,6 +103,16 @@ def marks():
     return on_automata(filled(head(propositions(17), [16], "64 t") + "State: 0\n", row, "--END--\n"))
 
 
+def letters():
+    """65,534 states, each with an edge for one letter of 20 propositions; the pairs of a state and its letter would collide
+    in a hash table with a fixed seed. With --moore, such a pair stands for a vertex."""
+    count = 65534
+    chosen = map(int, colliding(count, 14, 1 << 20, "each"))
+    rows = (f"State: {q} [{'&'.join(('' if letter >> b & 1 else '!') + str(b) for b in range(20))}] {(q + 1) % count} {{0}}\n"
+            for q, letter in enumerate(chosen))
+    return on_automata(filled(head(propositions(21), range(20), "1 Inf(0)"), rows, "--END--\n"))
+
+
 def inputs():
     """64 inputs and 65,535 states, each of which reads one of the inputs."""
     rows = (f"State: {q} [{q % 64}] {(q + 1) % 65535} {{0}} [!{q % 64}] {(q * 5 + 2) % 65535}\n" for q in range(65535))
@@ -160,7 +170,8 @@ def vertices():
 
 def colliding(count, bits, most, *first):
     """Numbers that collide as keys of a hash table with the toolchain's hash function and a fixed seed. If `first` is
-    given, the keys that collide are pairs of `first` and each number returned."""
+    given, the keys that collide are pairs of `first` and each number returned; if `first` is `each`, they are variants
+    with the tag 1, the index of a number, and the number."""
     with tempfile.TemporaryDirectory() as room:
         program = os.path.join(room, "colliding")
         subprocess.run(["cc", "-O2", "-o", program, os.path.join(os.path.dirname(os.path.abspath(__file__)), "colliding.c")], check=True)
@@ -412,6 +423,6 @@ def first_lines():
 
 
 KINDS = (
-    label, wide_label, twined_label, condition, states, edges, equal_edges, marks, inputs, cascades, nesting, comments, names, vertices, ids, priorities,
+    label, wide_label, twined_label, condition, states, edges, equal_edges, marks, letters, inputs, cascades, nesting, comments, names, vertices, ids, priorities,
     fan, *BY_RUNGS, names_of_games, certificates, gates, latches, wires, variables, stimuli, letters_and_gates, counting, inputs_at_the_limit, first_lines,
 )

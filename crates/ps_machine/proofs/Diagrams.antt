@@ -7,6 +7,7 @@ pub mod MaskLemmas
 pub mod DrawingLemmas
 pub mod ClassRests
 pub mod FirstDrawing
+pub mod FollowedEdges
 pub mod SecondDrawing
 pub mod FoundLetters
 pub mod TriedLetters

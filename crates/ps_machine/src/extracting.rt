@@ -80,11 +80,11 @@ pub fn machine_of_certificate(
     game: &AutomatonGame,
     certificate: &Certificate,
 ) -> Result<Machine, AllocError>
-    requires game { IsGameOf (board_of order automaton.now) (mover_of order) game.now.keys.keys game.now.game.game }
+    requires game { IsGameOf (board_of order automaton.now) (mover_of order) game.now.keys.items game.now.game.game }
     requires classes { HasClasses order automaton.now game.now }
     requires fits { Fits game.now.game.game certificate.now }
     requires valid { IsValid game.now.game.game certificate.now }
-    ensures machine { IfOk result (λ m. IsMachineOf (board_of order automaton.now) (mover_of order) game.now.keys.keys
+    ensures machine { IfOk result (λ m. IsMachineOf (board_of order automaton.now) (mover_of order) game.now.keys.items
         game.now.game.game certificate.now (behaviour m)) }
     ensures propositions { IfOk result (λ m. HasPropositions automaton.now.names (board_of order automaton.now)
         (behaviour m)) }
@@ -94,7 +94,7 @@ pub fn machine_of_certificate(
     let moves_first = order.mover().number() == certificate.winner(0);
     let memories = memories_of(
         alloc,
-        game.keys.as_slice(),
+        &game.keys,
         game.game.game(),
         certificate,
         moves_first,
@@ -102,6 +102,7 @@ pub fn machine_of_certificate(
     let plan = Plan {
         order,
         automaton,
+        game: game.game.game(),
         keys: &game.keys,
         certificate,
         moves_first,
@@ -132,8 +133,8 @@ fn machine_by(alloc: Global, plan: &Plan<'_>, division: &Division) -> Result<Mac
     requires plan { IsPlanned plan.now }
     requires division { AreKnownBy plan.now division.now }
     ensures machine { IfOk result (λ m. (game : ParityGame)
-        → IsGameOf (board_by plan.now) (mover_of plan.now.order) plan.now.keys.now.keys game
-        → IsMachineOf (board_by plan.now) (mover_of plan.now.order) plan.now.keys.now.keys game plan.now.certificate.now
+        → IsGameOf (board_by plan.now) (mover_of plan.now.order) plan.now.keys.now game
+        → IsMachineOf (board_by plan.now) (mover_of plan.now.order) plan.now.keys.now game plan.now.certificate.now
         (behaviour m)) }
     ensures propositions { IfOk result
         (λ m. HasPropositions plan.now.automaton.now.names (board_by plan.now) (behaviour m)) }

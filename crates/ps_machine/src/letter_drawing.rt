@@ -22,21 +22,6 @@ use ps_diagram::Node;
 use std::alloc::{AllocError, Global};
 
 impl Plan<'_> {
-    /// The row of the machine's table that has the given output and the memory state after a step of the automaton.
-    fn row_to(&self, step: Step, letter: u64) -> Row
-        requires { CanEnterBy self.now step.state step.priority }
-        ensures letter { result.letter ≡ letter }
-        ensures within { result.memory < length self.now.memories.now.kept.items }
-        ensures stands { (v : ℕ) → StandsAt self.now.keys.now.keys v (First step.state step.priority) →
-            StandsFor self.now.moves_first self.now.keys.now.keys self.now.memories.now.kept.items result.memory v
-            step.state }
-    {
-        Row {
-            memory: self.memory_behind(step.state, step.priority),
-            letter,
-        }
-    }
-
     /// Whether two letters of the first player lead to the same steps from a state.
     fn are_alike(&self, letters: &FewLetters, state: u32, one: u64, other: u64) -> bool
         requires at { TriesAt self.now letters.now state }
@@ -74,15 +59,26 @@ impl Plan<'_> {
         None
     }
 
-    /// The row of the machine's table for the least letter of a class of the first player's letters.
-    fn row_behind(&self, letters: &FewLetters, state: u32, letter: u64) -> Row
+    /// The row of the machine's table for the least letter of a class of the first player's letters. The given vertex
+    /// stands for the state, and its successor at the index `number` is tried first.
+    fn row_behind(
+        &self,
+        letters: &FewLetters,
+        vertex: usize,
+        number: usize,
+        state: u32,
+        letter: u64,
+    ) -> Row
         requires at { TriesAt self.now letters.now state }
-        requires ready { CanReply self.now state letter }
+        requires ready { CanReply self.now vertex state letter }
         ensures { IsAnswerBy self.now state letter result }
     {
-        let step = self.reply(state, letter);
+        let (next, step) = self.reply(vertex, number, state, letter);
         let second = self.second_to(letters, state, letter, step);
-        self.row_to(step, second)
+        Row {
+            memory: self.memory_at(next, step),
+            letter: second,
+        }
     }
 
     /// The least letter of the second player that makes a step after a letter of the first player.
@@ -116,7 +112,7 @@ impl Drawing {
         requires { CanTry plan.now tried.now self.old vertex }
         ensures { Draws plan.now self.old self.new vertex result }
     {
-        match plan.keys.as_slice()[vertex] {
+        match plan.keys[vertex] {
             Key::First { state, .. } => if plan.moves_first {
                 self.first_by_letters(alloc, plan, tried, vertex, state)
             } else {
@@ -139,23 +135,24 @@ impl Drawing {
         requires { CanTryAt true plan.now tried.now self.old vertex state }
         ensures { Draws plan.now self.old self.new vertex result }
     {
-        let letter = plan.letter_at(vertex);
-        let rows = self.rows_after(alloc, plan, &tried.letters.seconds, state, letter)?;
+        let (chosen, letter) = plan.move_at(vertex);
+        let rows = self.rows_after(alloc, plan, &tried.letters.seconds, chosen, state, letter)?;
         self.store.relabel_from(&tried.store, tried.places, &rows)
     }
 
     /// For each letter of the second player, the index of the row that has the output `letter`, and the memory state
-    /// after the step that both letters make.
+    /// after the step that both letters make. The step leads from the vertex `chosen`.
     fn rows_after(
         &mut self,
         alloc: Global,
         plan: &Plan<'_>,
         seconds: &[u64],
+        chosen: usize,
         state: u32,
         letter: u64,
     ) -> Result<Vec<u64>, AllocError>
         requires state { state ≤ plan.now.automaton.now.states }
-        requires entered { All (CanStep plan.now state letter) seconds.now }
+        requires entered { All (CanStep plan.now chosen state letter) seconds.now }
         requires own { IsOwn plan.now.moves_first (board_by plan.now) letter }
         requires rows { AreRowsBy plan.now self.old.rows.keys }
         ensures added { AddsRows plan.now self.old self.new }
@@ -163,10 +160,10 @@ impl Drawing {
             (length seconds.now) values.items) }
     {
         let mut rows = Vec::with_capacity(alloc, seconds.len())?;
-        for second in seconds {
+        for (number, second) in seconds.iter().enumerate() {
             let step = plan.automaton.step(state, letter + *second);
-            let row = plan.row_to(step, letter);
-            let (place, _) = self.rows.insert_full(row)?;
+            let memory = plan.memory_behind(chosen, number, step);
+            let (place, _) = self.rows.insert_full(Row { memory, letter })?;
             rows.push(place as u64)?;
         }
         Ok(rows)
@@ -185,19 +182,20 @@ impl Drawing {
         requires { CanTryAt false plan.now tried.now self.old vertex state }
         ensures { Draws plan.now self.old self.new vertex result }
     {
-        let rows = self.rows_behind(alloc, plan, tried.letters, state)?;
+        let rows = self.rows_behind(alloc, plan, tried.letters, vertex, state)?;
         self.store.relabel_from(&tried.store, tried.places, &rows)
     }
 
-    /// For each letter of the first player, the index of the row for the letter's class.
+    /// For each letter of the first player, the index of the row for the letter's class at the state of a vertex.
     fn rows_behind(
         &mut self,
         alloc: Global,
         plan: &Plan<'_>,
         letters: &FewLetters,
+        vertex: usize,
         state: u32,
     ) -> Result<Vec<u64>, AllocError>
-        requires ready { CanAnswer plan.now letters.now state }
+        requires ready { CanAnswer plan.now letters.now vertex state }
         requires rows { AreRowsBy plan.now self.old.rows.keys }
         ensures added { AddsRows plan.now self.old self.new }
         ensures named { IfOk result (λ values. AreNamed (NamesAnswerBy plan.now self.new.rows.keys state)
@@ -205,7 +203,7 @@ impl Drawing {
     {
         let mut rows = Vec::with_capacity(alloc, letters.firsts.len())?;
         for at in 0..letters.firsts.len() {
-            let row = self.row_at(plan, letters, state, at, &rows)?;
+            let row = self.row_at(plan, letters, vertex, state, at, &rows)?;
             rows.push(row)?;
         }
         Ok(rows)
@@ -217,11 +215,12 @@ impl Drawing {
         &mut self,
         plan: &Plan<'_>,
         letters: &FewLetters,
+        vertex: usize,
         state: u32,
         at: usize,
         before: &[u64],
     ) -> Result<u64, AllocError>
-        requires ready { CanAnswer plan.now letters.now state }
+        requires ready { CanAnswer plan.now letters.now vertex state }
         requires within { at < length letters.now.firsts.items }
         requires rows { AreRowsBy plan.now self.old.rows.keys }
         requires named { AreNamed (NamesAnswerBy plan.now self.old.rows.keys state) letters.now.firsts.items at
@@ -234,7 +233,7 @@ impl Drawing {
             return Ok(before[alike]);
         }
         let letter = letters.firsts[at];
-        let row = plan.row_behind(letters, state, letter);
+        let row = plan.row_behind(letters, vertex, at, state, letter);
         let (place, _) = self.rows.insert_full(row)?;
         Ok(place as u64)
     }

@@ -7,6 +7,8 @@ ghost use Rattle.ps_machine.specs.Boards.{IsClassLetter};
 ghost use Rattle.ps_machine.specs.Inner.Drawing.{IsReply};
 ghost use Rattle.ps_machine.specs.Inner.Planning.{AddsRows, AreRowsBy, CanDrawAt, CanEnterBy, CanReply};
 ghost use Rattle.ps_machine.specs.Inner.Planning.{Draws, IsAnswerBy, IsRestBy, NamesAnswerBy, board_by};
+ghost use Rattle.ps_machine.specs.Numbering.{StandsAt};
+ghost use Rattle.ps_machine.specs.declared.key.Key.TheVariants.{First};
 
 use crate::divided::Divided;
 use crate::drawing::{Drawing, Plan};
@@ -17,35 +19,42 @@ use ps_diagram::{Class, Node};
 use std::alloc::{AllocError, Global};
 
 impl Plan<'_> {
-    /// The step of the automaton that the winner, who moves second, chooses after the least letter of a class.
-    pub fn reply(&self, state: u32, letter: u64) -> Step
-        requires { CanReply self.now state letter }
-        ensures reply { IsReply (board_by self.now) self.now.keys.now.keys self.now.certificate.now state letter
-            result.state result.priority }
-        ensures enters { CanEnterBy self.now result.state result.priority }
+    /// The step that the winner, who moves second, chooses after the least letter of a class, and the vertex that stands
+    /// for this step. Before the letter, the game is at the given vertex, whose successor at the index `number` is tried
+    /// first.
+    pub fn reply(&self, vertex: usize, number: usize, state: u32, letter: u64) -> (usize, Step)
+        requires { CanReply self.now vertex state letter }
+        ensures stands { StandsAt self.now.keys.now result.0 (First result.1.state result.1.priority) }
+        ensures reply { IsReply (board_by self.now) self.now.keys.now self.now.certificate.now state letter
+            result.1.state result.1.priority }
+        ensures enters { CanEnterBy self.now result.1.state result.1.priority }
     {
-        let at = self
-            .keys
-            .get_index_of(&Key::Second { state, letter })
-            .unwrap();
+        let at = self.successor(vertex, number, Key::Second { state, letter });
         let chosen = self.certificate.choice(at).unwrap();
-        match self.keys.as_slice()[chosen] {
-            Key::First { state, priority } => Step { state, priority },
+        match self.keys[chosen] {
+            Key::First { state, priority } => (chosen, Step { state, priority }),
             Key::Second { .. } => unreachable!(),
         }
     }
 
     /// The row of the machine's table for a class of the first player's letters: the letter that is output, and the
-    /// next memory state.
-    fn row_of_class(&self, divided: &Divided, state: u32, class: Class) -> Result<Row, AllocError>
-        requires ready { CanReply self.now state class.letter }
+    /// next memory state. The class is the one at the index `number` among those of the state of the given vertex.
+    fn row_of_class(
+        &self,
+        divided: &Divided,
+        vertex: usize,
+        number: usize,
+        state: u32,
+        class: Class,
+    ) -> Result<Row, AllocError>
+        requires ready { CanReply self.now vertex state class.letter }
         requires rest { IsRestBy self.now divided.now state class.letter class.rest }
         ensures { IfOk result (IsAnswerBy self.now state class.letter) }
     {
         let leaves = divided.store.leaves(class.rest)?;
-        let step = self.reply(state, class.letter);
+        let (next, step) = self.reply(vertex, number, state, class.letter);
         Ok(Row {
-            memory: self.memory_behind(step.state, step.priority),
+            memory: self.memory_at(next, step),
             letter: letter_to(self.automaton, &leaves, step),
         })
     }
@@ -67,22 +76,25 @@ impl Drawing {
         ensures { Draws plan.now self.old self.new vertex result }
     {
         let classes = divided.of(state);
-        let values = self.rows_of_classes(alloc, plan, divided, state, &classes.list)?;
+        let values = self.rows_of_classes(alloc, plan, divided, vertex, state, &classes.list)?;
         self.store
             .relabel_from(&divided.store, classes.places, &values)
     }
 
-    /// For each class of the first player's letters, the index of the row that the machine's table has for that class.
+    /// For each class of the first player's letters at the state of a vertex, the index of the row that the machine's
+    /// table has for that class.
     fn rows_of_classes(
         &mut self,
         alloc: Global,
         plan: &Plan<'_>,
         divided: &Divided,
+        vertex: usize,
         state: u32,
         classes: &[Class],
     ) -> Result<Vec<u64>, AllocError>
         requires turn { plan.now.moves_first ≡ false }
         requires entered { (p : ℕ) × CanEnterBy plan.now state p }
+        requires stands { (p : ℕ) × StandsAt plan.now.keys.now vertex (First state p) }
         requires classes { All (λ class. IsClassLetter (board_by plan.now) state class.letter) classes.now }
         requires rests { All (λ class. IsRestBy plan.now divided.now state class.letter class.rest) classes.now }
         requires rows { AreRowsBy plan.now self.old.rows.keys }
@@ -92,8 +104,8 @@ impl Drawing {
             classes.now values.items) }
     {
         let mut values = Vec::with_capacity(alloc, classes.len())?;
-        for class in classes {
-            let row = plan.row_of_class(divided, state, *class)?;
+        for (number, class) in classes.iter().enumerate() {
+            let row = plan.row_of_class(divided, vertex, number, state, *class)?;
             let (place, _) = self.rows.insert_full(row)?;
             values.push(place as u64)?;
         }

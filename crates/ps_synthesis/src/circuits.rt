@@ -33,7 +33,7 @@ pub fn circuit_of_certificate(
     game: &AutomatonGame,
     certificate: &Certificate,
 ) -> Result<Circuit, SynthFault>
-    requires game { IsGameOf (board_of order automaton.now) (mover_of order) game.now.keys.keys game.now.game.game }
+    requires game { IsGameOf (board_of order automaton.now) (mover_of order) game.now.keys.items game.now.game.game }
     requires classes { HasClasses order automaton.now game.now }
     requires certified { IsCertified game.now.game certificate.now }
     ensures made { IfOk result (IsCircuitOf order automaton.now game.now.game.game certificate.now) }

@@ -53,12 +53,12 @@ impl Model for Problem {
     ghost view = { λ p. record {
       order = p.order;
       automaton = p.automaton;
-      keys = p.game.keys.keys;
+      keys = p.game.keys.items;
       game = p.game.game;
     } };
 
     ghost invariant = { λ p.
-        IsProblem (record { order = p.order; automaton = p.automaton; keys = p.game.keys.keys; game = p.game.game })
+        IsProblem (record { order = p.order; automaton = p.automaton; keys = p.game.keys.items; game = p.game.game })
         × HasClasses p.order p.automaton p.game };
 }
 

@@ -21,7 +21,7 @@ use Rattle.ps_diagram.proofs.KnownLemmas.{some_nat}
 use Rattle.ps_automaton.specs.Automata.{AutomatonData}
 use Rattle.ps_machine.specs.Boards.{IsListOf, Board, IsClassLetter, IsMove, LeadsTo}
 use Rattle.ps_machine.specs.BuiltBoards.{board_of}
-use Rattle.ps_machine.specs.Inner.Drawing.{AreMemories, IsPlan, IsDrawn, KeepsRows, anchor_of}
+use Rattle.ps_machine.specs.Inner.Drawing.{AreMemories, IsPlan, IsDrawn, KeepsRows, Leads, anchor_of}
 use Rattle.ps_machine.specs.Extracting.{IsUsed, GoesTo, Shares, StandsFor}
 use Rattle.ps_machine.specs.Solving.{winner_at_start}
 use Rattle.ps_machine.specs.Keys.{mover_of}
@@ -31,8 +31,6 @@ use Rattle.ps_machine.specs.declared.key.Key.TheVariants.{First, Second}
 use Rattle.ps_machine.specs.declared.key.Order.{Order}
 use Rattle.ps_machine.proofs.Movers.{small_mover}
 use Rattle.ps_machine.specs.declared.machine.Row.{Row}
-use Rattle.ps_machine.specs.contracts.key.KeyPartialEq.TheImpl as key_eq
-use Rattle.ps_machine.proofs.GameKeys.KeyTests.{key_same}
 use Rattle.ps_machine.proofs.BoardSteps.{some_of}
 use Rattle.ps_machine.proofs.Lassos.Rounds.{Setting, one_place, within_game, map_contains}
 use Rattle.ps_machine.proofs.GameKeys.Standing.{same_some, slice_get-left, zip_at, zip_vertex}
@@ -45,12 +43,6 @@ pub at_position : {X : Type 0} (test : X → Bool) (xs : List X) (d : X) {i : �
 at_position test xs d {i} e =
     let there = position-Some test xs i d e in
     (get_or xs i d, slice_get-get_or xs i d there.0, there.1)
-
--- a search in the list of keys (what the vertices stand for) finds the key of each vertex
-pub has_key : (keys : List Key) (v : ℕ) (key : Key) → StandsAt keys v key →
-    list_any ((key_eq.eq-value).it key) keys ≡ true
-has_key keys v key at = list_any_at ((key_eq.eq-value).it key) keys v key (slice_get_within keys v key at)
-    (rw (get_or_from_slice_get keys v key key at) (key_same key))
 
 pub has_anchor : (anchors : List ℕ) (memory : ℕ) {anchor : ℕ} → slice_get anchors memory ≡ Some anchor →
     list_any (eqb anchor) anchors ≡ true
@@ -89,9 +81,9 @@ pub used_won : {game : ParityGame} {certificate : CertificateData} {v : ℕ} →
     IsUsed game certificate v → winner_of certificate v ≡ winner_at_start certificate
 used_won {game} {certificate} closed u = search (rules, path_stays)
 
-pub setting : {order : Order} {a : AutomatonData} {keys : List Key} {certificate : CertificateData} {is_first : Bool}
-    {kept anchors : List ℕ} → (plan : IsPlan order a keys certificate is_first kept anchors) →
-    Setting (board_of order a) (mover_of order) keys plan.game certificate
+pub setting : {order : Order} {a : AutomatonData} {keys : List Key} {game : ParityGame} {certificate : CertificateData}
+    {is_first : Bool} {kept anchors : List ℕ} → IsPlan order a keys game certificate is_first kept anchors →
+    Setting (board_of order a) (mover_of order) keys game certificate
 setting {order} plan = search (rules, small_mover)
 
 -- ## Successors
@@ -113,12 +105,6 @@ module _ (keys : List Key) (key : ℕ → Key) (numbers : List ℕ) {P : ℕ →
       let c = listed.complete x is in
       let m = rw (← are) at (map_contains key letters c.0 c.1 c.2) in
       zip_vertex keys numbers next zip m
-
--- vertex v has a successor that stands for k (a key: what a vertex stands for)
-pub record Leads (keys : List Key) (game : ParityGame) (v : ℕ) (k : Key) : Type 0 where
-  pub vertex : ℕ
-  pub edge : HasEdge game v vertex
-  pub stands : StandsAt keys vertex k
 
 -- the vertex w stands for the state q and a class of first-player letters
 pub record ClassAt (board : Board) (keys : List Key) (q w : ℕ) : Type 0 where
@@ -192,39 +178,40 @@ module _ {board : Board} {mover : ℕ} {keys : List Key} {game : ParityGame} {ce
 pub not_both : {r c q p : ℕ} → Second r c ≡ First q p → ⊥
 not_both e = search rules
 
-module _ {order : Order} {a : AutomatonData} {keys : List Key} {certificate : CertificateData} {is_first : Bool}
-    {kept anchors : List ℕ} (plan : IsPlan order a keys certificate is_first kept anchors) where
-  -- v is the vertex of a memory state: a reachable vertex at which the first player moves
-  pub record KeptAt (v : ℕ) : Type 0 where
-    pub state : ℕ
-    pub priority : ℕ
-    pub stands : StandsAt keys v (First state priority)
-    pub used : IsUsed plan.game certificate v
+module _ {order : Order} {a : AutomatonData} {keys : List Key} {game : ParityGame} {certificate : CertificateData}
+    {is_first : Bool} {kept anchors : List ℕ} (plan : IsPlan order a keys game certificate is_first kept anchors)
+  where
+    -- v is the vertex of a memory state: a reachable vertex at which the first player moves
+    pub record KeptAt (v : ℕ) : Type 0 where
+      pub state : ℕ
+      pub priority : ℕ
+      pub stands : StandsAt keys v (First state priority)
+      pub used : IsUsed game certificate v
 
-  pub kept_at : {v : ℕ} → Contains kept v → KeptAt v
-  kept_at {v} c =
-      let m = plan.memories.each c.0 c.1 in
-      grind (arith, get_or_default)
+    pub kept_at : {v : ℕ} → Contains kept v → KeptAt v
+    kept_at {v} c =
+        let m = plan.memories.each c.0 c.1 in
+        grind (arith, get_or_default)
 
-  pub kept_used : {v : ℕ} → Contains kept v → IsUsed plan.game certificate v
-  kept_used {v} c = (kept_at c).used
+    pub kept_used : {v : ℕ} → Contains kept v → IsUsed game certificate v
+    kept_used {v} c = (kept_at c).used
 
-  pub kept_within : (v : ℕ) → Contains kept v → v < length keys
-  kept_within v c = let k = kept_at c in slice_get_within keys v (First k.state k.priority) k.stands
+    pub kept_within : (v : ℕ) → Contains kept v → v < length keys
+    kept_within v c = let k = kept_at c in slice_get_within keys v (First k.state k.priority) k.stands
 
-  pub kept_stands : (v : ℕ) → Contains kept v → {q p : ℕ} → get_or keys v (First 0 0) ≡ First q p →
-      StandsAt keys v (First q p)
-  kept_stands v c is = cc (slice_get-get_or keys v (First 0 0) (kept_within v c), is)
+    pub kept_stands : (v : ℕ) → Contains kept v → {q p : ℕ} → get_or keys v (First 0 0) ≡ First q p →
+        StandsAt keys v (First q p)
+    kept_stands v c is = cc (slice_get-get_or keys v (First 0 0) (kept_within v c), is)
 
-  pub kept_not_second : (v : ℕ) → Contains kept v → {q x : ℕ} → get_or keys v (First 0 0) ≡ Second q x → ⊥
-  kept_not_second v c is =
-      let k = kept_at c in
-      not_both (sym is ∙ get_or_from_slice_get keys v (First k.state k.priority) (First 0 0) k.stands)
+    pub kept_not_second : (v : ℕ) → Contains kept v → {q x : ℕ} → get_or keys v (First 0 0) ≡ Second q x → ⊥
+    kept_not_second v c is =
+        let k = kept_at c in
+        not_both (sym is ∙ get_or_from_slice_get keys v (First k.state k.priority) (First 0 0) k.stands)
 
-  pub kept_entry : (v : ℕ) → Contains kept v → v < length certificate.entries
-  kept_entry v c =
-      let k = kept_at c in
-      grind (arith, within_game, setting)
+    pub kept_entry : (v : ℕ) → Contains kept v → v < length certificate.entries
+    kept_entry v c =
+        let k = kept_at c in
+        grind (arith, within_game, setting)
 
 -- ## Rows
 

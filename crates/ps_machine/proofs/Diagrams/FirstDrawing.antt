@@ -1,22 +1,23 @@
 -- If the machine's player moves first, the diagram that the code makes for a memory state leads each letter of the
 -- other player to the right row of the machine's table.
 use Rattle.std.proofs.Common.{not, is_some, ◌≡◌, ◌≢◌, ℕ, ◌+◌, ◌^◌, ◌<◌, Bool, true, List, length, get_or, option_map}
-use Rattle.std.proofs.Common.{Option, Some, None, refl, ap, sym, ◌∙◌, arith, rules}
+use Rattle.std.proofs.Common.{Option, Some, None, refl, ap, sym, subst, ◌∙◌, arith, rules}
 use Rattle.std.specs.Prelude.{IfSome, slice_get, slice_index}
 use Rattle.std.specs.List.{All, Contains}
 use Rattle.std.proofs.lemmas.Bool.{cases_eq, eqb-true}
 use Rattle.std.proofs.lemmas.List.{get_or_default}
 use Rattle.std.proofs.lemmas.Option.{slice_get_within, get_or_from_slice_get}
 use Rattle.indexmap.specs.IndexSet.{insert_key}
-use Rattle.ps_game.specs.Games.{owner_of}
+use Rattle.ps_game.specs.Games.{HasEdge, ParityGame, owner_of}
 use Rattle.ps_certificate.specs.Certificates.{CertificateData, choice_of}
 use Rattle.ps_diagram.specs.Table.{Table, IsNode, leaf_of}
 use Rattle.ps_diagram.specs.Reached.{AreLeaves}
 use Rattle.ps_diagram.proofs.KnownLemmas.{some_nat}
 use Rattle.ps_automaton.specs.Automata.{AutomatonData, node_of, pair_of, step_of}
+use Rattle.ps_automaton.specs.declared.step.Step.{Step}
 use Rattle.ps_machine.specs.Boards.{Board, IsSecondLetter, IsClassLetter}
 use Rattle.ps_machine.specs.BuiltBoards.{board_of}
-use Rattle.ps_machine.specs.Inner.Drawing.{IsPlan, IsRow, KeepsRows, IsDrawn, LeadsToRow}
+use Rattle.ps_machine.specs.Inner.Drawing.{IsPlan, IsRow, KeepsRows, IsDrawn, Leads, LeadsToRow}
 use Rattle.ps_machine.specs.Inner.Placing.{IsEntered, IsPlaced, PlaysClass}
 use Rattle.ps_machine.specs.Extracting.{IsUsed, StandsFor}
 use Rattle.ps_machine.specs.Solving.{winner_at_start}
@@ -68,8 +69,9 @@ module _ {a : AutomatonData} {keys : List Key} {is_first : Bool} {board : Board}
 same_letter : {q r x y : ℕ} → Second q x ≡ Second r y → x ≡ y
 same_letter e = cc
 
-module _ {order : Order} {a : AutomatonData} {keys : List Key} {certificate : CertificateData} {is_first : Bool}
-    {kept anchors : List ℕ} (plan : IsPlan order a keys certificate is_first kept anchors) (first : is_first ≡ true)
+module _ {order : Order} {a : AutomatonData} {keys : List Key} {game : ParityGame} {certificate : CertificateData}
+    {is_first : Bool} {kept anchors : List ℕ} (plan : IsPlan order a keys game certificate is_first kept anchors)
+    (first : is_first ≡ true)
   where
     pub mover_wins : mover_of order ≡ winner_at_start certificate
     mover_wins = eqb-true (mover_of order) (winner_at_start certificate) (sym plan.turn ∙ first)
@@ -79,7 +81,7 @@ module _ {order : Order} {a : AutomatonData} {keys : List Key} {certificate : Ce
     pub record ToClass (v q : ℕ) : Type 0 where
       pub chosen : ℕ
       pub choice : choice_of certificate v ≡ Some chosen
-      pub used : IsUsed plan.game certificate chosen
+      pub used : IsUsed game certificate chosen
       pub letter : ℕ
       pub is_class : IsClassLetter (board_of order a) q letter
       pub stands : StandsAt keys chosen (Second q letter)
@@ -123,19 +125,19 @@ module _ {order : Order} {a : AutomatonData} {keys : List Key} {certificate : Ce
     pub entered : {mask : ℕ} {t : Table} {v q p letter rest : ℕ} {found : List (ℕ × ℕ)} → Contains kept v →
         StandsAt keys v (First q p) → PlaysClass (board_of order a) keys certificate v q letter →
         Left order a mask t q letter rest → AreLeaves t rest found →
-        All (λ leaf. IsEntered order a keys certificate is_first kept anchors leaf.0) found
+        All (λ leaf. IsEntered order a keys game certificate is_first kept anchors leaf.0) found
     entered {mask} {t} {v} {q} {p} {letter} {rest} {found} is_kept at plays l are k d within =
         let s = setting plan in
         let to = to_class v is_kept at in
         let same : to.chosen ≡ plays.chosen = some_nat to.chosen plays.chosen (sym to.choice ∙ plays.choice) in
-        let used : IsUsed plan.game certificate plays.chosen = rw same at to.used in
+        let used : IsUsed game certificate plays.chosen = rw same at to.used in
         let y = (get_or found k (0, 0)).1 in
         let leaf = (get_or found k (0, 0)).0 in
         let on = to_pair_of s letter y plays.stands (move_is l.fit l.is_rest are k within) in
         let there : step_of a q (letter + y) ≡ pair_of a leaf = grind (arith, move_leaf l.fit l.is_rest are k within) in
-        let other : owner_of plan.game plays.chosen ≡ winner_at_start certificate → ⊥ =
+        let other : owner_of game plays.chosen ≡ winner_at_start certificate → ⊥ =
         grind (arith, second_owner s plays.chosen plays.stands, mover_wins) in
-        let item : IsEntered order a keys certificate is_first kept anchors leaf = record {
+        let item : IsEntered order a keys game certificate is_first kept anchors leaf = record {
           within = leaf_within l.fit l.is_rest are k within;
           enters = record {
             plan = plan;
@@ -143,6 +145,24 @@ module _ {order : Order} {a : AutomatonData} {keys : List Key} {certificate : Ce
             stands = rw there at on.stands;
             is_used = used_more used on.edge (within_game s on.vertex on.stands) (λ own. absurd (other own));
           };
+        } in
+        rw (get_or_default found k (0, 0) d within) at item
+
+    -- after the letter that the machine outputs, each possible step leads to a successor of the vertex of the move
+    pub leads_all : {mask : ℕ} {t : Table} {v q letter rest from : ℕ} {found : List (ℕ × ℕ)} →
+        choice_of certificate v ≡ Some from → PlaysClass (board_of order a) keys certificate v q letter →
+        Left order a mask t q letter rest → AreLeaves t rest found →
+        All (λ leaf. Leads keys game from (step_key (pair_of a leaf.0))) found
+    leads_all {mask} {t} {v} {q} {letter} {rest} {from} {found} moved plays l are k d within =
+        let y = (get_or found k (0, 0)).1 in
+        let leaf = (get_or found k (0, 0)).0 in
+        let on = to_pair_of (setting plan) letter y plays.stands (move_is l.fit l.is_rest are k within) in
+        let there : step_of a q (letter + y) ≡ pair_of a leaf = grind (arith, move_leaf l.fit l.is_rest are k within) in
+        let same = some_nat plays.chosen from (sym plays.choice ∙ moved) in
+        let item : Leads keys game from (step_key (pair_of a leaf)) = record {
+          vertex = on.vertex;
+          edge = subst (λ w. HasEdge game w on.vertex) same on.edge;
+          stands = rw there at on.stands;
         } in
         rw (get_or_default found k (0, 0) d within) at item
 
@@ -158,7 +178,7 @@ module _ {order : Order} {a : AutomatonData} {keys : List Key} {certificate : Ce
         is_leaf : leaf_of t rest x ≡ Some leaf
         is_step : step_of a q (letter + x) ≡ pair_of a leaf
         is_placed : IsPlaced a keys is_first kept rows places letter leaf
-        is_entered : IsEntered order a keys certificate is_first kept anchors leaf
+        is_entered : IsEntered order a keys game certificate is_first kept anchors leaf
 
       noted : (x : ℕ) → IsSecondLetter (board_of order a) x → Noted x
       noted x second =
@@ -194,10 +214,22 @@ module _ {order : Order} {a : AutomatonData} {keys : List Key} {certificate : Ce
             let stands = n.is_entered.enters.stands in
             record {
               leaf = w.place;
-              is_leaf = search (rules, get_or_from_slice_get);
+              is_leaf = named x ∙ ap (λ o. option_map (λ k. slice_index places k) o) n.is_leaf
+                  ∙ ap (λ k. Some k) (get_or_from_slice_get places n.leaf w.place 0 w.is_noted);
               row = w.row;
               is_row = w.is_row;
-              is_right = search (rules, entered);
+              is_right = record {
+                played = record {
+                  chosen = plays.chosen;
+                  choice = plays.choice;
+                  stands = rw (← w.plays) at plays.stands;
+                };
+                entered = vertex;
+                goes = record { stands = subst (λ (s : Step). StandsAt keys vertex (step_key s)) step stands };
+                next = subst (λ (s : Step). StandsFor true keys kept w.row.memory vertex s.state) step
+                    (subst (λ b. StandsFor b keys kept w.row.memory vertex (pair_of a n.leaf).state) first
+                    (w.next vertex stands));
+              };
             }
 
         pub drawn_first : IsDrawn is_first (board_of order a) keys kept certificate u rows v made

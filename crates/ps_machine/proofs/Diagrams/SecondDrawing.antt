@@ -2,7 +2,7 @@
 use Rattle.std.proofs.Common.{◌≡◌, ◌≢◌, ℕ, ◌+◌, ◌<◌, Bool, true, false, List, [], ◌∷◌, ◌++◌, length, get_or, take}
 use Rattle.std.proofs.Common.{Option, Some, ap, sym, subst, ◌∙◌, arith, ◌==◌, rules}
 use Rattle.std.specs.Prelude.{Any, IfSome, IsSomeAnd, slice_get, slice_index, option_map}
-use Rattle.std.specs.List.{All, AllZip, position}
+use Rattle.std.specs.List.{All, AllZip}
 use Rattle.std.specs.Option.{unwrap_or}
 use Rattle.std.proofs.lemmas.Bool.{eq-eqb}
 use Rattle.std.proofs.lemmas.List.{get_or_default, take_more}
@@ -11,7 +11,7 @@ use Rattle.std.proofs.lemmas.Slice.Zip.{AllZip-long, AllZip-left}
 use Rattle.indexmap.specs.IndexSet.{insert_key}
 use Rattle.indexmap.proofs.SetLemmas.{AllZip-push}
 use Rattle.ps_label.specs.Truth.{is_in}
-use Rattle.ps_game.specs.Games.{vertex_count, owner_of}
+use Rattle.ps_game.specs.Games.{ParityGame, vertex_count, owner_of}
 use Rattle.ps_certificate.specs.Certificates.{CertificateData, choice_of}
 use Rattle.ps_certificate.proofs.SuccessorEdges.{some_of}
 use Rattle.ps_diagram.specs.Letters.{AgreeOn}
@@ -38,15 +38,13 @@ use Rattle.ps_machine.specs.declared.key.Key.{Key}
 use Rattle.ps_machine.specs.declared.key.Key.TheVariants.{First, Second}
 use Rattle.ps_machine.specs.declared.key.Order.{Order}
 use Rattle.ps_machine.specs.declared.machine.Row.{Row}
-use Rattle.ps_machine.specs.contracts.key.KeyPartialEq.TheImpl as key_eq
 use Rattle.ps_machine.specs.contracts.machine.RowPartialEq.TheImpl as row_eq
 use Rattle.ps_machine.proofs.BoardLetters.{mask_below}
 use Rattle.ps_machine.proofs.BoardSteps.{below_back, same_pair, same_itself, same_steps, class_first, class_is}
 use Rattle.ps_machine.proofs.BoardSteps.{class_of, no_class, step_of_key}
 use Rattle.ps_machine.proofs.BoardMoves.{move_is, move_leaf, move_of}
-use Rattle.ps_machine.proofs.Diagrams.DrawingLemmas.{at_position, keeps_rows, setting, used_more, move_at, move_to}
+use Rattle.ps_machine.proofs.Diagrams.DrawingLemmas.{keeps_rows, setting, used_more, move_at, move_to}
 use Rattle.ps_machine.proofs.Diagrams.DrawingLemmas.{to_class_of}
-use Rattle.ps_machine.proofs.GameKeys.KeyTests.{same_key}
 use Rattle.ps_machine.proofs.Lassos.Rounds.{first_owner, second_owner, same_place, within_game}
 use Rattle.ps_machine.proofs.Diagrams.RowTests.{same_row}
 use Rattle.ps_machine.proofs.GameKeys.Standing.{same_some}
@@ -56,18 +54,11 @@ use Rattle.ps_machine.proofs.GameKeys.Standing.{same_some}
 not_same : (x y : ℕ) → (x == y) ≡ false → x ≢ y
 not_same x y e same = cc (eq-eqb x y same)
 
--- if a search for a key (what a vertex stands for) in the list of keys gives the index i, vertex i stands for this key
-pub found_at : (keys : List Key) (key : Key) {i : ℕ} → position ((key_eq.eq-value).it key) keys ≡ Some i →
-    StandsAt keys i key
-found_at keys key {i} e =
-    let there = at_position ((key_eq.eq-value).it key) keys key e in
-    cc (there.1, same_key key there.0 there.2)
-
 abbrev pair : AutomatonData → ℕ → ℕ → Key
 pair a q l = step_key (step_of a q l)
 
-module _ (order : Order) (a : AutomatonData) (keys : List Key) (certificate : CertificateData) (is_first : Bool)
-    (kept anchors : List ℕ) where
+module _ (order : Order) (a : AutomatonData) (keys : List Key) (game : ParityGame) (certificate : CertificateData)
+    (is_first : Bool) (kept anchors : List ℕ) where
   -- the vertex to which the winner, who moves second, moves after the letter x at the state q, and a letter that leads
   -- there
   pub record Replies (q x : ℕ) : Type 0 where
@@ -78,17 +69,16 @@ module _ (order : Order) (a : AutomatonData) (keys : List Key) (certificate : Ce
     pub letter : ℕ
     pub second : IsSecondLetter (board_of order a) letter
     pub goes : GoesTo keys (board_of order a) q (x + letter) chosen
-    pub enters : CanEnter order a keys certificate is_first kept anchors (step_of a q (x + letter)).state
+    pub enters : CanEnter order a keys game certificate is_first kept anchors (step_of a q (x + letter)).state
         (step_of a q (x + letter)).priority
     pub apart : (v w : ℕ) (k : Key) → StandsAt keys v k → StandsAt keys w k → v ≡ w
 
-module _ {order : Order} {a : AutomatonData} {keys : List Key} {certificate : CertificateData} {is_first : Bool}
-    {kept anchors : List ℕ} where
-  pub replies : {q p x : ℕ} → is_first ≡ false → CanEnter order a keys certificate is_first kept anchors q p →
-      IsClassLetter (board_of order a) q x → Replies order a keys certificate is_first kept anchors q x
+module _ {order : Order} {a : AutomatonData} {keys : List Key} {game : ParityGame} {certificate : CertificateData}
+    {is_first : Bool} {kept anchors : List ℕ} where
+  pub replies : {q p x : ℕ} → is_first ≡ false → CanEnter order a keys game certificate is_first kept anchors q p →
+      IsClassLetter (board_of order a) q x → Replies order a keys game certificate is_first kept anchors q x
   replies {q} {x} turn e is =
       let plan = e.plan in
-      let game = plan.game in
       let mover = mover_of order in
       let s = setting plan in
       let loses : mover ≢ winner_at_start certificate =
@@ -105,14 +95,20 @@ module _ {order : Order} {a : AutomatonData} {keys : List Key} {certificate : Ce
       let t = move_to s to.vertex to.stands m.edge in
       search (rules, same_place)
 
-  module _ {q x : ℕ} (r : Replies order a keys certificate is_first kept anchors q x) where
+  module _ {q x : ℕ} (r : Replies order a keys game certificate is_first kept anchors q x) where
     pub reply_choice : (at : ℕ) → StandsAt keys at (Second q x) → choice_of certificate at ≡ Some r.chosen
     reply_choice at there = cc (r.apart at r.at (Second q x) there r.stands, r.choice)
 
     -- the vertex to which the winner moves stands for the step that the winner's letter makes
-    pub reply_key : (at : ℕ) {chosen : ℕ} {slice : List Key} {k : Key} (d : Key) → StandsAt keys at (Second q x) →
-        choice_of certificate at ≡ Some chosen → slice ≡ keys → get_or slice chosen d ≡ k → k ≡ pair a q (x + r.letter)
-    reply_key at {chosen} d there choice e is = search (rules, some_nat, reply_choice, get_or_from_slice_get)
+    pub reply_stands : (at : ℕ) {chosen : ℕ} → StandsAt keys at (Second q x) → choice_of certificate at ≡ Some chosen →
+        StandsAt keys chosen (pair a q (x + r.letter))
+    reply_stands at {chosen} there choice =
+        rw (some_nat r.chosen chosen (sym (reply_choice at there) ∙ choice)) at r.goes.stands
+
+    pub reply_key : (at : ℕ) {chosen : ℕ} {k : Key} (d : Key) → StandsAt keys at (Second q x) →
+        choice_of certificate at ≡ Some chosen → get_or keys chosen d ≡ k → k ≡ pair a q (x + r.letter)
+    reply_key at {chosen} d there choice is =
+        sym is ∙ get_or_from_slice_get keys chosen (pair a q (x + r.letter)) d (reply_stands at there choice)
 
     module _ (step : Step) (e : step_key step ≡ pair a q (x + r.letter)) where
       same_step : step ≡ step_of a q (x + r.letter)
@@ -121,7 +117,7 @@ module _ {order : Order} {a : AutomatonData} {keys : List Key} {certificate : Ce
       pub reply_is : IsReply (board_of order a) keys certificate q x step.state step.priority
       reply_is = search (rules, same_step)
 
-      pub reply_enters : CanEnter order a keys certificate is_first kept anchors step.state step.priority
+      pub reply_enters : CanEnter order a keys game certificate is_first kept anchors step.state step.priority
       reply_enters = rw same_step r.enters
 
 -- ## The letter that is output

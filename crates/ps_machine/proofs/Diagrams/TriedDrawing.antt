@@ -62,10 +62,10 @@ pub record NamesRight (is_first : Bool) (board : Board) (keys : List Key) (kept 
   pub is_right : IsRowAt is_first board keys kept certificate v q x row
 
 pub right_first : (p : Plan) {rows : List Row} {v q letter y value : ℕ} → p.moves_first ≡ true →
-    PlaysClass (board_by p) p.keys.now.keys p.certificate.now v q letter →
+    PlaysClass (board_by p) p.keys.now p.certificate.now v q letter →
     CanEnterBy p (step_of p.automaton.now q (letter + y)).state (step_of p.automaton.now q (letter + y)).priority →
     NamesStep p rows q letter y value →
-    NamesRight p.moves_first (board_by p) p.keys.now.keys p.memories.now.kept.items p.certificate.now rows v q y value
+    NamesRight p.moves_first (board_by p) p.keys.now p.memories.now.kept.items p.certificate.now rows v q y value
 right_first p {v = v} {q = q} {letter = letter} {y = y} turn plays enters h =
     let sum : letter + y ≡ y + h.row.letter = omega (arith, h.plays) in
     let next = h.next enters.vertex enters.stands in
@@ -86,7 +86,7 @@ right_first p {v = v} {q = q} {letter = letter} {y = y} turn plays enters h =
 
 pub right_second : (p : Plan) {rows : List Row} (v : ℕ) {q x value : ℕ} → p.moves_first ≡ false →
     NamesAnswerBy p rows q x value →
-    NamesRight p.moves_first (board_by p) p.keys.now.keys p.memories.now.kept.items p.certificate.now rows v q x value
+    NamesRight p.moves_first (board_by p) p.keys.now p.memories.now.kept.items p.certificate.now rows v q x value
 right_second p v turn h = record { row = h.row; is_row = h.is_row; is_right = rw turn (h.is_answer v) }
 
 module _ {is_first : Bool} {board : Board} {keys : List Key} {kept : List ℕ} {certificate : CertificateData}

@@ -1,12 +1,12 @@
 -- A machine's diagrams are made letter by letter: the letters that are tried, and the vertices to which they lead.
 use Rattle.std.proofs.Common.{◌≡◌, ◌∙◌, ℕ, ◌+◌, ◌-◌, ◌^◌, ◌<◌, ◌≤◌, Bool, true, List, length, get_or}
-use Rattle.std.proofs.Common.{ap, sym, subst, inl, inr, refl, arith}
+use Rattle.std.proofs.Common.{Some, ap, sym, subst, inl, inr, refl, arith}
 use Rattle.std.specs.List.{AllPairs, Contains}
 use Rattle.std.proofs.lemmas.Bool.{cases_eq, cases_lt}
 use Rattle.std.proofs.lemmas.List.{get_or_default, get_or_past}
 use Rattle.std.proofs.Math.Pow.{pow_mono}
-use Rattle.ps_game.specs.Games.{HasEdge, owner_of}
-use Rattle.ps_certificate.specs.Certificates.{CertificateData}
+use Rattle.ps_game.specs.Games.{HasEdge, ParityGame, owner_of}
+use Rattle.ps_certificate.specs.Certificates.{CertificateData, choice_of}
 use Rattle.ps_automaton.specs.Automata.{AutomatonData, IsWhole, pair_of, step_of}
 use Rattle.ps_diagram.specs.Letters.{IsBefore}
 use Rattle.ps_diagram.proofs.KnownLemmas.{some_nat}
@@ -15,7 +15,8 @@ use Rattle.ps_machine.specs.Boards.{SameSteps}
 use Rattle.ps_machine.specs.BuiltBoards.{board_of}
 use Rattle.ps_machine.specs.Dividing.{AreFewLetters}
 use Rattle.ps_machine.specs.Extracting.{IsUsed}
-use Rattle.ps_machine.specs.Inner.Drawing.{CanEnter, IsPlan}
+use Rattle.ps_machine.specs.Inner.Drawing.{CanEnter, IsPlan, Leads}
+use Rattle.ps_machine.specs.Inner.Moving.{step_key}
 use Rattle.ps_machine.specs.Inner.Placing.{PlaysClass}
 use Rattle.ps_machine.specs.Numbering.{StandsAt}
 use Rattle.ps_machine.specs.Solving.{winner_at_start}
@@ -114,56 +115,73 @@ step_low a q letter whole = grind (arith, pair_low)
       | inr past ↦ rw (get_or_past a.steps leaf (record { state = a.states; priority = 1 }) past) (omega arith)
     ]
 
-module _ {order : Order} {a : AutomatonData} {keys : List Key} {certificate : CertificateData} {is_first : Bool}
-    {kept anchors : List ℕ} (plan : IsPlan order a keys certificate is_first kept anchors) where
-  state_behind : (w v : ℕ) {q p : ℕ} (k : Key) → IsWhole a → StandsAt keys w k → HasEdge plan.game w v →
-      StandsAt keys v (First q p) → q ≤ a.states
-  state_behind w v {q} {p} (First r o) whole at edge there =
-      let c = class_at (setting plan) w at edge in
-      absurd (not_both (same_some (sym c.stands ∙ there)))
-  state_behind w v {q} {p} (Second r x) whole at edge there =
-      let m = move_to (setting plan) w at edge in
-      rw (same_states (same_some (sym there ∙ m.goes.stands))) (step_low a r (x + m.letter) whole)
+module _ {order : Order} {a : AutomatonData} {keys : List Key} {game : ParityGame} {certificate : CertificateData}
+    {is_first : Bool} {kept anchors : List ℕ} (plan : IsPlan order a keys game certificate is_first kept anchors)
+  where
+    state_behind : (w v : ℕ) {q p : ℕ} (k : Key) → IsWhole a → StandsAt keys w k → HasEdge game w v →
+        StandsAt keys v (First q p) → q ≤ a.states
+    state_behind w v {q} {p} (First r o) whole at edge there =
+        let c = class_at (setting plan) w at edge in
+        absurd (not_both (same_some (sym c.stands ∙ there)))
+    state_behind w v {q} {p} (Second r x) whole at edge there =
+        let m = move_to (setting plan) w at edge in
+        rw (same_states (same_some (sym there ∙ m.goes.stands))) (step_low a r (x + m.letter) whole)
 
-  -- a reachable vertex of the first player stands for a state of the automaton, or for the sink
-  pub state_low : {v q p : ℕ} → IsWhole a → IsUsed plan.game certificate v → StandsAt keys v (First q p) → q ≤ a.states
-  state_low {v} {q} {p} whole used at = elim (cases_eq (length used.path) 1) [
-    | inl one ↦
-        let start : v ≡ 0 = sym used.ends ∙ ap (λ k. get_or used.path (k - 1) 0) one ∙ used.begins in
-        let s = setting plan in
-        let same : q ≡ a.start = same_states (same_some (sym (rw start at at) ∙ s.by_keys.begins)) in
-        let low = whole.start in
-        omega (arith, same, low)
-    | inr more ↦
-        let some = used.is_path.begins in
-        let k = length used.path - 1 - 1 in
-        let next : k + 1 ≡ length used.path - 1 = omega (arith, some, more) in
-        let edge = used.is_path.edges k (omega (arith, some, more)) in
-        let w = get_or used.path k 0 in
-        let to : get_or used.path (k + 1) 0 ≡ v = ap (λ i. get_or used.path i 0) next ∙ used.ends in
-        let s = setting plan in
-        let vertex = s.by_keys.vertices w (used.is_path.vertices k (omega (arith, some, more))) in
-        state_behind w v vertex.key whole vertex.stands (rw to at edge) at
-  ]
+    -- a reachable vertex of the first player stands for a state of the automaton, or for the sink
+    pub state_low : {v q p : ℕ} → IsWhole a → IsUsed game certificate v → StandsAt keys v (First q p) → q ≤ a.states
+    state_low {v} {q} {p} whole used at = elim (cases_eq (length used.path) 1) [
+      | inl one ↦
+          let start : v ≡ 0 = sym used.ends ∙ ap (λ k. get_or used.path (k - 1) 0) one ∙ used.begins in
+          let s = setting plan in
+          let same : q ≡ a.start = same_states (same_some (sym (rw start at at) ∙ s.by_keys.begins)) in
+          let low = whole.start in
+          omega (arith, same, low)
+      | inr more ↦
+          let some = used.is_path.begins in
+          let k = length used.path - 1 - 1 in
+          let next : k + 1 ≡ length used.path - 1 = omega (arith, some, more) in
+          let edge = used.is_path.edges k (omega (arith, some, more)) in
+          let w = get_or used.path k 0 in
+          let to : get_or used.path (k + 1) 0 ≡ v = ap (λ i. get_or used.path i 0) next ∙ used.ends in
+          let s = setting plan in
+          let vertex = s.by_keys.vertices w (used.is_path.vertices k (omega (arith, some, more))) in
+          state_behind w v vertex.key whole vertex.stands (rw to at edge) at
+    ]
 
-  -- if the machine's player moves first, each letter of the other player leads to a reachable vertex
-  pub enters_after : (first : is_first ≡ true) {v q p letter y : ℕ} → Contains kept v → StandsAt keys v (First q p) →
-      PlaysClass (board_of order a) keys certificate v q letter → IsSecondLetter (board_of order a) y →
-      CanEnter order a keys certificate is_first kept anchors (step_of a q (letter + y)).state
-      (step_of a q (letter + y)).priority
-  enters_after first {v} {q} {p} {letter} {y} is_kept at plays second =
-      let s = setting plan in
-      let to = to_class plan first v is_kept at in
-      let same : to.chosen ≡ plays.chosen = some_nat to.chosen plays.chosen (sym to.choice ∙ plays.choice) in
-      let used : IsUsed plan.game certificate plays.chosen = rw same at to.used in
-      let m = move_there (board_of order a) letter second in
-      let on = to_pair_of s letter m.0 plays.stands m.1 in
-      let there : step_of a q (letter + m.0) ≡ step_of a q (letter + y) = same_pair m.2.state m.2.priority in
-      let other : owner_of plan.game plays.chosen ≡ winner_at_start certificate → ⊥ =
-      grind (arith, second_owner s plays.chosen plays.stands, mover_wins plan first) in
-      record {
-        plan = plan;
-        vertex = on.vertex;
-        stands = rw there at on.stands;
-        is_used = used_more used on.edge (within_game s on.vertex on.stands) (λ own. absurd (other own));
-      }
+    -- if the machine's player moves first, each letter of the other player leads from the vertex of the player's move to a
+    -- successor of this vertex
+    pub leads_after : {v q letter from y : ℕ} → choice_of certificate v ≡ Some from →
+        PlaysClass (board_of order a) keys certificate v q letter → IsSecondLetter (board_of order a) y →
+        Leads keys game from (step_key (step_of a q (letter + y)))
+    leads_after {letter = letter} {from = from} moved plays second =
+        let m = move_there (board_of order a) letter second in
+        let on = to_pair_of (setting plan) letter m.0 plays.stands m.1 in
+        let there = same_pair m.2.state m.2.priority in
+        let same = some_nat plays.chosen from (sym plays.choice ∙ moved) in
+        record {
+          vertex = on.vertex;
+          edge = subst (λ w. HasEdge game w on.vertex) same on.edge;
+          stands = rw there at on.stands;
+        }
+
+    -- if the machine's player moves first, each letter of the other player leads to a reachable vertex
+    pub enters_after : (first : is_first ≡ true) {v q p letter y : ℕ} → Contains kept v → StandsAt keys v (First q p) →
+        PlaysClass (board_of order a) keys certificate v q letter → IsSecondLetter (board_of order a) y →
+        CanEnter order a keys game certificate is_first kept anchors (step_of a q (letter + y)).state
+        (step_of a q (letter + y)).priority
+    enters_after first {v} {q} {p} {letter} {y} is_kept at plays second =
+        let s = setting plan in
+        let to = to_class plan first v is_kept at in
+        let same : to.chosen ≡ plays.chosen = some_nat to.chosen plays.chosen (sym to.choice ∙ plays.choice) in
+        let used : IsUsed game certificate plays.chosen = rw same at to.used in
+        let m = move_there (board_of order a) letter second in
+        let on = to_pair_of s letter m.0 plays.stands m.1 in
+        let there : step_of a q (letter + m.0) ≡ step_of a q (letter + y) = same_pair m.2.state m.2.priority in
+        let other : owner_of game plays.chosen ≡ winner_at_start certificate → ⊥ =
+        grind (arith, second_owner s plays.chosen plays.stands, mover_wins plan first) in
+        record {
+          plan = plan;
+          vertex = on.vertex;
+          stands = rw there at on.stands;
+          is_used = used_more used on.edge (within_game s on.vertex on.stands) (λ own. absurd (other own));
+        }

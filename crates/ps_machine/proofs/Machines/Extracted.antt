@@ -29,29 +29,30 @@ some_vertices {keys} is = search (rules, slice_get_within)
 
 -- the game, the certificate and the memory states from which a machine is built fit together (`IsPlan`) before any
 -- diagram is made
-unfoldable pub plan_is : {order : Order} {a : AutomatonData} {keys seen : List Key} {game shown : ParityGame}
-    {certificate : CertificateData} {first : Bool} {found kept anchors : List ℕ} →
+unfoldable pub plan_is : {order : Order} {a : AutomatonData} {keys seen listed : List Key}
+    {game shown played : ParityGame} {certificate : CertificateData} {first : Bool} {found kept anchors : List ℕ} →
     IsGameOf (board_of order a) (mover_of order) keys game → Fits game certificate → IsValid game certificate →
-    first ≡ (mover_of order == winner_at_start certificate) → shown ≡ game → AreUsed shown certificate found →
-    seen ≡ keys →
-    AreMemories first seen found kept anchors → IsPlan order a keys certificate first kept anchors
-plan_is {game} {certificate} {first} {found} {kept} {anchors} is fits valid turn same are_used these memories = record {
-  game = game;
-  is_game = is;
-  fits = fits;
-  valid = valid;
-  turn = turn;
-  used = found;
-  are_used = subst (λ g. AreUsed g certificate found) same are_used;
-  memories = subst (λ ks. AreMemories first ks found kept anchors) these memories;
-}
+    first ≡ (mover_of order == winner_at_start certificate) → played ≡ game → AreUsed played certificate found →
+    listed ≡ keys → AreMemories first listed found kept anchors → shown ≡ game → seen ≡ keys →
+    IsPlan order a seen shown certificate first kept anchors
+plan_is {order} {a} {keys} {game = game} {certificate} {first} {found} {kept} {anchors} is fits valid turn same are_used
+    these memories shown_is seen_is =
+    let plan : IsPlan order a keys game certificate first kept anchors = record {
+      is_game = is;
+      fits = fits;
+      valid = valid;
+      turn = turn;
+      used = found;
+      are_used = subst (λ g. AreUsed g certificate found) same are_used;
+      memories = subst (λ ks. AreMemories first ks found kept anchors) these memories;
+    } in
+    rw (shown_is, seen_is) plan
 
-module _ {order : Order} {a : AutomatonData} {keys : List Key} {certificate : CertificateData} {first : Bool}
-    {kept anchors : List ℕ} (plan : IsPlan order a keys certificate first kept anchors) {player : ℕ}
-    (own : player ≡ winner_at_start certificate) where
+module _ {order : Order} {a : AutomatonData} {keys : List Key} {game : ParityGame} {certificate : CertificateData}
+    {first : Bool} {kept anchors : List ℕ} (plan : IsPlan order a keys game certificate first kept anchors)
+    {player : ℕ} (own : player ≡ winner_at_start certificate) where
   some : 0 < length kept
   some =
-      let game = plan.game in
       let zero = used_first game certificate (some_vertices plan.is_game) in
       some_kept plan.memories 0 a.start plan.is_game.by_keys.begins ((plan.are_used 0).1 zero)
 
@@ -59,7 +60,7 @@ module _ {order : Order} {a : AutomatonData} {keys : List Key} {certificate : Ce
   pub record IsMade (n : MachineData) : Type 0 where
     pub is_machine : IsWholeMachine n
     pub has : HasPropositions a.names (board_of order a) (behaviour n)
-    pub of : IsMachineOf (board_of order a) (mover_of order) keys plan.game certificate (behaviour n)
+    pub of : IsMachineOf (board_of order a) (mover_of order) keys game certificate (behaviour n)
 
   pub made : (p : Propositions) (d : Diagrams) {n : MachineData} → length a.names ≤ 64 → AreNames a.names →
       map bytes_of p.names.items ≡ a.names → HasRoles first (board_of order a) p.inputs.items p.outputs.items →

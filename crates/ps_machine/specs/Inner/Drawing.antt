@@ -18,7 +18,7 @@ use Rattle.std.specs.Prelude.{◌≡◌, ◌≢◌, ℕ, ◌+◌, ◌<◌, ◌�
 use Rattle.std.specs.Prelude.{◌++◌, slice_get, slice_index}
 use Rattle.std.specs.List.{All, AllPairs, Contains}
 use Rattle.ps_label.specs.Truth.{is_in}
-use Rattle.ps_game.specs.Games.{ParityGame}
+use Rattle.ps_game.specs.Games.{HasEdge, ParityGame}
 use Rattle.ps_game.specs.Ranking.{RemainsFor}
 use Rattle.ps_certificate.specs.Certificates.{CertificateData, Fits, IsValid, choice_of}
 use Rattle.ps_diagram.specs.Table.{Table, IsNode, leaf_of}
@@ -91,9 +91,8 @@ pub record AreMemories (is_first : Bool) (keys : List Key) (used kept anchors : 
 
 -- ## Rows
 
-pub record IsPlan (order : Order) (a : AutomatonData) (keys : List Key) (certificate : CertificateData)
-    (is_first : Bool) (kept anchors : List ℕ) : Type 0 where
-  pub game : ParityGame
+pub record IsPlan (order : Order) (a : AutomatonData) (keys : List Key) (game : ParityGame)
+    (certificate : CertificateData) (is_first : Bool) (kept anchors : List ℕ) : Type 0 where
   pub is_game : IsGameOf (board_of order a) (mover_of order) keys game
   pub fits : Fits game certificate
   pub valid : IsValid game certificate
@@ -147,12 +146,18 @@ pub record KeepsRows (old new : List Row) : Type 0 where
   pub same : (leaf : ℕ) (row : Row) → slice_get old leaf ≡ Some row → slice_get new leaf ≡ Some row
 
 -- some reachable vertex stands for the state q, entered by an edge of priority p
-pub record CanEnter (order : Order) (a : AutomatonData) (keys : List Key) (certificate : CertificateData)
-    (is_first : Bool) (kept anchors : List ℕ) (q p : ℕ) : Type 0 where
-  pub plan : IsPlan order a keys certificate is_first kept anchors
+pub record CanEnter (order : Order) (a : AutomatonData) (keys : List Key) (game : ParityGame)
+    (certificate : CertificateData) (is_first : Bool) (kept anchors : List ℕ) (q p : ℕ) : Type 0 where
+  pub plan : IsPlan order a keys game certificate is_first kept anchors
   pub vertex : ℕ
   pub stands : StandsAt keys vertex (First q p)
-  pub is_used : IsUsed plan.game certificate vertex
+  pub is_used : IsUsed game certificate vertex
+
+-- vertex v has a successor that stands for the key k
+pub record Leads (keys : List Key) (game : ParityGame) (v : ℕ) (k : Key) : Type 0 where
+  pub vertex : ℕ
+  pub edge : HasEdge game v vertex
+  pub stands : StandsAt keys vertex k
 
 -- ## Diagrams of a player who moves second
 

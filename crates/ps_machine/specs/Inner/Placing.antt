@@ -7,6 +7,7 @@
 -- - `IsPlaced .. letter leaf`: for the leaf, `places` has the index of a row of the machine's table
 use Rattle.std.specs.Prelude.{◌≡◌, ℕ, ◌<◌, Bool, List, length, Some, slice_get}
 use Rattle.ps_certificate.specs.Certificates.{CertificateData, choice_of}
+use Rattle.ps_game.specs.Games.{ParityGame}
 use Rattle.ps_automaton.specs.Automata.{AutomatonData, pair_of}
 use Rattle.ps_machine.specs.Boards.{Board, IsClassLetter}
 use Rattle.ps_machine.specs.Inner.Drawing.{CanEnter}
@@ -27,10 +28,10 @@ pub record PlaysClass (board : Board) (keys : List Key) (certificate : Certifica
   pub is_class : IsClassLetter board q letter
 
 -- a leaf of an automaton's diagram is the index of a step; this step leads to a reachable vertex of the game
-pub record IsEntered (order : Order) (a : AutomatonData) (keys : List Key) (certificate : CertificateData)
-    (is_first : Bool) (kept anchors : List ℕ) (leaf : ℕ) : Type 0 where
+pub record IsEntered (order : Order) (a : AutomatonData) (keys : List Key) (game : ParityGame)
+    (certificate : CertificateData) (is_first : Bool) (kept anchors : List ℕ) (leaf : ℕ) : Type 0 where
   pub within : leaf < length a.steps
-  pub enters : CanEnter order a keys certificate is_first kept anchors (pair_of a leaf).state (pair_of a leaf).priority
+  pub enters : CanEnter order a keys game certificate is_first kept anchors (pair_of a leaf).state (pair_of a leaf).priority
 
 -- `places[leaf]` is the index of a row of the machine's table. In this row, the machine outputs `letter` and enters the
 -- memory state of the vertex that stands for the leaf's step.

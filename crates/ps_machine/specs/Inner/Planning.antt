@@ -17,7 +17,7 @@ use Rattle.ps_machine.specs.Inner.Assembling.{AreDrawn}
 use Rattle.ps_machine.specs.Boards.{Board, IsClassLetter}
 use Rattle.ps_machine.specs.BuiltBoards.{board_of}
 use Rattle.ps_machine.specs.Dividing.{AreDivided, AreKnown}
-use Rattle.ps_machine.specs.Inner.Drawing.{CanEnter, IsReplyRow, IsDrawn, IsPlan, IsRow, KeepsRows, NamesAnswer}
+use Rattle.ps_machine.specs.Inner.Drawing.{CanEnter, IsReplyRow, IsDrawn, IsPlan, IsRow, KeepsRows, Leads, NamesAnswer}
 use Rattle.ps_machine.specs.Dividing.{IsFit}
 use Rattle.ps_machine.specs.Inner.Moving.{IsRest}
 use Rattle.ps_machine.specs.Inner.Placing.{IsEntered, IsPlaced}
@@ -26,6 +26,7 @@ use Rattle.ps_machine.specs.declared.divided.Divided.{Divided}
 use Rattle.ps_machine.specs.declared.divided.Division.{Division}
 use Rattle.ps_machine.specs.declared.drawing.Drawing.{Drawing}
 use Rattle.ps_machine.specs.declared.drawing.Plan.{Plan}
+use Rattle.ps_machine.specs.declared.key.Key.{Key}
 use Rattle.ps_machine.specs.declared.key.Key.TheVariants.{First}
 use Rattle.ps_machine.specs.declared.machine.Row.{Row}
 
@@ -34,25 +35,28 @@ board_by p = board_of p.order p.automaton.now
 
 abbrev pub IsPlanned : Plan → Type 0
 IsPlanned p =
-    IsPlan p.order p.automaton.now p.keys.now.keys p.certificate.now p.moves_first p.memories.now.kept.items
+    IsPlan p.order p.automaton.now p.keys.now p.game.now p.certificate.now p.moves_first p.memories.now.kept.items
     p.memories.now.anchors.keys
 
 abbrev pub AreDividedBy : Plan → Divided → Type 0
-AreDividedBy p d = AreDivided p.order p.automaton.now p.keys.now.keys d.store (get nat_eq d.classes)
+AreDividedBy p d = AreDivided p.order p.automaton.now p.keys.now d.store (get nat_eq d.classes)
 
 abbrev pub AreKnownBy : Plan → Division → Type 0
-AreKnownBy p = AreKnown p.order p.automaton.now p.keys.now.keys
+AreKnownBy p = AreKnown p.order p.automaton.now p.keys.now
 
 -- the relation that holds for a state and a priority if some reachable vertex stands for this state, entered by an edge
 -- of this priority
 abbrev pub CanEnterBy : Plan → ℕ → ℕ → Type 0
 CanEnterBy p =
-    CanEnter p.order p.automaton.now p.keys.now.keys p.certificate.now p.moves_first p.memories.now.kept.items
+    CanEnter p.order p.automaton.now p.keys.now p.game.now p.certificate.now p.moves_first p.memories.now.kept.items
     p.memories.now.anchors.keys
+
+abbrev pub LeadsBy : Plan → ℕ → Key → Type 0
+LeadsBy p = Leads p.keys.now p.game.now
 
 abbrev pub IsEnteredBy : Plan → ℕ → Type 0
 IsEnteredBy p =
-    IsEntered p.order p.automaton.now p.keys.now.keys p.certificate.now p.moves_first p.memories.now.kept.items
+    IsEntered p.order p.automaton.now p.keys.now p.game.now p.certificate.now p.moves_first p.memories.now.kept.items
     p.memories.now.anchors.keys
 
 -- the diagram of the steps from the state q after the letter x of the first player
@@ -64,19 +68,19 @@ abbrev pub AreRowsBy : Plan → List Row → Type 0
 AreRowsBy p = All (IsRow p.moves_first (board_by p) p.memories.now.kept.items)
 
 abbrev pub IsPlacedBy : Plan → List Row → List ℕ → ℕ → ℕ → Type 0
-IsPlacedBy p = IsPlaced p.automaton.now p.keys.now.keys p.moves_first p.memories.now.kept.items
+IsPlacedBy p = IsPlaced p.automaton.now p.keys.now p.moves_first p.memories.now.kept.items
 
 abbrev pub IsDrawnBy : Plan → Table → List Row → ℕ → ℕ → Type 0
-IsDrawnBy p = IsDrawn p.moves_first (board_by p) p.keys.now.keys p.memories.now.kept.items p.certificate.now
+IsDrawnBy p = IsDrawn p.moves_first (board_by p) p.keys.now p.memories.now.kept.items p.certificate.now
 
 abbrev pub AreDrawnBy : Plan → Table → List Row → List ℕ → ℕ → Type 0
-AreDrawnBy p = AreDrawn p.moves_first (board_by p) p.keys.now.keys p.memories.now.kept.items p.certificate.now
+AreDrawnBy p = AreDrawn p.moves_first (board_by p) p.keys.now p.memories.now.kept.items p.certificate.now
 
 abbrev pub IsAnswerBy : Plan → ℕ → ℕ → Row → Type 0
-IsAnswerBy p = IsReplyRow (board_by p) p.keys.now.keys p.memories.now.kept.items p.certificate.now
+IsAnswerBy p = IsReplyRow (board_by p) p.keys.now p.memories.now.kept.items p.certificate.now
 
 abbrev pub NamesAnswerBy : Plan → List Row → ℕ → ℕ → ℕ → Type 0
-NamesAnswerBy p = NamesAnswer (board_by p) p.keys.now.keys p.memories.now.kept.items p.certificate.now
+NamesAnswerBy p = NamesAnswer (board_by p) p.keys.now p.memories.now.kept.items p.certificate.now
 
 -- ## What functions that draw require, and what they give
 
@@ -95,13 +99,14 @@ pub record CanDraw (p : Plan) (d : Divided) (drawing : Drawing) (v : ℕ) : Type
 pub record CanDrawAt (is_first : Bool) (p : Plan) (d : Divided) (drawing : Drawing) (v q : ℕ) : Type 0 where
   pub ready : CanDraw p d drawing v
   pub turn : p.moves_first ≡ is_first
-  pub stands : (priority : ℕ) × StandsAt p.keys.now.keys v (First q priority)
+  pub stands : (priority : ℕ) × StandsAt p.keys.now v (First q priority)
 
--- the machine's player moves second, some reachable vertex stands for the state q, and x is the least letter of its
--- class at q
-pub record CanReply (p : Plan) (q x : ℕ) : Type 0 where
+-- the machine's player moves second, the vertex v and some reachable vertex stand for the state q, and x is the least
+-- letter of its class at q
+pub record CanReply (p : Plan) (v q x : ℕ) : Type 0 where
   pub turn : p.moves_first ≡ false
   pub entered : (priority : ℕ) × CanEnterBy p q priority
+  pub stands : (priority : ℕ) × StandsAt p.keys.now v (First q priority)
   pub class : IsClassLetter (board_by p) q x
 
 -- a call adds no diagrams; each earlier row keeps its index, and each row has an existing memory state and a letter of

@@ -6,8 +6,10 @@
 -- list - `IsReadyToTry plan tried`: the machine can be made from the plan and the letters `tried`
 -- - `CanTry plan tried drawing v`: the diagram of the memory state of the vertex v can be added to the `Drawing`
 -- - `TriesAt plan few q`: the letters are tried at the state q
--- - `CanAnswer plan few q`: `TriesAt`; the machine's player moves second, and some reachable vertex stands for q
--- - `CanStep plan q letter y`: the step from q by the sum of both letters leads to a reachable vertex
+-- - `CanAnswer plan few v q`: `TriesAt`; the machine's player moves second, and the vertex v and some reachable vertex
+--   stand for q
+-- - `CanStep plan from q letter y`: the step from q by the sum of both letters leads from the vertex `from` to a reachable
+--   vertex
 -- - `NamesStep plan rows q letter y value`: `value` is the index of a row of the machine's table that has the output
 --   `letter`, and the memory state after the step from q by the sum of both letters
 -- - `AreNamed Names letters n values`: the relation `Names` holds between the first n letters and the values
@@ -21,7 +23,7 @@ use Rattle.ps_machine.specs.Boards.{Board}
 use Rattle.ps_machine.specs.Dividing.{AreFewLetters}
 use Rattle.ps_machine.specs.Extracting.{IsOtherLetter, StandsFor, is_others}
 use Rattle.ps_machine.specs.Inner.Moving.{step_key}
-use Rattle.ps_machine.specs.Inner.Planning.{AreRowsBy, CanEnterBy, IsPlanned, board_by}
+use Rattle.ps_machine.specs.Inner.Planning.{AreRowsBy, CanEnterBy, IsPlanned, LeadsBy, board_by}
 use Rattle.ps_machine.specs.Numbering.{StandsAt}
 use Rattle.ps_machine.specs.declared.drawing.Drawing.{Drawing}
 use Rattle.ps_machine.specs.declared.drawing.Plan.{Plan}
@@ -71,19 +73,21 @@ pub record CanTry (p : Plan) (tried : LetterPlan) (drawing : Drawing) (v : ℕ) 
 pub record CanTryAt (is_first : Bool) (p : Plan) (tried : LetterPlan) (drawing : Drawing) (v q : ℕ) : Type 0 where
   pub ready : CanTry p tried drawing v
   pub turn : p.moves_first ≡ is_first
-  pub stands : (priority : ℕ) × StandsAt p.keys.now.keys v (First q priority)
+  pub stands : (priority : ℕ) × StandsAt p.keys.now v (First q priority)
 
 pub record TriesAt (p : Plan) (few : FewLetters) (q : ℕ) : Type 0 where
   pub letters : AreFewLetters (board_by p) few
   pub state : q ≤ p.automaton.now.states
 
-pub record CanAnswer (p : Plan) (few : FewLetters) (q : ℕ) : Type 0 where
+pub record CanAnswer (p : Plan) (few : FewLetters) (v q : ℕ) : Type 0 where
   pub at : TriesAt p few q
   pub turn : p.moves_first ≡ false
   pub entered : (priority : ℕ) × CanEnterBy p q priority
+  pub stands : (priority : ℕ) × StandsAt p.keys.now v (First q priority)
 
-pub record CanStep (p : Plan) (q letter y : ℕ) : Type 0 where
+pub record CanStep (p : Plan) (from q letter y : ℕ) : Type 0 where
   pub small : letter + y < 2 ^ 64
+  pub leads : LeadsBy p from (step_key (step_of p.automaton.now q (letter + y)))
   pub enters : CanEnterBy p (step_of p.automaton.now q (letter + y)).state
       (step_of p.automaton.now q (letter + y)).priority
 
@@ -93,8 +97,8 @@ pub record NamesStep (p : Plan) (rows : List Row) (q letter y value : ℕ) : Typ
   pub row : Row
   pub is_row : slice_get rows value ≡ Some row
   pub plays : row.letter ≡ letter
-  pub next : (v : ℕ) → StandsAt p.keys.now.keys v (step_key (step_of p.automaton.now q (letter + y))) →
-      StandsFor p.moves_first p.keys.now.keys p.memories.now.kept.items row.memory v
+  pub next : (v : ℕ) → StandsAt p.keys.now v (step_key (step_of p.automaton.now q (letter + y))) →
+      StandsFor p.moves_first p.keys.now p.memories.now.kept.items row.memory v
       (step_of p.automaton.now q (letter + y)).state
 
 pub record AreNamed (Names : ℕ → ℕ → Type 0) (letters : List ℕ) (n : ℕ) (values : List ℕ) : Type 0 where

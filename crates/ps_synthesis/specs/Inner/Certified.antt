@@ -16,7 +16,7 @@ use Rattle.ps_machine.specs.declared.key.Order.{Order}
 pub record IsCertifiedGame (order : Order) (a : AutomatonData) (made : AutomatonGame)
     (certificate : CertificateData) : Type 0
   where
-    pub game : IsGameOf (board_of order a) (mover_of order) made.keys.keys made.game.game
+    pub game : IsGameOf (board_of order a) (mover_of order) made.keys.items made.game.game
     pub classes : HasClasses order a made
     pub some : 0 < vertex_count made.game.game
     pub certified : IsCertified made.game certificate

@@ -6,4 +6,4 @@ pub machine_by-requires-clause-plan : goal.machine_by-requires-clause-plan
 machine_by-requires-clause-plan c =
     let kept = c.in_ok-memories.ensures in
     plan_is c.requires.game c.requires.fits c.requires.valid (grind arith) c.game.ensures.game kept.1
-    c.as_slice.ensures.keys kept.2
+    c.deref.ensures.value kept.2 c.game-2.ensures.game c.deref-2.ensures.value

@@ -7,7 +7,7 @@ use Rattle.ps_machine.proofs.extracting.nodes_by_letters.Given as goal
 abbrev pub invariant-loop-vertex : goal.invariant-loop-vertex
 invariant-loop-vertex l = record {
   letters : l.drawing.store.propositions ≡ l.fn.drawing.store.propositions;
-  drawn : AreDrawn l.plan.moves_first (board_of l.plan.order l.plan.automaton.now) l.plan.keys.now.keys
+  drawn : AreDrawn l.plan.moves_first (board_of l.plan.order l.plan.automaton.now) l.plan.keys.now
       l.plan.memories.now.kept.items l.plan.certificate.now l.drawing.store l.drawing.rows.keys l.nodes.items
       l.vertex-index;
 }

@@ -18,7 +18,7 @@ returns-clause-made c =
       is_machine = c.player.ensures.machine.is_machine;
       propositions = c.in_ok-machine.ensures.propositions;
       machine_of = λ keys is. subst (λ ks. IsMachineOf board mover ks game.game.game c.args.certificate.now m)
-          (c.one_game.ensures board mover game.keys.keys keys game.game.game game.game.game c.requires.game is).0
+          (c.one_game.ensures board mover game.keys.items keys game.game.game game.game.game c.requires.game is).0
           c.in_ok-machine.ensures.machine;
     } in
     record {
@@ -31,7 +31,7 @@ returns-clause-made c =
 
 pub returns-clause-answers : goal.returns-clause-answers
 returns-clause-answers c = λ file chain built. c.certified_circuit_answers.ensures file chain c.args.automaton.now
-    c.args.order c.args.game.now.keys.keys c.args.game.now.game.game c.args.certificate.now
+    c.args.order c.args.game.now.keys.items c.args.game.now.game.game c.args.certificate.now
     (behaviour c.in_ok-machine.machine) c.in_ok-circuit.field-0 built c.requires.game c.requires.certified.fits
     c.requires.certified.valid c.player.ensures.machine.is_machine
     c.in_ok-machine.ensures.propositions c.in_ok-machine.ensures.machine c.in_ok-circuit.ensures.encodes
@@ -47,7 +47,7 @@ returns-in_err-circuit-clause-refused c =
       is_machine = c.player.ensures.machine.is_machine;
       propositions = c.in_ok-machine.ensures.propositions;
       machine_of = λ keys is. subst (λ ks. IsMachineOf board mover ks game.game.game c.args.certificate.now m)
-          (c.one_game.ensures board mover game.keys.keys keys game.game.game game.game.game c.requires.game is).0
+          (c.one_game.ensures board mover game.keys.items keys game.game.game game.game.game c.requires.game is).0
           c.in_ok-machine.ensures.machine;
     } in
     circuit_fault c.args.order a game.game.game c.args.certificate.now m extracted c.in_err-circuit.field-0.0

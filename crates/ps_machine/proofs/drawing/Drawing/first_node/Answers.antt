@@ -1,13 +1,13 @@
 use Rattle.std.proofs.Common.{arith}
 use Rattle.ps_machine.specs.Inner.Planning.{IsDrawnBy}
 use Rattle.ps_machine.proofs.GameKeys.Exploring.{both_ok}
-use Rattle.ps_machine.proofs.Diagrams.FirstDrawing.{entered, all_noted, drawn_first}
+use Rattle.ps_machine.proofs.Diagrams.FirstDrawing.{entered, all_noted, drawn_first, leads_all}
 use Rattle.ps_machine.proofs.Diagrams.ClassRests.{class_listed, left_behind, renamed, renamed_within}
 use Rattle.ps_machine.proofs.drawing.Drawing.first_node.Goals as goal
 
 pub rest_of-rest-requires : goal.rest_of-rest-requires
 rest_of-rest-requires c = class_listed c.args.vertex c.requires.ready.divided c.requires.stands.1 c.of.ensures
-    c.deref.ensures.value (c.letter_at-letter.ensures c.args.state c.requires.stands.0 c.requires.stands.1)
+    c.deref.ensures.value (c.move_at-chosen.ensures.plays c.args.state c.requires.stands.0 c.requires.stands.1)
 
 pub leaves-requires : goal.leaves-requires
 leaves-requires c = grind (
@@ -19,15 +19,24 @@ leaves-requires c = grind (
 pub place_rows-requires-clause-entered : goal.place_rows-requires-clause-entered
 place_rows-requires-clause-entered c =
     let at = c.requires.stands.1 in
-    let plays = c.letter_at-letter.ensures c.args.state c.requires.stands.0 at in
+    let plays = c.move_at-chosen.ensures.plays c.args.state c.requires.stands.0 at in
     let l = left_behind c.args.vertex c.requires.ready.divided at c.of.ensures c.deref.ensures.value
     c.rest_of-rest.ensures in
     let are = rw (← c.deref-2.ensures.value) at c.in_ok-leaves.ensures in
     entered c.requires.ready.plan c.requires.turn c.requires.ready.kept at plays l are
 
+pub place_rows-requires-clause-leads : goal.place_rows-requires-clause-leads
+place_rows-requires-clause-leads c =
+    let at = c.requires.stands.1 in
+    let plays = c.move_at-chosen.ensures.plays c.args.state c.requires.stands.0 at in
+    let l = left_behind c.args.vertex c.requires.ready.divided at c.of.ensures c.deref.ensures.value
+    c.rest_of-rest.ensures in
+    let are = rw (← c.deref-2.ensures.value) at c.in_ok-leaves.ensures in
+    leads_all c.requires.ready.plan c.requires.turn c.move_at-chosen.ensures.moved plays l are
+
 pub place_rows-requires-clause-own : goal.place_rows-requires-clause-own
 place_rows-requires-clause-own c =
-    let plays = c.letter_at-letter.ensures c.args.state c.requires.stands.0 c.requires.stands.1 in
+    let plays = c.move_at-chosen.ensures.plays c.args.state c.requires.stands.0 c.requires.stands.1 in
     rw c.requires.turn plays.is_class.here.0
 
 pub relabel_from-requires-clause-held : goal.relabel_from-requires-clause-held
@@ -40,7 +49,7 @@ relabel_from-requires-clause-held c = grind (
 pub relabel_from-requires-clause-within : goal.relabel_from-requires-clause-within
 relabel_from-requires-clause-within c =
     let at = c.requires.stands.1 in
-    let plays = c.letter_at-letter.ensures c.args.state c.requires.stands.0 at in
+    let plays = c.move_at-chosen.ensures.plays c.args.state c.requires.stands.0 at in
     let l = left_behind c.args.vertex c.requires.ready.divided at c.of.ensures c.deref.ensures.value
     c.rest_of-rest.ensures in
     let t = c.args.divided.now.store in
@@ -52,7 +61,7 @@ relabel_from-requires-clause-within c =
 pub returns : goal.returns
 returns c =
     let at = c.requires.stands.1 in
-    let plays = c.letter_at-letter.ensures c.args.state c.requires.stands.0 at in
+    let plays = c.move_at-chosen.ensures.plays c.args.state c.requires.stands.0 at in
     let l = left_behind c.args.vertex c.requires.ready.divided at c.of.ensures c.deref.ensures.value
     c.rest_of-rest.ensures in
     let t = c.args.divided.now.store in

@@ -4,10 +4,10 @@ use Rattle.ps_machine.proofs.Diagrams.FirstDrawing.{AreNoted}
 use Rattle.ps_machine.proofs.drawing.Drawing.place_rows.Given as goal
 
 -- for each leaf that was visited so far, the index of the machine's row for this leaf is recorded
-abbrev pub invariant-loop-leaf : goal.invariant-loop-leaf
-invariant-loop-leaf l = record {
+abbrev pub invariant-loop-number : goal.invariant-loop-number
+invariant-loop-number l = record {
   store : l.self.store ≡ l.fn.self.store;
-  noted : AreNoted l.plan.automaton.now l.plan.keys.now.keys l.plan.moves_first
+  noted : AreNoted l.plan.automaton.now l.plan.keys.now l.plan.moves_first
       (board_of l.plan.order l.plan.automaton.now) l.plan.memories.now.kept.items l.letter l.leaves l.fn.self.rows.keys
-      l.self.rows.keys l.self.places.items l.leaf-index;
+      l.self.rows.keys l.self.places.items l.number;
 }

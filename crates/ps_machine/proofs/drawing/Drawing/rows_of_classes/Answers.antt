@@ -13,23 +13,23 @@ returns-in_err-push-clause-added c =
     let board = board_of plan.order plan.automaton.now in
     let kept = plan.memories.now.kept.items in
     let row = c.in_ok-row.row in
-    let inv = c.loop-class.invariant in
+    let inv = c.loop-number.invariant in
     let keys = c.in_ok-place.ensures.keys in
     record {
       store = inv.store;
       same_rows = keeps_rows_trans inv.same_rows (keeps_rows (row_eq.eq-value).it row keys);
-      rows = all_rows (IsRow plan.moves_first board kept) (row_eq.eq-value).it c.loop-class.self.rows.keys row keys
+      rows = all_rows (IsRow plan.moves_first board kept) (row_eq.eq-value).it c.loop-number.self.rows.keys row keys
           inv.rows (answer_row c.requires.turn c.in_ok-row.ensures);
     }
 
-pub loop-class-preserved : goal.loop-class-preserved
-loop-class-preserved c =
+pub loop-number-preserved : goal.loop-number-preserved
+loop-number-preserved c =
     let plan = c.args.plan.now in
     let board = board_of plan.order plan.automaton.now in
     let kept = plan.memories.now.kept.items in
-    let old = c.loop-class.self.rows.keys in
+    let old = c.loop-number.self.rows.keys in
     let new = c.insert_full.new.self.keys in
-    let inv = c.loop-class.invariant in
+    let inv = c.loop-number.invariant in
     record {
       store = inv.store;
       same_rows =
@@ -37,9 +37,9 @@ loop-class-preserved c =
       rows = all_rows (IsRow plan.moves_first board kept) (row_eq.eq-value).it old c.in_ok-row.row
           c.in_ok-place.ensures.keys inv.rows (answer_row c.requires.turn c.in_ok-row.ensures);
       values =
-          named_next old new c.args.classes.now c.loop-class.class-index c.class-item.result c.loop-class.values.items
-          c.push.new.self.items c.in_ok-place.place c.in_ok-place.ensures.keys inv.values c.loop-class-test.true
-          c.class-item.is c.in_ok-place.ensures.stored c.in_ok-row.ensures c.in_ok-push.ensures.items;
+          named_next old new c.args.classes.now c.loop-number.number c.index-classes-number.result c.loop-number.values.items
+          c.push.new.self.items c.in_ok-place.place c.in_ok-place.ensures.keys inv.values c.loop-number-test.true
+          c.index-classes-number.is c.in_ok-place.ensures.stored c.in_ok-row.ensures c.in_ok-push.ensures.items;
     }
 
 pub returns-clause-values : goal.returns-clause-values
@@ -47,4 +47,4 @@ returns-clause-values c = search (rules, Names, take_all)
 
 pub row_of_class-requires-clause-rest : goal.row_of_class-requires-clause-rest
 row_of_class-requires-clause-rest c =
-    rw c.class-item.is (c.requires.rests c.loop-class.class-index c.class-item.result c.loop-class-test.true)
+    rw c.index-classes-number.is (c.requires.rests c.loop-number.number c.index-classes-number.result c.loop-number-test.true)

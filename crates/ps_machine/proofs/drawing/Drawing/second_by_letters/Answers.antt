@@ -15,6 +15,7 @@ rows_behind-requires-clause-ready c =
         state = state_low r.ready.plan r.ready.whole used c.requires.stands.1;
       };
       turn = c.requires.turn;
+      stands = c.requires.stands;
       entered = (
         c.requires.stands.0,
         record {

@@ -36,7 +36,7 @@ relabel_from-requires-clause-within c letter within =
     let plan = c.args.plan.now in
     let of = classes_there c.args.vertex c.requires.ready.divided c.requires.stands.1 c.of-classes.ensures in
     let rows = c.rows_of_classes.new.self.rows.keys in
-    places_within plan.keys.now.keys plan.memories.now.kept.items plan.certificate.now rows c.deref-2.result.now
+    places_within plan.keys.now plan.memories.now.kept.items plan.certificate.now rows c.deref-2.result.now
     c.requires.ready.divided.fit of
     (grind arith) letter
 
@@ -55,7 +55,7 @@ returns c =
       rows = added.rows;
       drawn = both_ok _ _ (IsDrawnBy plan u rows c.args.vertex) c.relabel_from.result c.relabel_from.ensures.held
           c.relabel_from.ensures.leaf (λ node held leaf. rw c.requires.turn
-          (drawn_second plan.keys.now.keys plan.memories.now.kept.items plan.certificate.now rows c.deref-2.result.now
+          (drawn_second plan.keys.now plan.memories.now.kept.items plan.certificate.now rows c.deref-2.result.now
           c.requires.ready.divided.fit of named u node leaf c.args.vertex c.requires.stands.0 c.requires.stands.1
           held));
     }

@@ -10,12 +10,11 @@ letter_to-requires-clause-named c =
 pub letter_to-requires-clause-there : goal.letter_to-requires-clause-there
 letter_to-requires-clause-there c =
     let are = rw (← c.deref.ensures.value) at c.in_ok-leaves.ensures in
-    leaf_there c.reply-step.ensures.reply c.requires.rest.1 c.requires.rest.2 are
+    leaf_there c.reply-next.ensures.reply c.requires.rest.1 c.requires.rest.2 are
 
 pub returns : goal.returns
 returns c =
-    let step = c.reply-step.result in
     let are = rw (← c.deref.ensures.value) at c.in_ok-leaves.ensures in
-    answered c.reply-step.ensures.reply c.requires.rest.1 c.requires.rest.2 are c.letter_to.result
-    c.memory_behind.result c.requires.ready.class c.letter_to.ensures
-    (λ v at. rw c.requires.ready.turn at (c.memory_behind.ensures.stands v at))
+    answered c.reply-next.ensures.reply c.requires.rest.1 c.requires.rest.2 are c.letter_to.result
+    c.memory_at.result c.requires.ready.class c.letter_to.ensures
+    (λ v at. rw c.requires.ready.turn at (c.memory_at.ensures.stands v at))

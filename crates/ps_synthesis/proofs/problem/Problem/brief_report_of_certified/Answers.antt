@@ -9,7 +9,7 @@ use Rattle.ps_synthesis.proofs.problem.Problem.brief_report_of_certified.Goals a
 pub returns : goal.returns
 returns c = λ compact order text. (let i = c.self.inside in
     let p : ProblemData =
-    record { order = i.order; automaton = i.automaton; keys = i.game.keys.keys; game = i.game.game } in
+    record { order = i.order; automaton = i.automaton; keys = i.game.keys.items; game = i.game.game } in
     let certificate = c.args.certificate.now in
     let result = c.brief_report_of_certificate.result in
     let said = c.brief_report_of_certificate.ensures in

@@ -8,7 +8,7 @@ use Rattle.ps_synthesis.proofs.problem.Problem.report_of_certified.Goals as goal
 pub returns-clause-outcome : goal.returns-clause-outcome
 returns-clause-outcome c = λ order text. (let i = c.self.inside in
     let p : ProblemData =
-    record { order = i.order; automaton = i.automaton; keys = i.game.keys.keys; game = i.game.game } in
+    record { order = i.order; automaton = i.automaton; keys = i.game.keys.items; game = i.game.game } in
     let certificate = c.args.certificate.now in
     let result = c.report_of_certificate.result in
     let said = c.report_of_certificate.ensures in
