@@ -1,4 +1,5 @@
 pub mod Members
+pub mod Brought
 pub mod Sound
 pub mod Complete
 pub mod Rounds

@@ -5,8 +5,9 @@ use Rattle.std.proofs.Math.Nat.{eq-or-lt_of_le}
 use Rattle.std.specs.List.{Contains}
 use Rattle.ps_formula.specs.NormalForms.{NormalFormula, truth, literal, both, either, after, reaches, keeps, plain}
 use Rattle.ps_formula.specs.Satisfaction.{Reaches, Satisfies}
-use Rattle.ps_tableau.specs.Covers.{Cover, Covers, SatisfiesAll}
+use Rattle.ps_tableau.specs.Covers.{Brings, Cover, Covers, SatisfiesAll}
 use Rattle.ps_tableau.specs.Runs.{IsFairRun, IsTableau, Tableau}
+use Rattle.ps_tableau.proofs.Brought.{brought_covered}
 
 reach_now : {A B : ℕ → Type 0} (i : ℕ) → B i → Reaches A B i
 reach_now i here = record { end = i; later = omega arith; there = here; before = λ k low high. absurd (omega arith) }
@@ -28,17 +29,17 @@ Covered w run i f = Covers (run i) (w i) f
 
 -- the cover at an index is enough for the next obligations of the cover before it
 carried : (t : Tableau) (w states : ℕ → ℕ) (run : ℕ → Cover) → IsTableau t → IsFairRun t w states run →
-    (i : ℕ) (f : NormalFormula) → Contains (run i).next f → Covered w run (i + 1) f
-carried t w states run tableau fair i f there =
+    (i : ℕ) (f : NormalFormula) → Brings (Contains (run i).next) f → Covered w run (i + 1) f
+carried t w states run tableau fair i f brings = brought_covered (Contains (run i).next) (run (i + 1)) (w (i + 1)) (λ g there.
     let r = fair.is_run in
-    let next : Contains (t.obligations (states (i + 1))) f =
-    subst (λ (l : List NormalFormula). Contains l f) (sym (r.leads i)) there in
-    ((tableau.exact (states (i + 1)) (r.state (i + 1))).enough (run (i + 1)) (r.cover (i + 1))).each f next
-    (w (i + 1)) (r.meets (i + 1))
+    let next : Contains (t.obligations (states (i + 1))) g =
+    subst (λ (l : List NormalFormula). Contains l g) (sym (r.leads i)) there in
+    ((tableau.exact (states (i + 1)) (r.state (i + 1))).enough (run (i + 1)) (r.cover (i + 1))).each g next
+    (w (i + 1)) (r.meets (i + 1))) brings
 
 -- an until that is postponed at each index up to one at which it is not postponed
 until_in : (w : ℕ → ℕ) (run : ℕ → Cover) (f g : NormalFormula) →
-    ((i : ℕ) (h : NormalFormula) → Contains (run i).next h → Covered w run (i + 1) h) →
+    ((i : ℕ) (h : NormalFormula) → Brings (Contains (run i).next) h → Covered w run (i + 1) h) →
     ((i : ℕ) → Covered w run i f → Satisfies (plain f) w i) →
     ((i : ℕ) → Covered w run i g → Satisfies (plain g) w i) →
     (j : ℕ) → ¬ Contains (run j).postponed (reaches f g) → (d i : ℕ) → i + d ≡ j →
@@ -52,7 +53,7 @@ until_in w run f g carry left right j free (suc d) i far (inr later) =
     (until_in w run f g carry left right j free d (i + 1) (omega arith) (carry i (reaches f g) later.1))
 
 release_at : (w : ℕ → ℕ) (run : ℕ → Cover) (f g : NormalFormula) →
-    ((i : ℕ) (h : NormalFormula) → Contains (run i).next h → Covered w run (i + 1) h) →
+    ((i : ℕ) (h : NormalFormula) → Brings (Contains (run i).next) h → Covered w run (i + 1) h) →
     ((i : ℕ) → Covered w run i f → Satisfies (plain f) w i) →
     ((i : ℕ) → Covered w run i g → Satisfies (plain g) w i) → (d i j : ℕ) → i + d ≡ j →
     Covered w run i (keeps f g) →

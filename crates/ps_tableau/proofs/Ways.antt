@@ -9,15 +9,16 @@ use Rattle.std.specs.Prelude.{IsTrue}
 use Rattle.ps_label.specs.Truth.{is_in}
 use Rattle.ps_formula.specs.NormalForms.{NormalFormula, truth, literal, both, either, after, reaches, keeps, plain}
 use Rattle.ps_formula.specs.Satisfaction.{IsDecidedWord, Keeps, Reaches, Satisfies}
-use Rattle.ps_tableau.specs.Covers.{AreCoversOf, Cover, Covers, Fits, Postpones, SatisfiesAll}
+use Rattle.ps_tableau.specs.Covers.{AreCoversOf, Brings, Cover, Covers, Fits, Postpones, SatisfiesAll, of_known}
 use Rattle.ps_tableau.specs.Operators.{AreProducts, ArePruned, IsJoin, free_cover, literal_cover, next_cover}
 use Rattle.ps_tableau.specs.Operators.{postponing_cover}
+use Rattle.ps_tableau.proofs.Brought.{brought_holds, brought_more, release_now}
 use Rattle.ps_tableau.proofs.Members.{first_in, in_none, in_one}
 
 -- ## Covers that ask for more
 
 -- a cover that asks for more is enough for what the other is enough for
-pub Covers-more : (a c : Cover) (letter : ℕ) → ((f : NormalFormula) → Contains a.next f → Contains c.next f) →
+pub Covers-more : (a c : Cover) (letter : ℕ) → ((f : NormalFormula) → Contains a.next f → Brings (Contains c.next) f) →
     ((f : NormalFormula) → Contains a.postponed f → Contains c.postponed f) → (f : NormalFormula) →
     Covers a letter f → Covers c letter f
 Covers-more a c letter next postponed (truth b) h = h
@@ -27,15 +28,19 @@ Covers-more a c letter next postponed (both f g) h =
     (Covers-more a c letter next postponed f h.0, Covers-more a c letter next postponed g h.1)
 Covers-more a c letter next postponed (either f g) (inl h) = inl (Covers-more a c letter next postponed f h)
 Covers-more a c letter next postponed (either f g) (inr h) = inr (Covers-more a c letter next postponed g h)
-Covers-more a c letter next postponed (after f) h = next f h
+Covers-more a c letter next postponed (after f) h = brought_more (Contains a.next) (Contains c.next) next h
 Covers-more a c letter next postponed (reaches f g) (inl h) = inl (Covers-more a c letter next postponed g h)
 Covers-more a c letter next postponed (reaches f g) (inr h) =
-    inr (Covers-more a c letter next postponed f h.0, next (reaches f g) h.1, postponed (reaches f g) h.2)
+    inr (
+      Covers-more a c letter next postponed f h.0,
+      brought_more (Contains a.next) (Contains c.next) next h.1,
+      postponed (reaches f g) h.2,
+    )
 Covers-more a c letter next postponed (keeps f g) h = (
   Covers-more a c letter next postponed g h.0,
   elim h.1 [
     | inl now ↦ inl (Covers-more a c letter next postponed f now)
-    | inr later ↦ inr (next (keeps f g) later)
+    | inr later ↦ inr (brought_more (Contains a.next) (Contains c.next) next later)
   ],
 )
 
@@ -56,7 +61,7 @@ pruned_covers obligations old new covers pruned = record {
         d.1,
         record {
           guard = d.2.serves;
-          next = λ f asked. used.2.next f (d.2.next f asked);
+          next = λ f asked. brought_holds (Contains used.0.next) w (i + 1) used.2.next (d.2.next f asked);
           postponed = λ f asked. used.2.postponed f (d.2.postponed f asked);
         },
       );
@@ -71,7 +76,7 @@ pub record AreWays (E : Cover → ℕ → Type 0) (H : (ℕ → ℕ) → ℕ →
 
 -- what is true of a cover stays true of one that asks for more
 abbrev IsMonotone : (Cover → ℕ → Type 0) → Type 0
-IsMonotone E = (a c : Cover) (letter : ℕ) → ((f : NormalFormula) → Contains a.next f → Contains c.next f) →
+IsMonotone E = (a c : Cover) (letter : ℕ) → ((f : NormalFormula) → Contains a.next f → Brings (Contains c.next) f) →
     ((f : NormalFormula) → Contains a.postponed f → Contains c.postponed f) → E a letter → E c letter
 
 reword : {E F : Cover → ℕ → Type 0} {H K : (ℕ → ℕ) → ℕ → Type 0} {covers : List Cover} → AreWays E H covers →
@@ -125,9 +130,9 @@ product {E} {F} first second products grows_first grows_second = record {
       let join = p.4 in
       let two = both_true (p.0.guard letter) (p.1.guard letter)
       (subst (λ (t : Bool). IsTrue t) (join.guard letter) serves) in (
-        grows_first p.0 c letter (λ f l. (join.next f).1 (inl l)) (λ f l. (join.postponed f).1 (inl l))
+        grows_first p.0 c letter (λ f l. of_known ((join.next f).1 (inl l))) (λ f l. (join.postponed f).1 (inl l))
             (first.enough p.0 p.2 letter two.0),
-        grows_second p.1 c letter (λ f r. (join.next f).1 (inr r)) (λ f r. (join.postponed f).1 (inr r))
+        grows_second p.1 c letter (λ f r. of_known ((join.next f).1 (inr r))) (λ f r. (join.postponed f).1 (inr r))
             (second.enough p.1 p.3 letter two.1),
       );
   usable = λ w i decided h.
@@ -227,7 +232,7 @@ next_fits f w i h = record {
 pub of_next : (f : NormalFormula) → AreCoversOf (after f ∷ []) (next_cover f ∷ [])
 of_next f = covers_from (after f) (next_cover f ∷ [])
     (one (Serves (after f)) (Meets (after f)) (next_cover f)
-    (λ letter serves. first_in f []) (λ w i decided h. next_fits f w i h))
+    (λ letter serves. of_known (first_in f [])) (λ w i decided h. next_fits f w i h))
 
 pub of_and : (f g : NormalFormula) (xs ys zs : List Cover) → AreCoversOf (f ∷ []) xs → AreCoversOf (g ∷ []) ys →
     AreProducts xs ys zs → AreCoversOf (both f g ∷ []) zs
@@ -266,17 +271,17 @@ postponing_fits f g w i h = record {
 
 -- what a cover that postpones a formula asks for
 abbrev Puts : NormalFormula → Cover → ℕ → Type 0
-Puts f c letter = Contains c.next f × Contains c.postponed f
+Puts f c letter = Brings (Contains c.next) f × Contains c.postponed f
 
 puts_grows : (f : NormalFormula) → IsMonotone (Puts f)
-puts_grows f a c letter next postponed h = (next f h.0, postponed f h.1)
+puts_grows f a c letter next postponed h = (brought_more (Contains a.next) (Contains c.next) next h.0, postponed f h.1)
 
 pub of_until : (f g : NormalFormula) (xs ys zs : List Cover) → AreCoversOf (f ∷ []) xs → AreCoversOf (g ∷ []) ys →
     AreProducts xs (postponing_cover (reaches f g) ∷ []) zs → AreCoversOf (reaches f g ∷ []) (ys ++ zs)
 of_until f g xs ys zs first second products =
     let u = reaches f g in
     let step : AreWays (Puts u) (λ w i. Postpones w i u) (postponing_cover u ∷ []) =
-    one (Puts u) (λ w i. Postpones w i u) (postponing_cover u) (λ letter serves. (first_in u [], first_in u []))
+    one (Puts u) (λ w i. Postpones w i u) (postponing_cover u) (λ letter serves. (of_known (first_in u []), first_in u []))
     (λ w i decided h. postponing_fits f g w i h) in
     let later = product (ways_of f xs first) step products (grows f) (puts_grows u) in
     covers_from u (ys ++ zs) (reword (union (ways_of g ys second) later)
@@ -293,7 +298,7 @@ of_until f g xs ys zs first second products =
 
 -- ## Release
 
-release_step : (A B : ℕ → Type 0) (i : ℕ) → Keeps A B i → ¬ A i → Keeps A B (i + 1)
+pub release_step : (A B : ℕ → Type 0) (i : ℕ) → Keeps A B i → ¬ A i → Keeps A B (i + 1)
 release_step A B i r none = record {
   each = λ j low. elim (r.each j (omega arith)) [
     | inl there ↦ inl there
@@ -304,23 +309,17 @@ release_step A B i r none = record {
   ];
 }
 
-release_now : (A B : ℕ → Type 0) (i : ℕ) → Keeps A B i → B i
-release_now A B i r = elim (r.each i (omega arith)) [
-  | inl there ↦ there
-  | inr before ↦ absurd (let low = before.1 in let high = before.2 in omega arith)
-]
-
 pub of_release : (f g : NormalFormula) (xs ys zs : List Cover) → AreCoversOf (f ∷ []) xs → AreCoversOf (g ∷ []) ys →
     AreProducts ys (xs ++ next_cover (keeps f g) ∷ []) zs → AreCoversOf (keeps f g ∷ []) zs
 of_release f g xs ys zs first second products =
     let r = keeps f g in
-    let step : AreWays (λ c letter. Contains c.next r) (λ w i. Satisfies (plain r) w (i + 1)) (next_cover r ∷ []) =
-    one (λ c letter. Contains c.next r) (λ w i. Satisfies (plain r) w (i + 1)) (next_cover r)
-    (λ letter serves. first_in r []) (λ w i decided h. next_fits r w i h) in
-    let either_grows : IsMonotone (λ c letter. Covers c letter f ⊎ Contains c.next r) =
+    let step : AreWays (λ c letter. Brings (Contains c.next) r) (λ w i. Satisfies (plain r) w (i + 1)) (next_cover r ∷ []) =
+    one (λ c letter. Brings (Contains c.next) r) (λ w i. Satisfies (plain r) w (i + 1)) (next_cover r)
+    (λ letter serves. of_known (first_in r [])) (λ w i decided h. next_fits r w i h) in
+    let either_grows : IsMonotone (λ c letter. Covers c letter f ⊎ Brings (Contains c.next) r) =
     λ a c letter next postponed h. elim h [
       | inl now ↦ inl (grows f a c letter next postponed now)
-      | inr later ↦ inr (next r later)
+      | inr later ↦ inr (brought_more (Contains a.next) (Contains c.next) next later)
     ] in
     covers_from r zs (reword
     (product (ways_of g ys second) (union (ways_of f xs first) step) products (grows g) either_grows)

@@ -1,5 +1,9 @@
 -- Covers. A cover is a way to meet obligations, which are formulas, at one index of a word: it tells for which letters
 -- it serves, and what it leaves for later.
+--
+-- - `Brings Known f`: by single steps, formulas that are known imply f at the same index
+-- - `Covers c letter f`: the cover is enough for f at a letter
+-- - `AreCoversOf obligations covers`: each cover is enough for all obligations, and one of them can always be used
 use Rattle.std.specs.Prelude.{ℕ, ◌+◌, ◌⊎◌, Bool, true, false, List, Contains, IsTrue}
 use Rattle.ps_label.specs.Truth.{is_in}
 use Rattle.ps_formula.specs.NormalForms.{NormalFormula, truth, literal, both, either, after, reaches, keeps, plain}
@@ -11,6 +15,19 @@ pub record Cover : Type 0 where
   pub next : List NormalFormula
   pub postponed : List NormalFormula
 
+-- known formulas imply a formula by steps at the same index: true holds; a conjunction and both of its operands imply each
+-- other; each operand of a disjunction implies it; `f R g` implies g; and g implies `f U g`
+pub data Brings (Known : NormalFormula → Type 0) : NormalFormula → Type 0 where
+  of_known : {f : NormalFormula} → Known f → Brings Known f
+  of_true : Brings Known (truth true)
+  of_both : {f g : NormalFormula} → Brings Known f → Brings Known g → Brings Known (both f g)
+  of_first : {f g : NormalFormula} → Brings Known (both f g) → Brings Known f
+  of_second : {f g : NormalFormula} → Brings Known (both f g) → Brings Known g
+  of_left : {f g : NormalFormula} → Brings Known f → Brings Known (either f g)
+  of_right : {f g : NormalFormula} → Brings Known g → Brings Known (either f g)
+  of_kept : {f g : NormalFormula} → Brings Known (keeps f g) → Brings Known g
+  of_end : {f g : NormalFormula} → Brings Known g → Brings Known (reaches f g)
+
 -- a cover is enough for a formula, at a letter
 abbrev pub Covers : Cover → (letter : ℕ) → NormalFormula → Type 0
 Covers c letter (truth b) = IsTrue b
@@ -18,10 +35,10 @@ Covers c letter (literal true p) = ¬ IsTrue (is_in p letter)
 Covers c letter (literal false p) = IsTrue (is_in p letter)
 Covers c letter (both f g) = Covers c letter f × Covers c letter g
 Covers c letter (either f g) = Covers c letter f ⊎ Covers c letter g
-Covers c letter (after f) = Contains c.next f
+Covers c letter (after f) = Brings (Contains c.next) f
 Covers c letter (reaches f g) = Covers c letter g ⊎
-    (Covers c letter f × Contains c.next (reaches f g) × Contains c.postponed (reaches f g))
-Covers c letter (keeps f g) = Covers c letter g × (Covers c letter f ⊎ Contains c.next (keeps f g))
+    (Covers c letter f × Brings (Contains c.next) (reaches f g) × Contains c.postponed (reaches f g))
+Covers c letter (keeps f g) = Covers c letter g × (Covers c letter f ⊎ Brings (Contains c.next) (keeps f g))
 
 -- a cover is enough for each obligation, at each letter that meets its guard
 pub record IsEnough (obligations : List NormalFormula) (c : Cover) : Type 0 where

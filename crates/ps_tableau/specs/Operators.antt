@@ -3,7 +3,7 @@
 use Rattle.std.specs.Prelude.{◌≡◌, ℕ, ◌&&◌, ◌⊎◌, ◌↔◌, Bool, true, false, cond, List, [], ◌∷◌, Contains, IsTrue}
 use Rattle.ps_label.specs.Truth.{is_in}
 use Rattle.ps_formula.specs.NormalForms.{NormalFormula}
-use Rattle.ps_tableau.specs.Covers.{Cover}
+use Rattle.ps_tableau.specs.Covers.{Brings, Cover}
 
 -- ## Single covers
 
@@ -44,10 +44,11 @@ pub record AreProducts (first second joins : List Cover) : Type 0 where
 
 -- ## Subsumption letter by letter
 
--- the first cover serves at the letter, and asks for no more than the second
+-- the first cover serves at the letter, and asks for no more than the second: the next obligations of the second bring
+-- those of the first
 pub record IsBetter (better worse : Cover) (letter : ℕ) : Type 0 where
   pub serves : IsTrue (better.guard letter)
-  pub next : (f : NormalFormula) → Contains better.next f → Contains worse.next f
+  pub next : (f : NormalFormula) → Contains better.next f → Brings (Contains worse.next) f
   pub postponed : (f : NormalFormula) → Contains better.postponed f → Contains worse.postponed f
 
 -- at each letter, each list has, for each cover of the other that serves there, one that serves there: an old one that
