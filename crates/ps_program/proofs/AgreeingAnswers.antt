@@ -43,13 +43,14 @@ use Rattle.ps_program.proofs.OneStage.{OneValues, automaton_one, makes_one, tell
 use Rattle.ps_program.proofs.OneStage.{report_refused}
 use Rattle.ps_program.proofs.VerifyDetermined.{NotBoth, verify_one_or}
 use Rattle.ps_program.proofs.OneLine.{is_line_one}
+use Rattle.ps_program.proofs.OneSatisfaction.{OneWord, lasso_tlsf_one}
 use Rattle.ps_program.proofs.JudgeLemmas.{OneSolution, OneJudged, OneLoser, NoFlawAndCycle, NoFlaw, NoCycle}
 use Rattle.ps_program.proofs.JudgeLemmas.{judges_one_or}
 use Rattle.ps_solution.specs.Solved.{SolutionData}
 
 module _ (games : OneGame) (certificates : OneCertificate) (flaws : OneFlaw) (circuits : OneCircuit)
     (stimuli : OneStimulus) (files : OneFile) (refusals : OneRefusal) (outcomes : OneOutcome) (verdicts : OneVerdict)
-    (values : OneValues) (file_games : OneFileGame) (winners : OneWinner) (solutions : OneSolution)
+    (words : OneWord) (values : OneValues) (file_games : OneFileGame) (winners : OneWinner) (solutions : OneSolution)
     (judged : OneJudged) (not_both : NotBoth) (apart : NoFlawAndCycle) (losers : OneLoser) (no_flaw : NoFlaw)
     (no_cycle : NoCycle) where
   certified_one : (texts : List ℕ) → IsOne (ReadsCertified texts)
@@ -259,6 +260,7 @@ module _ (games : OneGame) (certificates : OneCertificate) (flaws : OneFlaw) (ci
   line_one solvers (line.Judge compact) texts x y h k = judge_one_or compact texts x y h k
   line_one solvers line.Sim texts x y h k = inl (sim_one texts x y h k)
   line_one solvers (line.Lasso role) texts x y h k = inl (lasso_one role texts x y h k)
+  line_one solvers (line.LassoTlsf role) texts x y h k = inl (lasso_tlsf_one circuits stimuli words role texts x y h k)
   line_one solvers (line.Verify order role) texts x y h k = verify_or_one order role texts x y h k
   line_one solvers (line.Solve compact) texts x y h k = solve_one_or solvers.built_in compact texts x y h k
   line_one solvers (line.Game order) texts x y h k = inl (game_one order texts x y h k)

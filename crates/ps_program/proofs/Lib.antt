@@ -10,11 +10,13 @@ pub mod HelpLemmas
 pub mod JudgeLemmas
 pub mod KindLemmas
 pub mod LassoAnswers
+pub mod LassoTlsfAnswers
 pub mod LongWords
 pub mod MissingTexts
 pub mod OneCertified
 pub mod OneCut
 pub mod OneLine
+pub mod OneSatisfaction
 pub mod OneStage
 pub mod OneStep
 pub mod OutcomeLemmas
@@ -27,6 +29,7 @@ pub mod SomeLaws
 pub mod SomeLine
 pub mod SomeReport
 pub mod SomeRun
+pub mod SomeSatisfaction
 pub mod SomeStage
 pub mod SomeStep
 pub mod StreamLemmas

@@ -1,7 +1,7 @@
 -- If the input lacks a text that its command needs, the only possible answer reports the missing text.
 use Rattle.std.proofs.Common.{◌≡◌, ◌∙◌, ◌-◌, ◌+◌, ℕ, Bool, true, false, List, [], ◌∷◌, length, Result, Ok, Err, refl}
 use Rattle.std.proofs.Common.{ap, inl, inr, subst}
-use Rattle.std.specs.Prelude.{codes, filter}
+use Rattle.std.specs.Prelude.{codes, filter, if◌then◌else◌}
 use Rattle.clap.specs.Words.{Text}
 use Rattle.ps_game.specs.Games.{ParityGame}
 use Rattle.ps_certificate.specs.Certificates.{CertificateData, IsClosed, IsValid}
@@ -9,7 +9,7 @@ use Rattle.ps_circuit.specs.Circuits.{IsCircuit}
 use Rattle.ps_simulate.specs.declared.role.Role.{Role}
 use Rattle.ps_program.specs.Automata.{ReadsAutomaton}
 use Rattle.ps_program.specs.Checks.{Tests}
-use Rattle.ps_program.specs.CommandLine.{cert_flag, compact_flag, order_given, role_given, synth_given}
+use Rattle.ps_program.specs.CommandLine.{cert_flag, compact_flag, order_given, role_given, synth_given, tlsf_flag}
 use Rattle.ps_program.specs.Judging.{AnswersJudge, Judges, ReadsSolutionText, ReadsSolved}
 use Rattle.ps_program.specs.Lassos.{AnswersLasso, RunsCircuit}
 use Rattle.ps_machine.specs.declared.key.Order.{Order}
@@ -18,12 +18,16 @@ use Rattle.ps_program.specs.Simulating.{AnswersSim, PrintsTrace}
 use Rattle.ps_program.specs.Cut.{HasFewerSeparators}
 use Rattle.ps_program.specs.Determined.{NeedsItsTexts}
 use Rattle.ps_program.specs.Outcomes.{Then}
+use Rattle.ps_program.specs.Program.{AnswersLine}
 use Rattle.ps_program.specs.Replies.{Reply, text_reply}
+use Rattle.ps_program.specs.Satisfying.{AnswersLassoTlsf, RunsSpecified}
 use Rattle.ps_program.specs.Solvers.{Solvers}
 use Rattle.ps_program.specs.Synthesis.{AnswersBy, AnswersReport}
 use Rattle.ps_machine.specs.Solvers.{once_fed}
 use Rattle.ps_program.specs.Texts.{CutsInTwo, CutsInThree, ReadsCertificateText, ReadsCertified, ReadsCircuitText}
-use Rattle.ps_program.specs.Texts.{ReadsGameText, ReadsSimulated, ReadsStimulusText, missing_text}
+use Rattle.ps_program.specs.Texts.{ReadsGameText, ReadsSimulated, ReadsSpecificationText, ReadsStimulusText}
+use Rattle.ps_program.specs.Texts.{missing_text}
+use Rattle.ps_program.specs.declared.commands.Line.TheVariants.{Lasso, LassoTlsf}
 use Rattle.ps_program.specs.declared.commands.SynthLine.{SynthLine}
 use Rattle.ps_program.specs.declared.commands.TextKind.{TextKind}
 use Rattle.ps_program.specs.declared.commands.TextKind.TheVariants as kind
@@ -106,6 +110,17 @@ lasso_missing role texts fewer = both_fail (CutsInThree texts) (λ (parts : List
     Then (ReadsAutomaton parts.0) (λ file. RunsCircuit role file parts.1 parts.2)) missing_text
     (three_missing texts fewer)
 
+lasso_tlsf_missing : (role : Role) (texts : List ℕ) → HasFewerSeparators 2 texts →
+    Fails (AnswersLassoTlsf role texts) missing_text
+lasso_tlsf_missing role texts fewer = both_fail (CutsInThree texts) (λ (parts : List ℕ × List ℕ × List ℕ).
+    Then (ReadsSpecificationText parts.0) (λ spec. RunsSpecified role spec parts.1 parts.2)) missing_text
+    (three_missing texts fewer)
+
+lasso_given_missing : (solvers : Solvers) (tlsf : Bool) (role : Role) (texts : List ℕ) → HasFewerSeparators 2 texts →
+    Fails (AnswersLine solvers (if tlsf then LassoTlsf role else Lasso role) texts) missing_text
+lasso_given_missing solvers true role texts fewer = lasso_tlsf_missing role texts fewer
+lasso_given_missing solvers false role texts fewer = lasso_missing role texts fewer
+
 verify_missing : (order : Order) (role : Role) (texts : List ℕ) → HasFewerSeparators 1 texts →
     Fails (AnswersVerify order role texts) missing_text
 verify_missing order role texts fewer = both_fail (CutsInTwo texts) (λ (parts : List ℕ × List ℕ).
@@ -122,7 +137,8 @@ texts_needed solvers = (
       (
         λ given texts outcome fewer answers. sim_missing texts fewer outcome answers,
         (
-          λ given texts outcome fewer answers. lasso_missing (role_given given) texts fewer outcome answers,
+          λ given texts outcome fewer answers. lasso_given_missing solvers (given tlsf_flag) (role_given given) texts
+              fewer outcome answers,
           (
             λ given texts outcome fewer answers. verify_missing (order_given given) (role_given given) texts fewer
                 outcome answers,

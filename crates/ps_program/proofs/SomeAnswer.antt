@@ -21,6 +21,7 @@ use Rattle.ps_program.specs.Texts.{ReadsCertified}
 use Rattle.ps_program.proofs.SomeLaws.{Below}
 use Rattle.ps_program.proofs.SomeReport.{cert_some, solve_some, synth_some}
 use Rattle.ps_program.proofs.SomeRun.{lasso_some, sim_some}
+use Rattle.ps_program.proofs.SomeSatisfaction.{lasso_tlsf_some}
 use Rattle.ps_program.proofs.SomeStage.{certified_is, certified_some, game_of_some, judge_some}
 use Rattle.ps_program.proofs.SomeStage.{tests_some}
 use Rattle.ps_program.proofs.SomeStep.{HasSome, ended_some, then_some}
@@ -45,7 +46,8 @@ module _ (below : Below) where
   game_some order text = then_some (ReadsGameOf order text) _ (game_of_some below order text)
       (λ named reads. ended_some (Ok (text_reply (game_text named))))
 
-  line_some : (solvers : Solvers) (asked : Line) (texts : List ℕ) → IsPlainLine asked → HasSome (AnswersLine solvers asked texts)
+  line_some : (solvers : Solvers) (asked : Line) (texts : List ℕ) → IsPlainLine asked →
+      HasSome (AnswersLine solvers asked texts)
   line_some solvers line.Refused texts plain = ended_some (Ok usage)
   line_some solvers line.Help texts plain = ended_some (Ok help)
   line_some solvers line.Closed texts plain = closed_some texts
@@ -53,6 +55,7 @@ module _ (below : Below) where
   line_some solvers (line.Judge compact) texts plain = judge_some below compact texts
   line_some solvers line.Sim texts plain = sim_some below texts
   line_some solvers (line.Lasso role) texts plain = lasso_some below role texts
+  line_some solvers (line.LassoTlsf role) texts plain = lasso_tlsf_some below role texts
   line_some solvers (line.Verify order role) texts plain = absurd plain
   line_some solvers (line.Solve compact) texts plain = absurd plain
   line_some solvers (line.Game order) texts plain = game_some order texts
@@ -74,6 +77,7 @@ module _ (below : Below) where
   solved_line solvers may (line.Judge compact) texts solved = absurd solved
   solved_line solvers may line.Sim texts solved = absurd solved
   solved_line solvers may (line.Lasso role) texts solved = absurd solved
+  solved_line solvers may (line.LassoTlsf role) texts solved = absurd solved
   solved_line solvers may (line.Verify order role) texts solved = absurd solved
   solved_line solvers may (line.Solve compact) texts solved = solve_some below solvers.built_in compact texts may
   solved_line solvers may (line.Game order) texts solved = absurd solved

@@ -2,6 +2,7 @@
 -- - `GoodOrFlawed`: a certificate passes the test `IsGood`, or has a first flaw
 -- - `Below`: the laws of lower crates, as the fields of a record
 use Rattle.std.proofs.Common.{◌≡◌, ◌≢◌, ◌<◌, ◌⊎◌, ℕ, Bool, List, length, Option, Result, Ok}
+use Rattle.std.specs.Prelude.{AllPairs}
 use Rattle.ps_text.specs.Answers.{Found}
 use Rattle.ps_aiger.specs.Encoded.{Encodes}
 use Rattle.ps_aiger.specs.Wires.{IsOutOfLiterals}
@@ -17,11 +18,13 @@ use Rattle.ps_circuit.specs.Circuits.{CircuitData, IsCircuit}
 use Rattle.ps_circuit.specs.Texts.{ReadsCircuit}
 use Rattle.ps_circuit.specs.Values.{HasOneValues}
 use Rattle.ps_circuit.specs.declared.fault.AigCause.{AigCause}
+use Rattle.ps_formula.specs.Satisfaction.{IsDecidedWord}
 use Rattle.ps_game.specs.Games.{IsGame, NamedGameData, ParityGame, vertex_count}
 use Rattle.ps_hoa.specs.Files.{FileData}
 use Rattle.ps_hoa.specs.Sound.{IsSoundFile}
 use Rattle.ps_hoa.specs.Texts.{ReadsFile}
 use Rattle.ps_hoa.specs.declared.fault.HoaCause.{HoaCause}
+use Rattle.ps_label.specs.Words.{lasso_word}
 use Rattle.ps_machine.specs.Behaviours.{Behaviour, IsMachine}
 use Rattle.ps_machine.specs.Extracting.{HasPropositions, IsMachineOf}
 use Rattle.ps_machine.specs.FileGames.{IsGameOfFile, board_of_file}
@@ -32,14 +35,18 @@ use Rattle.ps_pgsolver.specs.Reading.{Answer}
 use Rattle.ps_pgsolver.specs.declared.fault.PgCause.{PgCause}
 use Rattle.ps_referee.specs.Solutions.{IsCertificateOf, IsCycleOf, IsSolution, claimed}
 use Rattle.ps_simulate.specs.LassoFaults.{AreWide}
-use Rattle.ps_simulate.specs.Lassos.{IsVerdictOf}
+use Rattle.ps_simulate.specs.Lassos.{IsVerdictOf, IsWordOf}
 use Rattle.ps_simulate.specs.StimulusTexts.{HasSomeAnswer}
-use Rattle.ps_simulate.specs.Symbols.{HasSymbols}
+use Rattle.ps_simulate.specs.Symbols.{AreDistinct, HasSymbols}
+use Rattle.ps_simulate.specs.Words.{TraceWordData}
 use Rattle.ps_simulate.specs.declared.lassos.Verdict.{Verdict}
 use Rattle.ps_simulate.specs.declared.role.Role.{Role}
 use Rattle.ps_solution.specs.Reading.{ReadsSolution}
 use Rattle.ps_solution.specs.Solved.{SolutionData}
 use Rattle.ps_synthesis.specs.Reports.{IsWinners, IsWinnersCircuit}
+use Rattle.ps_tlsf.specs.Names.{names_in}
+use Rattle.ps_tlsf.specs.Reading.{answer_of}
+use Rattle.ps_tlsf.specs.Specifications.{Specification}
 use Rattle.ps_traces.specs.Answers.{IsWitness}
 
 abbrev pub GoodOrFlawed : (ParityGame → CertificateData → Type 0) → ParityGame → CertificateData → Type 0
@@ -87,6 +94,12 @@ pub record Below : Type 0 where
   pub verdict : (role : Role) (file : FileData) (c : CircuitData) (stem lap : List (List Bool)) → IsSoundFile file →
       IsAdmitted file → IsCircuit c → HasSymbols role file.names file.controllable c → AreWide c stem lap →
       0 < length lap → (verdict : Verdict) × IsVerdictOf file c stem lap verdict
+  -- the laws about specifications, and about words of runs
+  pub names_differ : (text : List ℕ) (s : Specification) → answer_of text ≡ Ok s → AllPairs ◌≢◌ (names_in s.names)
+  pub word : (role : Role) (names : List (List ℕ)) (controllable : List ℕ) (c : CircuitData)
+      (stem lap : List (List Bool)) → AreDistinct names → IsCircuit c → HasSymbols role names controllable c →
+      AreWide c stem lap → 0 < length lap → (word : TraceWordData) × IsWordOf names c stem lap word
+  pub decided : (stem lap : List ℕ) → 0 < length lap → IsDecidedWord (lasso_word stem lap)
   -- the laws about the circuit that a certificate gives the winner
   pub winners_circuit : (order : Order) (file : FileData) (game : NamedGameData)
       (is_game : IsGameOfFile order file game) (certificate : CertificateData) → IsSoundFile file →

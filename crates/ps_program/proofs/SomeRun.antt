@@ -31,11 +31,11 @@ use Rattle.ps_program.proofs.SomeStage.{automaton_is, automaton_some}
 use Rattle.ps_program.proofs.SomeStep.{HasOnly, HasSome, ended_some, reading_some, then_only, then_some}
 
 module _ (below : Below) where
-  circuit_some : (text : List ℕ) → HasSome (ReadsCircuitText text)
+  pub circuit_some : (text : List ℕ) → HasSome (ReadsCircuitText text)
   circuit_some text = reading_some circuit.cause_number circuit_names.cause_name (circuit_text.ReadsCircuit text)
       (below.some_circuit text)
 
-  stimulus_some : (width : ℕ) (split : Bool) (text : List ℕ) → HasSome (ReadsStimulusText width split text)
+  pub stimulus_some : (width : ℕ) (split : Bool) (text : List ℕ) → HasSome (ReadsStimulusText width split text)
   stimulus_some width split text = reading_some stimulus.cause_number stimulus.cause_name
       (stimulus_text.ReadsStimulus text width split) (below.some_stimulus text width split)
 
@@ -80,7 +80,7 @@ module _ (below : Below) where
   -- ---- `lasso`
 
   module _ (role : Role) where
-    empty_or_some : (lap : List (List Bool)) → (lap ≡ []) ⊎ (0 < length lap)
+    pub empty_or_some : (lap : List (List Bool)) → (lap ≡ []) ⊎ (0 < length lap)
     empty_or_some [] = inl refl
     empty_or_some (letter ∷ lap) = inr (omega arith)
 

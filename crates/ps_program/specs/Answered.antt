@@ -36,7 +36,7 @@ use Rattle.ps_synthesis.specs.Reports.{IsWinnersCircuit}
 use Rattle.ps_synthesis.specs.declared.report.Report.{Report}
 use Rattle.ps_program.specs.declared.commands.Line.{Line}
 use Rattle.ps_program.specs.declared.commands.Line.TheVariants.{Refused, Help, Closed, Check, Judge, Sim, Lasso}
-use Rattle.ps_program.specs.declared.commands.Line.TheVariants.{Game, Solve, Cert, Synth}
+use Rattle.ps_program.specs.declared.commands.Line.TheVariants.{LassoTlsf, Game, Solve, Cert, Synth}
 use Rattle.ps_program.specs.declared.commands.SynthLine.{SynthLine}
 use Rattle.ps_program.specs.CommandLine.{IsLine}
 use Rattle.ps_program.specs.Cut.{behind_line, first_line}
@@ -58,6 +58,7 @@ IsPlainLine Check = ⊤
 IsPlainLine (Judge compact) = ⊤
 IsPlainLine Sim = ⊤
 IsPlainLine (Lasso role) = ⊤
+IsPlainLine (LassoTlsf role) = ⊤
 IsPlainLine (Game order) = ⊤
 IsPlainLine line = ⊥
 

@@ -19,7 +19,7 @@ use Rattle.ps_simulate.specs.declared.role.Role.{Role}
 use Rattle.ps_simulate.specs.declared.role.Role.TheVariants.{Controller, Environment}
 use Rattle.ps_program.specs.declared.commands.Line.{Line}
 use Rattle.ps_program.specs.declared.commands.Line.TheVariants.{Refused, Help, Closed, Check, Judge, Sim, Lasso}
-use Rattle.ps_program.specs.declared.commands.Line.TheVariants.{Verify, Solve, Game, Cert, Synth}
+use Rattle.ps_program.specs.declared.commands.Line.TheVariants.{LassoTlsf, Verify, Solve, Game, Cert, Synth}
 use Rattle.ps_program.specs.declared.commands.SynthLine.{SynthLine}
 use Rattle.ps_program.specs.declared.commands.TheConstants.{ON_CLOSED, ON_CHECK, ON_JUDGE, ON_SIM, ON_LASSO}
 use Rattle.ps_program.specs.declared.commands.TheConstants.{ON_VERIFY, ON_SOLVE, ON_GAME, ON_CERT, ON_SYNTH, ON_HELP}
@@ -28,19 +28,24 @@ use Rattle.ps_program.specs.declared.commands.TextKind.TheVariants as kind
 
 -- ---- the commands
 
--- A command: its name; its flags, each of which is written after `--`; the kinds of its texts, in order; and the flags
--- that add a text, each with the kind of that text. For each choice of flags, `line` is the `Line` that the command
--- means; `says` is what `help` says about the command.
+-- A command: its name; its flags, each of which is written after `--`; the kinds of its texts, in order; the flags that
+-- add a text, each with the kind of that text; and the flags with which the first text is of another kind, each with
+-- that kind. For each choice of flags, `line` is the `Line` that the command means; `says` is what `help` says about
+-- the command.
 pub record Usage : Type 0 where
   pub name : Text
   pub flags : List Text
   pub texts : List TextKind
   pub added : List (Text × TextKind)
+  pub replaced : List (Text × TextKind)
   pub line : (Text → Bool) → Line
   pub says : Text
 
 abbrev pub env_flag : Text
 env_flag = codes "env"
+
+abbrev pub tlsf_flag : Text
+tlsf_flag = codes "tlsf"
 
 abbrev pub moore_flag : Text
 moore_flag = codes "moore"
@@ -57,6 +62,11 @@ cert_flag = codes "cert"
 -- the role of a circuit: environment if the flag `--env` is given, and otherwise controller
 abbrev pub role_given : (Text → Bool) → Role
 role_given given = if given env_flag then Environment else Controller
+
+-- what `lasso` asks for: whether a specification is satisfied if the flag `--tlsf` is given, and otherwise an
+-- automaton's verdict
+abbrev pub lasso_given : (Text → Bool) → Line
+lasso_given given = if given tlsf_flag then LassoTlsf (role_given given) else Lasso (role_given given)
 
 -- the order of moves: Moore if the flag `--moore` is given, and otherwise Mealy
 abbrev pub order_given : (Text → Bool) → Order
@@ -78,6 +88,7 @@ commands =
       flags = [];
       texts = kind.Game ∷ kind.Certificate ∷ [];
       added = [];
+      replaced = [];
       line = λ given. Closed;
       says = ON_CLOSED.now;
     } ∷ record {
@@ -85,6 +96,7 @@ commands =
       flags = [];
       texts = kind.Game ∷ kind.Certificate ∷ [];
       added = [];
+      replaced = [];
       line = λ given. Check;
       says = ON_CHECK.now;
     } ∷ record {
@@ -92,6 +104,7 @@ commands =
       flags = compact_flag ∷ [];
       texts = kind.Game ∷ kind.Solution ∷ [];
       added = [];
+      replaced = [];
       line = λ given. Judge (given compact_flag);
       says = ON_JUDGE.now;
     } ∷ record {
@@ -99,20 +112,23 @@ commands =
       flags = [];
       texts = kind.Circuit ∷ kind.Stimulus ∷ [];
       added = [];
+      replaced = [];
       line = λ given. Sim;
       says = ON_SIM.now;
     } ∷ record {
       name = codes "lasso";
-      flags = env_flag ∷ [];
+      flags = env_flag ∷ tlsf_flag ∷ [];
       texts = kind.Automaton ∷ kind.Circuit ∷ kind.Stimulus ∷ [];
       added = [];
-      line = λ given. Lasso (role_given given);
+      replaced = (tlsf_flag, kind.Specification) ∷ [];
+      line = lasso_given;
       says = ON_LASSO.now;
     } ∷ record {
       name = codes "verify";
       flags = env_flag ∷ moore_flag ∷ [];
       texts = kind.Automaton ∷ kind.Circuit ∷ [];
       added = [];
+      replaced = [];
       line = λ given. Verify (order_given given) (role_given given);
       says = ON_VERIFY.now;
     } ∷ record {
@@ -120,6 +136,7 @@ commands =
       flags = compact_flag ∷ [];
       texts = kind.Game ∷ [];
       added = [];
+      replaced = [];
       line = λ given. Solve (given compact_flag);
       says = ON_SOLVE.now;
     } ∷ record {
@@ -127,6 +144,7 @@ commands =
       flags = moore_flag ∷ [];
       texts = kind.Automaton ∷ [];
       added = [];
+      replaced = [];
       line = λ given. Game (order_given given);
       says = ON_GAME.now;
     } ∷ record {
@@ -134,6 +152,7 @@ commands =
       flags = moore_flag ∷ compact_flag ∷ [];
       texts = kind.Automaton ∷ [];
       added = [];
+      replaced = [];
       line = λ given. Cert (order_given given) (given compact_flag);
       says = ON_CERT.now;
     } ∷ record {
@@ -141,10 +160,18 @@ commands =
       flags = full_flag ∷ cert_flag ∷ moore_flag ∷ compact_flag ∷ [];
       texts = kind.Automaton ∷ [];
       added = (cert_flag, kind.Certificate) ∷ [];
+      replaced = [];
       line = λ given. Synth (synth_given given);
       says = ON_SYNTH.now;
-    } ∷ record { name = codes "help"; flags = []; texts = []; added = []; line = λ given. Help; says = ON_HELP.now } ∷
-    []
+    } ∷ record {
+      name = codes "help";
+      flags = [];
+      texts = [];
+      added = [];
+      replaced = [];
+      line = λ given. Help;
+      says = ON_HELP.now;
+    } ∷ []
 
 -- the `Line` that a command's name and flags mean; `Refused` if no command has this name
 abbrev pub line_named : Text → (Text → Bool) → Line

@@ -2,12 +2,13 @@
 use Rattle.std.specs.Prelude.{◌++◌, ◌-◌, ℕ, List, [], ◌∷◌, codes, flat_map, length, replicate}
 use Rattle.ps_program.specs.CommandLine.{Usage, commands}
 use Rattle.ps_program.specs.declared.commands.TextKind.{TextKind}
-use Rattle.ps_program.specs.declared.commands.TextKind.TheVariants.{Automaton, Game, Certificate, Solution, Circuit}
-use Rattle.ps_program.specs.declared.commands.TextKind.TheVariants.{Stimulus}
+use Rattle.ps_program.specs.declared.commands.TextKind.TheVariants.{Automaton, Specification, Game, Certificate}
+use Rattle.ps_program.specs.declared.commands.TextKind.TheVariants.{Solution, Circuit, Stimulus}
 use Rattle.ps_program.specs.declared.help.TheConstants.{ABOUT, FORMATS}
 
 abbrev pub kind_text : TextKind → List ℕ
 kind_text Automaton = codes "an automaton"
+kind_text Specification = codes "a specification"
 kind_text Game = codes "a game"
 kind_text Certificate = codes "a certificate"
 kind_text Solution = codes "a solution"

@@ -16,6 +16,7 @@ pub mod Outcomes
 pub mod Program
 pub mod Refusals
 pub mod Replies
+pub mod Satisfying
 pub mod Simulating
 pub mod Solvers
 pub mod Solving

@@ -16,6 +16,9 @@ use Rattle.ps_circuit.specs.Texts as circuit_text
 use Rattle.ps_simulate.specs.Faults as stimulus
 use Rattle.ps_simulate.specs.Stimuli.{StimulusData}
 use Rattle.ps_simulate.specs.StimulusTexts as stimulus_text
+use Rattle.ps_tlsf.specs.Causes as tlsf
+use Rattle.ps_tlsf.specs.Reading.{answer_of}
+use Rattle.ps_tlsf.specs.Specifications.{Specification}
 use Rattle.ps_program.specs.Cut.{AreTexts, HasFewerSeparators}
 use Rattle.ps_program.specs.Faults.{spaced, choice_text, line_text}
 use Rattle.ps_program.specs.Outcomes.{Then, Reading}
@@ -52,6 +55,12 @@ abbrev pub ReadsCertified : List ℕ → Result (NamedGameData × CertificateDat
 ReadsCertified texts =
     Then (CutsInTwo texts) (λ parts. Then (ReadsGameText parts.0) (λ named.
     Then (ReadsCertificateText named parts.1) (λ given outcome. outcome ≡ Ok (named, given))))
+
+-- ---- specification texts
+
+-- the result of parsing a text as a specification: the specification, or the line that reports the first error
+abbrev pub ReadsSpecificationText : List ℕ → Result Specification (List ℕ) → Type 0
+ReadsSpecificationText text = Reading tlsf.cause_number tlsf.cause_name (λ answer. answer ≡ answer_of text)
 
 -- ---- circuit texts and stimuli
 

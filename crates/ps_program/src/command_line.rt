@@ -10,7 +10,7 @@ ghost use Rattle.ps_program.specs.Inner.Usages.{usage_of};
 ghost use Rattle.ps_program.specs.CommandLine.{words_of, line_said, Says, IsLine, LinesAreRead, AskForHelp};
 ghost use Rattle.ps_program.specs.Inner.LongWords.{NamesNothing};
 
-use crate::commands::{ENV_FLAG, Line, MOORE_FLAG, Usage, usages};
+use crate::commands::{ENV_FLAG, Line, MOORE_FLAG, TLSF_FLAG, Usage, usages};
 use clap::error::ErrorKind;
 use clap::{Arg, ArgAction, ArgMatches, Command};
 use ps_machine::Order;
@@ -186,6 +186,19 @@ pub fn role_given(flags: &ArgMatches) -> Role
         Role::Environment
     } else {
         Role::Controller
+    }
+}
+
+/// What `lasso` asks for: an automaton's verdict or, if the flag `--tlsf` is given, whether a specification is
+/// satisfied.
+pub fn lasso_given(flags: &ArgMatches) -> Line
+    ensures { result ≡ words.lasso_given (λ name. words.is_given name (rows_of (found_of flags.now))) }
+{
+    let role = role_given(flags);
+    if is_given(flags, TLSF_FLAG) {
+        Line::LassoTlsf(role)
+    } else {
+        Line::Lasso(role)
     }
 }
 

@@ -15,13 +15,14 @@ pub mod check;
 pub mod game;
 pub mod judge;
 pub mod lasso;
+pub mod lasso_tlsf;
 pub mod sim;
 pub mod solve;
 pub mod synth;
 pub mod verify;
 
 use crate::answer::{Answer, Refusal};
-use crate::command_line::{is_given, order_given, role_given};
+use crate::command_line::{is_given, lasso_given, order_given, role_given};
 use clap::ArgMatches;
 use ps_machine::{Order, Solver};
 use ps_simulate::Role;
@@ -49,6 +50,9 @@ pub enum Line {
     /// The input's first line asks whether an automaton accepts the word that a circuit (a controller or an
     /// environment) produces on a stem and a repeated lap.
     Lasso(Role),
+    /// The input's first line asks whether the word that a circuit (a controller or an environment) produces on a stem
+    /// and a repeated lap satisfies a specification.
+    LassoTlsf(Role),
     /// The input's first line asks whether an automaton accepts each lasso trace of a circuit that is a controller, or
     /// no lasso trace of a circuit that is an environment.
     Verify {
@@ -93,6 +97,8 @@ pub struct SynthLine {
 pub enum TextKind {
     /// An automaton, as an HOA text.
     Automaton,
+    /// A specification in temporal logic, as a TLSF text.
+    Specification,
     /// A game.
     Game,
     /// A certificate of a game.
@@ -116,6 +122,8 @@ pub struct Usage<'a> {
     pub texts: &'a [TextKind],
     /// Flags with which the command reads a further text, and the kind of this text.
     pub added: &'a [(&'a str, TextKind)],
+    /// Flags with which the first text is of another kind, and this kind.
+    pub replaced: &'a [(&'a str, TextKind)],
     /// The `Line` that the command means if no flag is given.
     pub line: Line,
     /// What `help` says about the command, after the kinds of the command's input texts.
@@ -124,6 +132,9 @@ pub struct Usage<'a> {
 
 /// The flag which states that the circuit is an environment.
 pub const ENV_FLAG: &str = "env";
+
+/// The flag which states that a specification stands in the place of the automaton.
+pub const TLSF_FLAG: &str = "tlsf";
 
 /// The flag which states that outputs come before inputs (Moore).
 pub const MOORE_FLAG: &str = "moore";
@@ -161,7 +172,8 @@ pub const ON_SIM: &str = "\
 pub const ON_LASSO: &str = " with a line - between a stem and
          a lap: whether the automaton accepts what the circuit does on the stem
          and then on the lap again and again; the circuit is a controller, or
-         with the flag --env an environment";
+         with the flag --env an environment; --tlsf: whether that satisfies a
+         specification, which is the first text in the automaton's place";
 
 /// What `help` says about `verify`, after the kinds of the command's input texts.
 pub const ON_VERIFY: &str = "\
@@ -201,6 +213,7 @@ const COMMANDS: &[Usage<'static>] = &[
         flags: &[],
         texts: &[TextKind::Game, TextKind::Certificate],
         added: &[],
+        replaced: &[],
         line: Line::Closed,
         says: ON_CLOSED,
     },
@@ -209,6 +222,7 @@ const COMMANDS: &[Usage<'static>] = &[
         flags: &[],
         texts: &[TextKind::Game, TextKind::Certificate],
         added: &[],
+        replaced: &[],
         line: Line::Check,
         says: ON_CHECK,
     },
@@ -217,6 +231,7 @@ const COMMANDS: &[Usage<'static>] = &[
         flags: &[COMPACT_FLAG],
         texts: &[TextKind::Game, TextKind::Solution],
         added: &[],
+        replaced: &[],
         line: Line::Judge { compact: false },
         says: ON_JUDGE,
     },
@@ -225,14 +240,16 @@ const COMMANDS: &[Usage<'static>] = &[
         flags: &[],
         texts: &[TextKind::Circuit, TextKind::Stimulus],
         added: &[],
+        replaced: &[],
         line: Line::Sim,
         says: ON_SIM,
     },
     Usage {
         name: "lasso",
-        flags: &[ENV_FLAG],
+        flags: &[ENV_FLAG, TLSF_FLAG],
         texts: &[TextKind::Automaton, TextKind::Circuit, TextKind::Stimulus],
         added: &[],
+        replaced: &[(TLSF_FLAG, TextKind::Specification)],
         line: Line::Lasso(Role::Controller),
         says: ON_LASSO,
     },
@@ -241,6 +258,7 @@ const COMMANDS: &[Usage<'static>] = &[
         flags: &[ENV_FLAG, MOORE_FLAG],
         texts: &[TextKind::Automaton, TextKind::Circuit],
         added: &[],
+        replaced: &[],
         line: Line::Verify {
             order: Order::Mealy,
             role: Role::Controller,
@@ -252,6 +270,7 @@ const COMMANDS: &[Usage<'static>] = &[
         flags: &[COMPACT_FLAG],
         texts: &[TextKind::Game],
         added: &[],
+        replaced: &[],
         line: Line::Solve { compact: false },
         says: ON_SOLVE,
     },
@@ -260,6 +279,7 @@ const COMMANDS: &[Usage<'static>] = &[
         flags: &[MOORE_FLAG],
         texts: &[TextKind::Automaton],
         added: &[],
+        replaced: &[],
         line: Line::Game(Order::Mealy),
         says: ON_GAME,
     },
@@ -268,6 +288,7 @@ const COMMANDS: &[Usage<'static>] = &[
         flags: &[MOORE_FLAG, COMPACT_FLAG],
         texts: &[TextKind::Automaton],
         added: &[],
+        replaced: &[],
         line: Line::Cert {
             order: Order::Mealy,
             compact: false,
@@ -279,6 +300,7 @@ const COMMANDS: &[Usage<'static>] = &[
         flags: &[FULL_FLAG, CERT_FLAG, MOORE_FLAG, COMPACT_FLAG],
         texts: &[TextKind::Automaton],
         added: &[(CERT_FLAG, TextKind::Certificate)],
+        replaced: &[],
         line: Line::Synth(SynthLine {
             full: false,
             cert: false,
@@ -292,6 +314,7 @@ const COMMANDS: &[Usage<'static>] = &[
         flags: &[],
         texts: &[],
         added: &[],
+        replaced: &[],
         line: Line::Help,
         says: ON_HELP,
     },
@@ -313,7 +336,7 @@ impl Line {
             Line::Judge { .. } => Line::Judge {
                 compact: is_given(flags, COMPACT_FLAG),
             },
-            Line::Lasso(_) => Line::Lasso(role_given(flags)),
+            Line::Lasso(_) => lasso_given(flags),
             Line::Verify { .. } => Line::Verify {
                 order: order_given(flags),
                 role: role_given(flags),
@@ -362,6 +385,7 @@ pub(crate) fn answer_line<S: Solver, T: Solver>(
         Line::Judge { compact } => judge::judge(alloc, compact, texts),
         Line::Sim => sim::sim(alloc, texts),
         Line::Lasso(role) => lasso::lasso(alloc, role, texts),
+        Line::LassoTlsf(role) => lasso_tlsf::lasso_tlsf(alloc, role, texts),
         Line::Verify { order, role } => verify::verify(alloc, order, role, texts),
         Line::Solve { compact } => solve::solve(alloc, texts, built_in, compact),
         Line::Game(order) => game::game(alloc, order, texts),

@@ -157,6 +157,7 @@ fn kind_text(kind: TextKind) -> &'static str
 {
     match kind {
         TextKind::Automaton => "an automaton",
+        TextKind::Specification => "a specification",
         TextKind::Game => "a game",
         TextKind::Certificate => "a certificate",
         TextKind::Solution => "a solution",

@@ -48,6 +48,7 @@ pub fn one_answer<S: KnownSolvers>()
     ps_machine::one_game_of_file();
     ps_synthesis::winners_circuit_is_one();
     ps_simulate::verdict_is_one();
+    ps_simulate::word_is_one();
     ps_simulate::circuit_has_one_values();
     ps_simulate::stimulus_text_has_one_answer();
     ps_solution::one_answer();
@@ -68,8 +69,8 @@ pub fn missing_text_is_told<S: KnownSolvers>()
 /// of the answers.
 ///
 /// Whatever the solvers, an input has an answer if its first line is refused, or asks for `help`, `closed`, `check`,
-/// `judge`, `sim`, `lasso` or `game`. An input with `solve` or `cert` has an answer if, for each game, some valid
-/// certificate is a possible answer of the first solver.
+/// `judge`, `sim`, `lasso` (also with `--tlsf`) or `game`. An input with `solve` or `cert` has an answer if, for each
+/// game, some valid certificate is a possible answer of the first solver.
 ///
 /// An input with `synth` has an answer under two conditions. The first is a condition on the solver that `synth` calls.
 /// Without `--cert`, some valid certificate of each game must be a possible answer of the first solver. With `--cert`,
@@ -110,6 +111,9 @@ pub fn some_answer<S: KnownSolvers>()
     ps_simulate::circuit_has_one_values();
     ps_simulate::symbols_are_decided();
     ps_traces::verdict_is_there();
+    ps_tlsf::names_differ();
+    ps_traces::word_is_there();
+    ps_formula::laws::lasso_truths();
     ps_traces::certified_circuit_of_file_answers();
     ps_synthesis::winners_circuit_is_there();
 }

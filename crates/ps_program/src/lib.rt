@@ -7,7 +7,7 @@
 //! | `Watched::new` | a [`Source`] or a [`Sink`] made from a reader or a writer of std |
 //! | `first_line`, `read_line` | the first line of an input, and the rest; the [`Line`] that the first line says |
 //! | `answer_to(input, built_in, replay)` | the [`Answer`] to an input: what is written, with its exit status |
-//! | `closed`, `check`, `judge`, `sim`, `lasso`, `verify`, `game` | the answers of commands that use no solver |
+//! | `closed`, `check`, `judge`, `sim`, `lasso`, `lasso_tlsf`, `verify`, `game` | answers without a solver |
 //! | `solve`, `cert`, `synth` | the answers of commands that use a solver |
 //! | `lines_are_read`, `missing_text_is_told` | laws: how command lines are read; a command needs each of its texts |
 //! | `one_answer` | a law: an input has one answer, except for what a solver may choose |
@@ -46,6 +46,7 @@ pub use commands::check::{check, closed};
 pub use commands::game::{game, read_game_of};
 pub use commands::judge::judge;
 pub use commands::lasso::lasso;
+pub use commands::lasso_tlsf::lasso_tlsf;
 pub use commands::sim::sim;
 pub use commands::solve::{certify, solve};
 pub use commands::synth::synth;

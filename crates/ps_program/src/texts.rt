@@ -1,15 +1,19 @@
 //! Parses the texts that commands read, and makes the lines that report faults of these texts.
 
-ghost use Rattle.std.specs.Prelude.{◌≡◌, ◌<◌, false, length, All, IfOk};
+ghost use Rattle.std.specs.Prelude.{◌≡◌, ◌<◌, false, length, map, All, IfOk};
 ghost use Rattle.ps_circuit.specs.Circuits.{IsCircuit};
 ghost use Rattle.ps_certificate.specs.Certificates.{Fits};
 ghost use Rattle.ps_game.specs.Games.{vertex_count};
 ghost use Rattle.ps_simulate.specs.Stimuli.{stem_of};
+ghost use Rattle.ps_simulate.specs.Symbols.{AreDistinct};
+ghost use Rattle.ps_tlsf.specs.Names.{names_in};
+ghost use Rattle.ps_tlsf.specs.NameViews.{name_data};
+ghost use Rattle.ps_tlsf.specs.SpecificationViews.{HasRoots, specification_data};
 ghost use Rattle.ps_program.specs.Faults.{fault_text};
 ghost use Rattle.ps_program.specs.Outcomes.{Gives};
 ghost use Rattle.ps_program.specs.Texts.{CutsInTwo, CutsInThree, ReadsGameText, ReadsCertificateText, ReadsCertified};
 ghost use Rattle.ps_program.specs.Texts.{ReadsCircuitText, ReadsStimulusText, ReadsSimulated, NamesVertices, flaw_text};
-ghost use Rattle.ps_program.specs.Texts.{missing_text};
+ghost use Rattle.ps_program.specs.Texts.{ReadsSpecificationText, missing_text};
 
 use crate::answer::Refusal;
 use crate::cut::cut;
@@ -18,6 +22,7 @@ use ps_certificate::{Certificate, Flaw};
 use ps_circuit::Circuit;
 use ps_game::NamedGame;
 use ps_simulate::{Letters, Stimulus};
+use ps_tlsf::Specification;
 use std::alloc::Global;
 
 /// The line that reports a missing text.
@@ -83,6 +88,16 @@ pub fn read_certified(alloc: Global, texts: &[u8]) -> Result<(NamedGame, Certifi
     let game = read_game(alloc, first)?;
     let certificate = read_certificate(alloc, &game, second)?;
     Ok((game, certificate))
+}
+
+/// Parses a text as a specification. Fails with the first error of the text, or if memory runs out.
+pub fn read_specification(alloc: Global, text: &[u8]) -> Result<Specification, Refusal>
+    ensures read { Gives specification_data (ReadsSpecificationText text.now) result }
+    ensures roots { IfOk result HasRoots }
+    ensures distinct { IfOk result (λ s. AreDistinct (names_in (map name_data s.propositions.items))) }
+{
+    ps_tlsf::names_differ();
+    Ok(ps_tlsf::read(alloc, text)?)
 }
 
 /// Parses a text as a circuit. Fails with the first error of the text, or if memory runs out.

@@ -1,7 +1,7 @@
 -- The table of commands in the code.
 use Rattle.std.specs.Prelude.{Bool, map}
 use Rattle.clap.specs.Words.{Text}
-use Rattle.ps_program.specs.CommandLine.{Usage, compact_flag, order_given, role_given, synth_given}
+use Rattle.ps_program.specs.CommandLine.{Usage, compact_flag, lasso_given, order_given, role_given, synth_given}
 use Rattle.ps_program.specs.declared.commands.Line.{Line}
 use Rattle.ps_program.specs.declared.commands.Line.TheVariants.{Judge, Lasso, Verify, Solve, Game, Cert, Synth}
 use Rattle.ps_program.specs.declared.commands.Usage.{Usage as Row}
@@ -9,7 +9,7 @@ use Rattle.ps_program.specs.declared.commands.Usage.{Usage as Row}
 -- the `Line` that a command means if the given flags are added to it
 abbrev pub with_flags : Line → (Text → Bool) → Line
 with_flags (Judge compact) given = Judge (given compact_flag)
-with_flags (Lasso role) given = Lasso (role_given given)
+with_flags (Lasso role) given = lasso_given given
 with_flags (Verify order role) given = Verify (order_given given) (role_given given)
 with_flags (Solve compact) given = Solve (given compact_flag)
 with_flags (Game order) given = Game (order_given given)
@@ -24,6 +24,7 @@ usage_of row = record {
   flags = map (λ flag. flag.now) row.flags.now;
   texts = row.texts.now;
   added = map (λ each. (each.0.now, each.1)) row.added.now;
+  replaced = map (λ each. (each.0.now, each.1)) row.replaced.now;
   line = with_flags row.line;
   says = row.says.now;
 }

@@ -9,7 +9,7 @@ returns g c =
     record {
       answer = whole_one c.one_answer.ensures c.certificate_text_has_one_answer.ensures c.first_flaw_is_one.ensures
           c.one_answer-2.ensures c.stimulus_text_has_one_answer.ensures c.one_answer-3.ensures
-          c.refusal_is_one.ensures.one c.refusal_is_one.ensures.apart c.verdict_is_one.ensures
+          c.refusal_is_one.ensures.one c.refusal_is_one.ensures.apart c.verdict_is_one.ensures c.word_is_one.ensures
           c.circuit_has_one_values.ensures c.one_game_of_file.ensures c.winners_are_one.ensures c.one_answer-4.ensures
           c.one_certificate.ensures c.judgement_is_one.ensures.apart c.one_verdict.ensures.apart
           c.one_verdict.ensures.player c.one_verdict.ensures.no_flaw

@@ -29,6 +29,9 @@ returns g c =
       values = c.circuit_has_one_values.ensures;
       symbols_or = c.symbols_are_decided.ensures;
       verdict = c.verdict_is_there.ensures;
+      names_differ = c.names_differ.ensures.distinct;
+      word = c.word_is_there.ensures;
+      decided = c.lasso_truths.ensures.decided;
       winners_circuit = c.winners_circuit_is_there.ensures;
       circuit_answers = c.certified_circuit_of_file_answers.ensures;
     } in

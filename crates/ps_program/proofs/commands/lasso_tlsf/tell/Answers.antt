@@ -1,0 +1,5 @@
+use Rattle.ps_simulate.proofs.WordLemmas.{some_in_lap}
+use Rattle.ps_program.proofs.commands.lasso_tlsf.tell.Goals as goal
+
+pub told-requires-clause-some : goal.told-requires-clause-some
+told-requires-clause-some c = some_in_lap c.in-Ok.ensures.word
