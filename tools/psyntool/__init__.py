@@ -11,6 +11,7 @@ faults, and draws games and circuits. This package is installed for users, unlik
   explaining, faults             explanations of faults, from docs/FAULTS.md
   letters, remarks               letters of a stimulus by names; remarks on a controller that may not be the wanted one
   parts, plays                   specifications in parts; plays against a circuit
+  tlsf                           specifications in TLSF's full form, written out in its basic form
   pictures, families             pictures in Graphviz DOT; named families of games
   pages                          a page for a browser, in one file, on which a user plays against a circuit
 

@@ -14,12 +14,14 @@ from psyntool.usages import USAGES
 @dataclass(frozen=True)
 class Flag:
     """A flag: its name with the dashes, its description, and the name of its value if it has one. A flag with many
-    values takes all words up to the next flag, and may be given more than once."""
+    values takes all words up to the next flag, and may be given more than once. A repeated flag takes one value each
+    time that it is given."""
 
     name: str
     says: str
     value: str = ""
     many: bool = False
+    repeated: bool = False
 
     @property
     def shown(self):
@@ -31,7 +33,8 @@ CERT = Flag("--cert", "by a certificate that is given")
 MOORE = Flag("--moore", "outputs before inputs")
 COMPACT = Flag("--compact", "the compact text of a certificate")
 ENV = Flag("--env", "the circuit is an environment")
-OF_THE_PROGRAM = {flag.name: flag for flag in (FULL, CERT, MOORE, COMPACT, ENV)}
+TLSF = Flag("--tlsf", "a specification in temporal logic (TLSF) in the place of the automaton")
+OF_THE_PROGRAM = {flag.name: flag for flag in (FULL, CERT, MOORE, COMPACT, ENV, TLSF)}
 TO_FILES = Flag(
     "-o",
     "circuit, game and certificate go to PREFIX.aag, PREFIX.pg and PREFIX.cert (then the first line alone is printed), the automaton of "
@@ -58,6 +61,8 @@ STRICT = Flag("--strict", "a guarantee that breaks while no assumption has broke
 PARTS = Flag("--parts", "a list of parts in the place of the automaton")
 OF_PARTS = (ASSUME, GUARANTEE, AS, OUTS, STRICT)
 # Flags of one command each.
+SET = Flag("--set", "a parameter of the specification has this value; one --set for each", "NAME=VALUE", repeated=True)
+TO_TLSF = Flag("-o", "the basic form goes to PREFIX.tlsf", "PREFIX")
 STIMULUS = Flag("--stimulus", "where the circuit loses: the stimulus goes to FILE", "FILE")
 WAVE = Flag("--wave", "where the circuit loses: what it does on the stimulus goes to FILE, as a VCD file", "FILE")
 TRACE = Flag("--trace", "the run below: of each step the state, the letter by names, and the sets")
@@ -66,7 +71,7 @@ CIRCUIT = Flag("--circuit", "in the place of PREFIX any circuit that verify pass
 AUTO = Flag("--auto", "plays for me, what holds out longest, and prints the steps")
 REACH = Flag("--reach", "only what so many steps from the start reach (of a circuit: from the outputs back)", "N")
 DROP = Flag("--drop", "leave out the input of that name, which nothing may read (as the clock that yosys adds)", "NAME")
-CHECK = Flag("--check", "exit status 3 where the answer is loses, rejected, or that the solution is wrong")
+CHECK = Flag("--check", "exit status 3 where the answer is loses, rejected, violated, or that the solution is wrong")
 SEED = Flag("--seed", "another random game for the same number", "N")
 EDGES = Flag("--edges", "so many different edges for each vertex of a random game", "N")
 PRIORITIES = Flag("--priorities", "so many priorities in a random game, from 0 on", "N")
@@ -89,9 +94,10 @@ class Command:
     other word).
 
     The flags in `flags` are passed to the program; the flags in `own` are handled by the tool. `behind` maps a flag to
-    the kind of one more file that the command reads if the flag is given. `instead` maps a flag to optional files that
-    the command then reads in place of all others. `least` is the number of words that must be given, if the last words
-    may be left out. The function `run` of the module `place` runs the command.
+    the kind of one more file that the command reads if the flag is given. `replaced` maps a flag to the kind that the
+    first file then has. `instead` maps a flag to optional files that the command then reads in place of all others.
+    `least` is the number of words that must be given, if the last words may be left out. The function `run` of the
+    module `place` runs the command.
     """
 
     name: str
@@ -100,6 +106,7 @@ class Command:
     flags: tuple = ()
     own: tuple = ()
     behind: dict = field(default_factory=dict)
+    replaced: dict = field(default_factory=dict)
     instead: dict = field(default_factory=dict)
     least: int | None = None
     is_of_the_program: bool = False
@@ -123,7 +130,8 @@ class Command:
     def kinds(self, given):
         """What the command reads with the given flags: the kind of each file, and a name for each other word."""
         other = next((kinds for name, kinds in self.instead.items() if name in given), None)
-        return other or (*self.reads, *(kind for name, kind in self.behind.items() if name in given))
+        first = tuple(kind for name, kind in self.replaced.items() if name in given)
+        return other or (*first, *self.reads[len(first) :], *(kind for name, kind in self.behind.items() if name in given))
 
     def wanted(self, given=()):
         """The words of a usage line for what the command reads, with optional words in brackets."""
@@ -141,7 +149,7 @@ def of_the_program(name, says, **more):
     """A command of the program, with the flags and the texts that the program's own table states."""
     usage = USAGES[name]
     flags = tuple(OF_THE_PROGRAM[flag] for flag in usage.flags)
-    return Command(name, says, usage.texts, flags, behind=usage.added, is_of_the_program=True, **more)
+    return Command(name, says, usage.texts, flags, behind=usage.added, replaced=usage.replaced, is_of_the_program=True, **more)
 
 
 def flags_told(commands):

@@ -7,7 +7,7 @@ from psyntool.command import ENV, wrong_kinds
 from psyntool.kinds import Kind
 from psyntool.marking import placed
 from psyntool.program import MOST_BYTES
-from psyntool.texts import Unreadable, automaton, circuit, labels
+from psyntool.texts import Unreadable, automaton, circuit, labels, specification
 
 # The numbers of three faults that the functions below treat as special cases. Fault 25 (the input could not be read)
 # means here that the input is too long, because the tool itself passes the input to the program.
@@ -51,7 +51,8 @@ def place_of(fault, text, offset):
 def seen_in_texts(number, behind, request, texts):
     """Further lines that explain a fault without an offset, if the input texts can be parsed."""
     seen = {17: acceptance_line, 21: clashing_edges, SYMBOLS: wrong_symbols}.get(number)
-    if not seen or texts[0].kind is not Kind.AUTOMATON or number == SYMBOLS and len(texts) < 2 or any(len(text.bytes) > LONGEST for text in texts):
+    kinds = (Kind.AUTOMATON, Kind.SPECIFICATION) if number == SYMBOLS else (Kind.AUTOMATON,)
+    if not seen or texts[0].kind not in kinds or number == SYMBOLS and len(texts) < 2 or any(len(text.bytes) > LONGEST for text in texts):
         return []
     try:
         return seen(behind, request, texts)
@@ -100,17 +101,23 @@ def clashing_edges(behind, _request, texts):
 
 
 def wrong_symbols(_behind, request, texts):
-    """Which of the automaton's proposition names are missing among the circuit's symbols, and which symbols are not
-    names of propositions."""
-    read, judged = automaton.read(texts[0].string), circuit.read(texts[1].string)
-    names = [[name for _, name in owned] for owned in read.owners()]
+    """Which names of propositions, of the automaton or of the specification, are missing among the circuit's symbols,
+    and which symbols are not names of propositions."""
+    names, judged = names_of_owners(texts[0]), circuit.read(texts[1].string)
     inputs, outputs = reversed(names) if request.has(ENV) else names
     if not [*differing("inputs", "i", outputs, judged), *differing("outputs", "o", inputs, judged)]:
         return [f"the symbols are those of {'a controller: ask without' if request.has(ENV) else 'an environment: ask with'} {ENV.name}"]
-    others = [name for name in judged.names("i") if name not in read.names]
+    others = [name for name in judged.names("i") if name not in (*inputs, *outputs)]
     is_more = others and set(inputs) <= set(judged.names("i"))
-    are_read = [f"the circuit reads {', '.join(others)}, which the automaton does not mention"] if is_more else []
+    are_read = [f"the circuit reads {', '.join(others)}, which the {texts[0].kind.title} does not mention"] if is_more else []
     return [*differing("inputs", "i", inputs, judged), *differing("outputs", "o", outputs, judged), *are_read]
+
+
+def names_of_owners(text):
+    """The names of the environment's propositions, and those of the controller's, in an automaton or a specification."""
+    if text.kind is Kind.SPECIFICATION:
+        return specification.owners(text.string)
+    return [[name for _, name in owned] for owned in automaton.read(text.string).owners()]
 
 
 def differing(title, kind, wanted, judged):

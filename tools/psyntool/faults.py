@@ -5,7 +5,7 @@ from dataclasses import dataclass
 from psyntool import places
 from psyntool.kinds import Kind
 
-KINDS = {kind.title.capitalize(): kind for kind in (Kind.AUTOMATON, Kind.GAME, Kind.CERTIFICATE, Kind.CIRCUIT, Kind.STIMULUS)}
+KINDS = {kind.title.capitalize(): kind for kind in (Kind.AUTOMATON, Kind.SPECIFICATION, Kind.GAME, Kind.CERTIFICATE, Kind.CIRCUIT, Kind.STIMULUS)}
 
 
 @dataclass(frozen=True)

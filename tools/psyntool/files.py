@@ -143,7 +143,7 @@ def returns_at_line_ends(kind, text):
     ends = [found.start() for found in re.finditer(rb"\r\n", text)]
     if text.endswith(b"\r"):
         ends.append(len(text) - 1)
-    if kind in (Kind.GAME, Kind.AUTOMATON):
+    if kind in (Kind.GAME, Kind.AUTOMATON, Kind.SPECIFICATION):
         name = rb'"(?:\\.|[^"\\])*"' if kind is Kind.AUTOMATON else rb'"[^"]*"'
         inside = {found.start() + at.start() for found in re.finditer(name, text, re.S) for at in re.finditer(rb"\r", found[0])}
         return [place for place in ends if place not in inside]
@@ -236,7 +236,7 @@ class Reader:
         if paths.count("-") > 1:
             raise Refused("standard input can be one of the files only")
         texts = [self.text(kind, path) for kind, path in zip(kinds, paths)]
-        if tuple(kinds[:2]) == (Kind.AUTOMATON, Kind.CIRCUIT):
+        if tuple(kinds[:2]) in ((Kind.AUTOMATON, Kind.CIRCUIT), (Kind.SPECIFICATION, Kind.CIRCUIT)):
             unmentioned.drop(texts)
             for text in texts:
                 self.tell(text)

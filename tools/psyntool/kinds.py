@@ -10,6 +10,7 @@ class Kind(enum.Enum):
     """A kind of text: its name, and the usual file name endings, beginning with the one that psyn writes."""
 
     AUTOMATON = ("automaton", ("hoa",))
+    SPECIFICATION = ("specification", ("tlsf",))
     GAME = ("game", ("pg", "gm"))
     CERTIFICATE = ("certificate", ("cert",))
     CIRCUIT = ("circuit", ("aag", "aig"))
@@ -34,6 +35,7 @@ class Kind(enum.Enum):
 
 SIGNS = [
     (Kind.AUTOMATON, rb"\s*HOA\s*:"),
+    (Kind.SPECIFICATION, rb"(\s|//[^\n]*\n|/\*([^*]|\*(?!/))*\*/)*INFO\b"),
     (Kind.CERTIFICATE, rb"\s*psyncert\b"),
     (Kind.CIRCUIT, rb"\s*a[ai]g\s+\d"),
     (Kind.SOLUTION, rb"\s*paritysol\b|\s*\d+\s+0*[01](\s+\d+)?\s*;"),

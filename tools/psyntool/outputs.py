@@ -18,6 +18,7 @@ SIGNS = {
     ".cert": rb"\Apsyncert [12]\n",
     ".hoa": rb'\AHOA: v1\ntool: "psyn compose"\n',
     ".stim": rb"\A# written by psyn\n",
+    ".tlsf": rb"\A// written by psyn tlsf\n",
 }
 
 

@@ -5,13 +5,13 @@ import re
 from psyntool import console, running
 from psyntool.ends import WRONG_SOLUTIONS
 
-VERDICTS = ("REALIZABLE", "UNREALIZABLE", "wins", "loses", "accepted", "rejected", "valid", "closed")
+VERDICTS = ("REALIZABLE", "UNREALIZABLE", "wins", "loses", "accepted", "rejected", "satisfied", "violated", "valid", "closed")
 # The fields of the line, in order, as the manual describes them.
 FIELDS = {
     "command": "the command",
     "files": "the words behind it, in a list",
     "status": "the exit status",
-    "verdict": "REALIZABLE, UNREALIZABLE, wins, loses, accepted, rejected, valid or closed, or of judge right or wrong",
+    "verdict": "REALIZABLE, UNREALIZABLE, wins, loses, accepted, rejected, satisfied, violated, valid or closed, or of judge right or wrong",
     "stem": "of lasso, and of verify where the circuit loses: the number of steps before the lap",
     "lap": "the number of steps of the lap, which repeats for ever",
     "fault": "the number of the fault",
@@ -65,7 +65,7 @@ def verdict_of(command, answer, number, message):
 
 def steps_of(answer):
     """The numbers of steps of the stem and of the lap that `lasso` or `verify` prints; each is None in another answer."""
-    found = re.match(r"(?:accepted|rejected) stem (\d+) lap (\d+)$", answer, re.M)
+    found = re.match(r"(?:accepted|rejected|satisfied|violated) stem (\d+) lap (\d+)$", answer, re.M)
     if found:
         return int(found[1]), int(found[2])
     found = re.match(r"loses\n((?:[01]*\n)*)-\n((?:[01]*\n)*)", answer)

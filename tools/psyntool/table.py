@@ -4,8 +4,8 @@ The commands of the program come first, in the order of the program's own table.
 of the command's name in `commands`, or in `asking` if the command only hands the program's answer on.
 """
 from psyntool.command import (
-    AUTO, BY, CHECK, CIRCUIT, DROP, EDGES, ENV, FORCE, KEEP, MOORE, NAMES, OF_PARTS, PARTS, PICTURE, PRIORITIES, REACH, SEED, STIMULUS, STRICT, TO_FILE, TO_FILES,
-    TRACE, WAVE, Command, of_the_program,
+    AUTO, BY, CHECK, CIRCUIT, DROP, EDGES, ENV, FORCE, KEEP, MOORE, NAMES, OF_PARTS, PARTS, PICTURE, PRIORITIES, REACH, SEED, SET, STIMULUS, STRICT, TO_FILE, TO_FILES,
+    TO_TLSF, TRACE, WAVE, Command, of_the_program,
 )  # fmt: skip
 from psyntool.kinds import Kind
 from psyntool.usages import USAGES
@@ -16,7 +16,7 @@ OF_THE_PROGRAM = (
     of_the_program("check", "valid, or the first flaw", module=ASKING),
     of_the_program("judge", "the certificate by another solver's solution, or what is wrong with it", own=(PICTURE, CHECK)),
     of_the_program("sim", "what a circuit does, letter by letter", own=(NAMES,)),
-    of_the_program("lasso", "whether the automaton accepts what the circuit does", own=(TRACE, CHECK)),
+    of_the_program("lasso", "whether the automaton accepts what the circuit does; with --tlsf whether that satisfies the specification", own=(TRACE, CHECK)),
     of_the_program("verify", "wins if the automaton accepts all that the circuit does, else a stimulus on which it does not", own=(STIMULUS, WAVE, CHECK)),
     of_the_program("solve", "a certificate of a game", own=(BY, KEEP, PICTURE)),
     of_the_program("game", "the parity game of an automaton", module=ASKING),
@@ -59,6 +59,12 @@ OF_THE_TOOL = (
         (Kind.FILE, Kind.FILE, Kind.FILE),
         own=(REACH,),
         least=1,
+    ),
+    Command(
+        "tlsf",
+        "a specification in TLSF's full form, with parameters, functions, buses and sentences, written out in its basic form",
+        (Kind.SPECIFICATION,),
+        own=(SET, TO_TLSF, FORCE),
     ),
     Command("wave", "what sim prints, as a VCD file", (Kind.CIRCUIT, Kind.STIMULUS)),
     Command("convert", "a circuit in the other form of AIGER: `aag` to `aig`, and back", (Kind.CIRCUIT,), own=(DROP,)),

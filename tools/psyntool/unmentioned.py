@@ -1,7 +1,8 @@
-"""Inputs of a circuit that the automaton does not mention, such as the clock that yosys adds, or a proposition that a
-tool found superfluous. If nothing in the circuit reads such an input, it is left out."""
+"""Inputs of a circuit that the automaton or the specification does not mention, such as the clock that yosys adds, or a
+proposition that a tool found superfluous. If nothing in the circuit reads such an input, it is left out."""
 import re
 
+from psyntool.kinds import Kind
 from psyntool.texts import Unreadable
 
 HEAD = re.compile(rb"\s*aag\s+\d+\s+(\d+)")
@@ -11,12 +12,12 @@ PROPOSITIONS = re.compile(rb'\bAP:\s*\d+((?:\s*"(?:\\.|[^"\\])*")*)')
 
 def drop(texts):
     """Leaves these inputs out of the circuit, and their digits out of the stimulus, if there is one. The texts are an
-    automaton, a circuit, and perhaps a stimulus."""
-    automaton, circuit = texts[:2]
-    if seem_mentioned(automaton.bytes, circuit.bytes):
+    automaton or a specification, a circuit, and perhaps a stimulus."""
+    first, circuit = texts[:2]
+    if first.kind is Kind.AUTOMATON and seem_mentioned(first.bytes, circuit.bytes):
         return
     try:
-        count, unread, _ = inputs(automaton.string, circuit.string)
+        count, unread, _ = inputs(mentioned_in(first), circuit.string)
     except Unreadable:
         return
     head = HEAD.match(circuit.bytes)
@@ -25,7 +26,7 @@ def drop(texts):
     counted = (*head.span(1), b"%d" % (count - len(unread)))
     circuit.replace([counted, *definitions(circuit.bytes, count, unread), *symbols(circuit.bytes, unread)])
     names, these = ", ".join(unread.values()), "it" if len(unread) == 1 else "them"
-    circuit.told.append(f"{circuit.name}: {'input' if these == 'it' else 'inputs'} {names} left out: the automaton does not mention {these}, and nothing reads {these}")
+    circuit.told.append(f"{circuit.name}: {'input' if these == 'it' else 'inputs'} {names} left out: the {first.kind.title} does not mention {these}, and nothing reads {these}")
     for stimulus in texts[2:]:
         spans = digits(stimulus.bytes, count, unread)
         if spans:
@@ -39,15 +40,23 @@ def seem_mentioned(automaton, circuit):
     return bool(found) and all(b'"%s"' % name.rstrip(b"\r") in found[1] for name in SYMBOL.findall(circuit))
 
 
-def inputs(automaton, text):
-    """The number of the circuit's inputs; and, by number, the names of those that the automaton does not mention: first
-    those that nothing reads, and then those that the circuit reads."""
-    from psyntool.texts import circuit, hoa
+def mentioned_in(text):
+    """The names of the propositions of an automaton or a specification."""
+    from psyntool.texts import hoa, specification
 
-    reader = hoa.Reader(hoa.tokens_of(automaton, "--BODY--"))
+    if text.kind is Kind.SPECIFICATION:
+        return {name for names in specification.owners(text.string) for name in names}
+    reader = hoa.Reader(hoa.tokens_of(text.string, "--BODY--"))
     reader.take("HOA:")
     reader.take()
-    mentioned = set(hoa.header_of(reader, automaton).names)
+    return set(hoa.header_of(reader, text.string).names)
+
+
+def inputs(mentioned, text):
+    """The number of the circuit's inputs; and, by number, the names of those that are not mentioned: first those that
+    nothing reads, and then those that the circuit reads."""
+    from psyntool.texts import circuit
+
     made = circuit.read(text)
     others = {number: made.symbols[kind, number] for kind, number in made.symbols if kind == "i" and number < len(made.inputs)}
     others = {number: name for number, name in sorted(others.items()) if name not in mentioned}

@@ -9,12 +9,13 @@ from psyntool.kinds import Kind
 
 @dataclass(frozen=True)
 class Usage:
-    """The usage of a command: the names of its flags, the kinds of its texts in order, and for some flags the kind of a
-    further text."""
+    """The usage of a command: the names of its flags, the kinds of its texts in order, for some flags the kind of a
+    further text, and for some flags the kind that the first text then has."""
 
     flags: tuple
     texts: tuple
     added: dict
+    replaced: dict
 
 
 def read():
@@ -25,7 +26,7 @@ def read():
         name: Usage(
             tuple(f"--{flag}" for flag in row["flags"]),
             tuple(kinds[kind] for kind in row["texts"]),
-            {f"--{flag}": kinds[kind] for flag, kind in row["added"].items()},
+            *({f"--{flag}": kinds[kind] for flag, kind in row[by_flags].items()} for by_flags in ("added", "replaced")),
         )
         for name, row in rows.items()
     }

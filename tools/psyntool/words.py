@@ -20,7 +20,7 @@ def split(words, flags):
     """The given flags with their values, and the other words. After `--`, no word is a flag. An unknown word with a
     dash counts as a file if a file has this name.
 
-    If a flag may have many values, each value is paired with its position in `words`.
+    If a flag may have many values, or be repeated, each value is paired with its position in `words`.
     """
     given, others, at = {}, [], 0
     while at < len(words):
@@ -36,7 +36,8 @@ def split(words, flags):
             others.append(word)
             continue
         flag = flags[name]
-        if name in given and not flag.many:
+        has_many = flag.many or flag.repeated
+        if name in given and not has_many:
             raise Refused(f"{name} stands twice")
         if not flag.value and equals:
             raise Refused(f"{name} takes no value")
@@ -44,7 +45,7 @@ def split(words, flags):
         if flag.value and not values:
             raise Refused(f"{name} wants {flag.value} behind it")
         at += 0 if equals else len(values)
-        given[name] = [*given.get(name, []), *values] if flag.many else values[0][1] if values else True
+        given[name] = [*given.get(name, []), *values] if has_many else values[0][1] if values else True
     return given, others
 
 
@@ -97,7 +98,7 @@ def check_count(command, given, words):
     wanted = command.wanted(given)
     most, least = len(wanted), len([word for word in wanted if not word.startswith("[")])
     if not least <= len(words) <= most:
-        what = " ".join([command.name, *(name for name in given if name in command.behind or name in command.instead)])
+        what = " ".join([command.name, *(name for name in given if any(name in by_flag for by_flag in (command.behind, command.replaced, command.instead)))])
         unit = "file" if all(isinstance(kind, Kind) for kind in command.reads) else "word"
         raise Refused(f"{what} reads {' '.join(wanted) or 'no file'}, and got {counted(words, unit)}")
 

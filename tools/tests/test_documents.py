@@ -65,7 +65,7 @@ class Names(unittest.TestCase):
         text, crates = documents.sources("src"), {os.path.basename(path) for path in glob.glob(os.path.join(TOP, "crates", "*"))}
         known = {*re.findall(r"\b(?:fn|struct|trait|enum|ensures)\s+(\w+)", text), *crates}
         calls = documents.calls_of(documents.read("docs/PROVED.md"))
-        flags = {"synth", "cert", "closed", "solve", "game", "sim"}
+        flags = {"synth", "cert", "closed", "solve", "game", "sim", "tlsf"}
         self.assertTrue(calls)
         self.assertEqual([call for call in calls if call[1] not in known | flags], [])
 

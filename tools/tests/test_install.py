@@ -103,6 +103,14 @@ class Installed(unittest.TestCase):
             self.assertEqual(self.completed("psyn", "core", "i", folder=room), ["it.parts"])
         self.assertEqual(self.completed("psyn", "compose", "--assume", "arbiter.hoa", "--stri"), ["--strict"])
 
+    def test_bash_completes_specifications(self):
+        with tempfile.TemporaryDirectory() as room:
+            for name in ("it.tlsf", "it.hoa", "it.aag", "it.pg"):
+                with open(os.path.join(room, name), "wb"):
+                    pass
+            self.assertEqual(self.completed("psyn", "lasso", "--tlsf", "i", folder=room), ["it.hoa", "it.tlsf"])
+            self.assertEqual(self.completed("psyn", "lasso", "--tl"), ["--tlsf"])
+
     def test_bash_completes_names_with_blanks(self):
         with tempfile.TemporaryDirectory() as room:
             for name in ("my spec.hoa", "my spec.cert", "my other.hoa"):
@@ -126,9 +134,9 @@ class Tables(unittest.TestCase):
         self.assertEqual([name for name, it in COMMANDS.items() if it.is_of_the_program], [name for name in USAGES if name != "help"])
 
     def test_a_table_that_cannot_be_read_is_one_line(self):
-        row = 'Usage { name: "x", flags: &[%s], texts: &[TextKind::Game], added: &[(A_FLAG, TextKind::Circuit)], line: Line::X }'
+        row = 'Usage { name: "x", flags: &[%s], texts: &[TextKind::Game], added: &[(A_FLAG, TextKind::Circuit)], replaced: &[(A_FLAG, TextKind::Stimulus)], line: Line::X }'
         flag = 'pub const A_FLAG: &str = "a";'
-        self.assertIn('[x]\nflags = ["a"]\ntexts = ["game"]\nadded = { a = "circuit" }\n', usages.written(flag + row % "A_FLAG"))
+        self.assertIn('[x]\nflags = ["a"]\ntexts = ["game"]\nadded = { a = "circuit" }\nreplaced = { a = "stimulus" }\n', usages.written(flag + row % "A_FLAG"))
         for code in (flag, row % "", flag + row % "B_FLAG", flag + row % "" + 'Usage { name: "y", line: Line::Y }'):
             with self.assertRaisesRegex(usages.Unreadable, "^crates/ps_program/src/commands.rt: "):
                 usages.written(code)

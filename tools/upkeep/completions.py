@@ -111,6 +111,7 @@ def endings(command):
     the command read in place of this file."""
     kinds = [kind for kind in (*command.reads, *command.behind.values()) if isinstance(kind, Kind)]
     others = [[these[place] for these in command.instead.values() if place < len(these)] for place in range(len(kinds))]
+    others[:1] = [[*command.replaced.values(), *these] for these in others[:1]]
     return ["|".join(dict.fromkeys(ending for kind in (one, *more) for ending in kind.endings)) for one, more in zip(kinds, others)]
 
 

@@ -17,6 +17,10 @@ arguments. That program reads from standard input: the command, a newline, and t
 FORMATS = {
     "automaton": "Hanoi Omega-Automata format, version v1, with `controllable-AP:`, which lists the numbers of the controller's propositions. "
     "It is deterministic, and its acceptance is a parity chain: parity min or max, Buchi, co-Buchi, one Rabin or Streett pair.",
+    "specification": "TLSF, the form of the synthesis competition. The program reads its basic form: formulas of linear temporal logic, in "
+    "sections, over the inputs and outputs that the text declares. `SEMANTICS` and `TARGET` name the same order of moves. `U`, `R`, `W` and "
+    "`<->` beside other operators want parentheses. The command tlsf writes the full form of TLSF 1.1 out in the basic form: PARAMETERS, "
+    "functions, enumerations, buses, `&&[i IN {0, 1 .. n - 1}] f`, and words such as `within 3 f`, which docs/INTEROP.md defines.",
     "part": "an automaton of one rule. Its acceptance is `0 t` or `1 Inf(0)`, and a letter without an edge breaks it. It need not say "
     "who controls its propositions.",
     "list": "the words of a command line of compose, in lines. Files are relative to the folder of the list. `#` begins a comment, which is "
@@ -39,7 +43,7 @@ STATUSES = {
     "20": "UNREALIZABLE: an environment's circuit follows",
     "1": "a fault, or an answer that could not be written completely",
     "2": "the command line or a file was refused",
-    "3": "with --check: the answer is loses, rejected, or fault 40, 50 or 51 of judge",
+    "3": "with --check: the answer is loses, rejected, violated, or fault 40, 50 or 51 of judge",
     "130": "ended by Ctrl-C; 143 by TERM and 129 by HUP",
 }
 

@@ -7,12 +7,13 @@ from psyntool import places
 TABLE = os.path.join(places.TOP, "crates", "ps_program", "src", "commands.rt")
 STORED = os.path.join(places.TOP, "tools", "psyntool", "program.toml")
 HEAD = """\
-# The commands of the program: their flags, and the kinds of their texts; `added` has the kind of a text that a flag adds.
+# The commands of the program: their flags, and the kinds of their texts; `added` has the kind of a text that a flag adds,
+# and `replaced` the kind of the first text if a flag is given.
 # Written by tools/command-files from the table of crates/ps_program/src/commands.rt.
 """
 FLAG = r'const (\w+_FLAG): &str = "(\w+)";'
-ROW = r'Usage \{\s*name: "(\w+)",\s*flags: &\[(.*?)\],\s*texts: &\[(.*?)\],\s*added: &\[(.*?)\],\s'
-ADDED = r"\((\w+),\s*TextKind::(\w+)\)"
+ROW = r'Usage \{\s*name: "(\w+)",\s*flags: &\[(.*?)\],\s*texts: &\[(.*?)\],\s*added: &\[(.*?)\],\s*replaced: &\[(.*?)\],\s'
+BY_FLAG = r"\((\w+),\s*TextKind::(\w+)\)"
 
 
 class Unreadable(Exception):
@@ -23,10 +24,16 @@ def quoted(words):
     return ", ".join(f'"{word}"' for word in words)
 
 
-def row(name, flags, texts, added):
+def by_flags(kinds):
+    """An inline table of the kinds of texts that flags stand for."""
+    said = ", ".join(f'{flag} = "{kind.lower()}"' for flag, kind in kinds)
+    return f"{{ {said} }}" if said else "{}"
+
+
+def row(name, flags, texts, added, replaced):
     """The entry of a command in program.toml."""
-    more = ", ".join(f'{flag} = "{kind.lower()}"' for flag, kind in added)
-    return f"[{name}]\nflags = [{quoted(flags)}]\ntexts = [{quoted(kind.lower() for kind in texts)}]\nadded = {{{f' {more} ' if more else ''}}}\n"
+    kinds = quoted(kind.lower() for kind in texts)
+    return f"[{name}]\nflags = [{quoted(flags)}]\ntexts = [{kinds}]\nadded = {by_flags(added)}\nreplaced = {by_flags(replaced)}\n"
 
 
 def written(code=None):
@@ -36,12 +43,13 @@ def written(code=None):
             code = file.read()
     names, rows = dict(re.findall(FLAG, code)), re.findall(ROW, code, re.S)
     if not rows or len(rows) != len(re.findall(r"\bUsage \{\s*name:", code)):
-        raise Unreadable(f"{os.path.relpath(TABLE, places.TOP)}: {len(rows)} rows of the table are written as name, flags, texts, added")
+        raise Unreadable(f"{os.path.relpath(TABLE, places.TOP)}: {len(rows)} rows of the table are written as name, flags, texts, added, replaced")
     parts = [HEAD]
-    for name, flags, texts, added in rows:
-        given, behind = re.findall(r"\w+", flags), re.findall(ADDED, added)
-        unknown = [flag for flag in (*given, *(flag for flag, _ in behind)) if flag not in names]
+    for name, flags, texts, *by_flag in rows:
+        given, kinds = re.findall(r"\w+", flags), [re.findall(BY_FLAG, these) for these in by_flag]
+        unknown = [flag for flag in (*given, *(flag for these in kinds for flag, _ in these)) if flag not in names]
         if unknown:
             raise Unreadable(f"{os.path.relpath(TABLE, places.TOP)}: {name} has {unknown[0]}, which is no flag with a name")
-        parts.append(row(name, [names[flag] for flag in given], re.findall(r"TextKind::(\w+)", texts), [(names[flag], kind) for flag, kind in behind]))
+        named = [[(names[flag], kind) for flag, kind in these] for these in kinds]
+        parts.append(row(name, [names[flag] for flag in given], re.findall(r"TextKind::(\w+)", texts), *named))
     return "\n".join(parts)

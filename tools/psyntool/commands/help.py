@@ -17,6 +17,9 @@ The same for a specification in parts, small automata of which some are assumed 
   {name} synth --parts arbiter.parts
   {name} compose arbiter.parts > arbiter.hoa
 
+A specification in TLSF's full form, for four clients, written out in its basic form:
+  {name} tlsf --set n=4 arbiter.tlsf > arbiter-4.tlsf
+
 Why is there no controller for these parts? Which of their guarantees conflict?
   {name} core arbiter.parts
 
@@ -43,6 +46,9 @@ What does this circuit do on these inputs?
 
 Does this automaton accept what that circuit does on this stem and this lap, and by which states?
   {name} lasso --trace automaton.hoa circuit.aag lasso.stim
+
+The same for a specification in temporal logic: does what the circuit does satisfy it?
+  {name} lasso --tlsf spec.tlsf circuit.aag lasso.stim
 
 Which game does this automaton define, and who wins it?
   {name} game automaton.hoa > game.pg

@@ -1,0 +1,102 @@
+"""Tests of the tool on specifications in temporal logic: what it explains, and what it hands on."""
+import json
+import unittest
+
+from psyntool.kinds import Kind, kind_of
+from psyntool.program import path as program
+from psyntool.texts import Unreadable, specification
+from tests.tool import AUTOMATON, OnFiles
+
+HEAD = b'INFO { TITLE: "t" SEMANTICS: Mealy TARGET: Mealy }\n'
+MAIN = b"MAIN {\n  INPUTS { r; }\n  OUTPUTS { g; }\n  GUARANTEE { G (r -> F g); }\n}\n"
+GRANT = b"aag 1 1 0 1 0\n2\n2\ni0 r\no0 g\n"
+NEVER = b"aag 1 1 0 1 0\n2\n0\ni0 r\no0 g\n"
+# A circuit with an input that nothing reads, as yosys adds a clock.
+CLOCKED = b"aag 2 2 0 1 0\n2\n4\n4\ni0 clk\ni1 r\no0 g\n"
+WRONG = {
+    b"G (r U g -> g)": ("80 Syntax", "4:21", "correct the text"),
+    b"G (r -> F h)": ("81 Name", "4:24", "declare each name once"),
+    b"true; } INPUTS { x; } ASSUME { g": ("82 Twice", "4:21", "keep one of the two"),
+    b"!" * 257 + b"r": ("84 Limit", "4:271", "divide the specification"),
+}
+
+
+class Specifications(OnFiles):
+    @classmethod
+    def setUpClass(cls):
+        program()
+
+    def setUp(self):
+        super().setUp()
+        for name, text in (("s.tlsf", HEAD + MAIN), ("grant.aag", GRANT), ("never.aag", NEVER), ("clocked.aag", CLOCKED), ("l.stim", b"-\n1\n"), ("spec.hoa", AUTOMATON)):
+            self.file(name, text)
+
+    def asked(self, *words):
+        """The answer, the lines on standard error, and the exit status of `lasso --tlsf`."""
+        done = self.tool("lasso", "--tlsf", *words)
+        return done.stdout.decode(), done.stderr.decode().splitlines(), done.returncode
+
+    def test_it_is_answered(self):
+        self.assertEqual(self.asked("s.tlsf", "grant.aag", "l.stim"), ("satisfied stem 0 lap 1\n", [], 0))
+        self.assertEqual(self.asked("s.tlsf", "never.aag", "l.stim"), ("violated stem 0 lap 1\n", [], 0))
+        self.assertEqual(self.asked("--check", "s.tlsf", "never.aag", "l.stim")[2], 3)
+
+    def test_it_is_told_as_json(self):
+        told = json.loads(self.asked("--json", "s.tlsf", "never.aag", "l.stim")[0])
+        self.assertEqual((told["verdict"], told["stem"], told["lap"]), ("violated", 0, 1))
+
+    def test_each_fault_is_explained_by_its_line_and_a_mend(self):
+        for formula, (fault, place, mend) in WRONG.items():
+            self.file("wrong.tlsf", HEAD + MAIN.replace(b"G (r -> F g)", formula))
+            answer, told, status = self.asked("wrong.tlsf", "grant.aag", "l.stim")
+            with self.subTest(fault):
+                self.assertTrue(answer.startswith(f"fault {fault} at "), answer)
+                self.assertEqual(status, 1)
+                self.assertIn(f"wrong.tlsf:{place}", told[0])
+                self.assertTrue([line for line in told if line.startswith(f"mend: {mend}")], told)
+        self.file("wrong.tlsf", HEAD.replace(b"TARGET: Mealy", b"TARGET: Moore") + MAIN)
+        answer, told, _ = self.asked("wrong.tlsf", "grant.aag", "l.stim")
+        self.assertIn("wrong.tlsf:2:1", told[0])
+        self.assertEqual(answer, f"fault 83 Order at {len(HEAD)}\n")
+        self.assertIn("mend: write the wanted order twice, if the formulas are meant so as they stand.", told)
+
+    def test_wrong_symbols_are_named(self):
+        self.file("other.aag", GRANT.replace(b"i0 r", b"i0 q"))
+        answer, told, _ = self.asked("s.tlsf", "other.aag", "l.stim")
+        self.assertEqual(answer, "fault 72 Symbols\n")
+        self.assertIn("among the circuit's inputs: missing r; too many q", told)
+        self.assertIn("the symbols are those of a controller: ask without --env", self.asked("--env", "s.tlsf", "grant.aag", "l.stim")[1])
+
+    def test_a_clock_is_left_out(self):
+        self.file("two.stim", b"-\n01\n")
+        answer, told, _ = self.asked("s.tlsf", "clocked.aag", "two.stim")
+        self.assertEqual(answer, "satisfied stem 0 lap 1\n")
+        self.assertEqual(told[0], "clocked.aag: input clk left out: the specification does not mention it, and nothing reads it")
+
+    def test_a_text_of_another_kind_is_named(self):
+        self.assertIn("spec.hoa is an automaton; lasso wants SPECIFICATION CIRCUIT STIMULUS", self.asked("spec.hoa", "grant.aag", "l.stim")[1])
+        told = self.tool("lasso", "s.tlsf", "grant.aag", "l.stim").stderr.decode()
+        self.assertIn("s.tlsf is a specification; lasso wants AUTOMATON CIRCUIT STIMULUS", told)
+
+    def test_what_it_refuses(self):
+        self.assertEqual(self.asked("--trace", "s.tlsf", "grant.aag", "l.stim")[2], 2)
+        answer, told, status = self.asked("s.tlsf", "grant.aag")
+        self.assertEqual((answer, told, status), ("", ["psyn: lasso --tlsf reads SPECIFICATION CIRCUIT STIMULUS, and got 2 files"], 2))
+
+
+class Reading(unittest.TestCase):
+    def test_the_kind_is_seen_at_the_beginning(self):
+        for text in (HEAD + MAIN, b"// a line\n /* a comment */" + HEAD, b"/* a */\n//b\n" + HEAD, b"INFO{"):
+            self.assertEqual(kind_of(text), Kind.SPECIFICATION)
+        self.assertIsNone(kind_of(b"/* */" * 800 + b"INFORMAL"))
+
+    def test_names_are_read_behind_comments_and_strings(self):
+        text = 'INFO { TITLE: "INPUTS { x }" /* INPUTS { z } /* */ */ } MAIN { // OUTPUTS {\n INPUTS { a; b\'@ } OUTPUTS { c; } ASSUME { a } }'
+        self.assertEqual(specification.owners(text), [["a", "b'@"], ["c"]])
+        self.assertEqual(specification.owners("INFO { } MAIN { }"), [[], []])
+        with self.assertRaises(Unreadable):
+            specification.owners("MAIN { INPUTS ;")
+
+
+if __name__ == "__main__":
+    unittest.main()
