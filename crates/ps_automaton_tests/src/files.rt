@@ -1,7 +1,8 @@
 //! Tests of the values that the parser stores for texts of the Hanoi Omega-Automata format.
 
 use ps_hoa::read;
-use std::alloc::Global;
+use ps_label::Label;
+use std::alloc::{AllocError, Global};
 use std::test::Fail;
 
 /// The debug output of the value that the parser returns for an HOA text.
@@ -63,5 +64,37 @@ const PARTS_OF_NESTED: [&str; 6] = [
 fn each_part_of_a_text_is_kept(rt: HostRuntime) -> Result<(), Fail> {
     assert_eq!(rt; lacking(rt.alloc(), UNUSUAL, &PARTS_OF_UNUSUAL)?, None);
     assert_eq!(rt; lacking(rt.alloc(), NESTED, &PARTS_OF_NESTED)?, None);
+    Ok(())
+}
+
+/// An HOA text with an alias of a proposition, and an alias that uses it.
+const ALIASES: &str = "HOA: v1 Start: 0 AP: 1 \"a\" controllable-AP: Alias: @x 0 Alias: @y @x&!0
+    Acceptance: 0 t --BODY-- State: 0 [@y|t] 0 --END--";
+
+/// The debug output of the aliases of an HOA text, each without the two forms of labels that are there for speed.
+fn plain_aliases(alloc: Global, text: &str) -> Result<String, Fail> {
+    let file = read(alloc, text.as_bytes())?;
+    let plain = each_plain(alloc, file.aliases().as_slice())?;
+    Ok(format!(in alloc; "{plain:?}")?)
+}
+
+/// Each of the labels, without the two forms that are there for speed.
+fn each_plain(alloc: Global, labels: &[Label]) -> Result<Vec<Label>, AllocError> {
+    let mut plain = Vec::new(alloc);
+    for label in labels {
+        plain.push(label.plain(alloc)?)?;
+    }
+    Ok(plain)
+}
+
+#[test]
+fn labels_are_written_plainly(rt: HostRuntime) -> Result<(), Fail> {
+    let aliases = plain_aliases(rt.alloc(), ALIASES)?;
+    assert_eq!(rt;
+        aliases.as_str(),
+        "[Atom(0), Both([Named(0), Neg(Atom(0))])]"
+    );
+    let guard = "Stated(Either([Named(1), Truth(true)]))";
+    assert_eq!(rt; lacking(rt.alloc(), ALIASES, &[guard])?, None);
     Ok(())
 }

@@ -12,4 +12,6 @@ mod files;
 #[cfg(test)]
 mod labels;
 #[cfg(test)]
+mod surface;
+#[cfg(test)]
 mod tokens;

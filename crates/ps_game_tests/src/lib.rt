@@ -23,3 +23,5 @@ mod numbers;
 mod regions;
 #[cfg(test)]
 mod solvers;
+#[cfg(test)]
+mod surface;
