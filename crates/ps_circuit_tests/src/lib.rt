@@ -15,3 +15,5 @@ mod machines;
 mod problems;
 #[cfg(test)]
 mod solvers;
+#[cfg(test)]
+mod surface;
