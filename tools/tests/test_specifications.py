@@ -14,10 +14,10 @@ NEVER = b"aag 1 1 0 1 0\n2\n0\ni0 r\no0 g\n"
 # A circuit with an input that nothing reads, as yosys adds a clock.
 CLOCKED = b"aag 2 2 0 1 0\n2\n4\n4\ni0 clk\ni1 r\no0 g\n"
 WRONG = {
-    b"G (r U g -> g)": ("80 Syntax", "4:21", "correct the text"),
-    b"G (r -> F h)": ("81 Name", "4:24", "declare each name once"),
-    b"true; } INPUTS { x; } ASSUME { g": ("82 Twice", "4:21", "keep one of the two"),
-    b"!" * 257 + b"r": ("84 Limit", "4:271", "divide the specification"),
+    b"G (r U g -> g)": ("80 Syntax", "5:24", "correct the text"),
+    b"G (r -> F h)": ("81 Name", "5:25", "declare each name once"),
+    b"true; } INPUTS { x; } ASSUME { g": ("82 Twice", "5:23", "keep one of the two"),
+    b"!" * 257 + b"r": ("84 Limit", "5:271", "divide the specification"),
 }
 
 
