@@ -85,7 +85,7 @@ def formula_input(formula, word):
 
 def game():
     """A random game of almost 16 MiB, with three edges a vertex."""
-    count = 450_000
+    count = 512_000
     dice = random.Random(1)
     lines = []
     for v in range(count):
