@@ -68,6 +68,14 @@ OF_THE_TOOL = (
     ),
     Command("wave", "what sim prints, as a VCD file", (Kind.CIRCUIT, Kind.STIMULUS)),
     Command("convert", "a circuit in the other form of AIGER: `aag` to `aig`, and back", (Kind.CIRCUIT,), own=(DROP,)),
+    Command(
+        "verilog",
+        "a circuit as a module of Verilog, with a clock and a reset if it has latches, and a comment for each output; with an automaton or a list of "
+        "parts only if the circuit wins",
+        (Kind.CIRCUIT, "SPEC"),
+        flags=(ENV, MOORE),
+        least=1,
+    ),
     Command("shrink", "a circuit made smaller by abc, if the smaller one wins", (Kind.AUTOMATON, Kind.CIRCUIT), flags=(ENV, MOORE)),
     Command("solution", "a certificate's winners and moves as a solution (`paritysol`)", (Kind.GAME, Kind.CERTIFICATE)),
     Command("each", "COMMAND on each of several files, or on as many at a time as it reads; the first line of each answer", ("COMMAND", "FILE.."), runs_another=True),

@@ -50,6 +50,9 @@ Does this automaton accept what that circuit does on this stem and this lap, and
 The same for a specification in temporal logic: does what the circuit does satisfy it?
   {name} lasso --tlsf spec.tlsf circuit.aag lasso.stim
 
+This circuit as Verilog, if it wins; of a list of parts with the sentences that mention each output:
+  {name} verilog lift.aag lift.parts > lift.v
+
 Which game does this automaton define, and who wins it?
   {name} game automaton.hoa > game.pg
   {name} cert automaton.hoa > game.cert

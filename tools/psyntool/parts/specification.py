@@ -166,16 +166,23 @@ def asked(request):
         raise Refused(f"{request.command.name} wants parts: {GUARANTEE.shown}, {ASSUME.shown}, or a list of them")
     if [*paths, *(wish.path for wish in wishes.parts)].count("-") > 1:
         raise Refused("standard input can be one of the files only")
-    if wishes.is_moore and MOORE in request.command.flags:
-        request.given[MOORE.name] = True
+    pass_on_order(wishes, request)
     return made(wishes, reader)
 
 
-def of_list(text, reader):
-    """The specification that a list defines."""
+def of_list(text, reader, request=None):
+    """The specification that a list defines. If the list says that the controller moves first, a given request has the
+    flag that says so."""
     wishes = Wishes()
     listed(text, wishes)
+    if request:
+        pass_on_order(wishes, request)
     return made(wishes, reader)
+
+
+def pass_on_order(wishes, request):
+    if wishes.is_moore and MOORE in request.command.flags:
+        request.given[MOORE.name] = True
 
 
 def made(wishes, reader):

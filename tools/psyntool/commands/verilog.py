@@ -1,0 +1,89 @@
+"""`verilog`: a circuit as a module of Verilog. With a specification, the module is printed only if the circuit wins, and
+each output has the sentences that mention it."""
+import os
+
+from psyntool import asking, console, files, program, unmentioned
+from psyntool.command import ENV, wrong_kinds
+from psyntool.ends import FAULT, Refused
+from psyntool.files import Reader, Text
+from psyntool.kinds import Kind
+from psyntool.parts import specification
+from psyntool.parts.composing import Composer
+from psyntool.texts import Unreadable, automaton, circuit, verilog
+
+WINS = b"wins\n"
+
+
+def run(request):
+    given = Given(request)
+    answer = program.ask(given.question)
+    if not asking.is_had(answer):
+        # only a module may go to standard output, so a fault goes to standard error
+        console.tell(*([answer.text.rstrip("\n")] if answer.is_fault else []))
+        return asking.told(request, given.texts, answer)
+    if given.automaton and answer.bytes != WINS:
+        console.tell(f"psyn: {given.circuit.name} loses, so there is no module: `verify` tells a counterexample")
+        return FAULT
+    name = os.path.basename(given.circuit.name)
+    title = "circuit" if request.words[0] == "-" else os.path.splitext(name)[0]
+    about = [f"Written by psyn verilog from {name}.", *given.judgement()]
+    console.write_text(verilog.module(circuit.read(given.circuit.string), title, about, given.sentences()))
+    return 0
+
+
+class Given:
+    """The texts of a command line: a circuit, and perhaps a specification with its automaton."""
+
+    def __init__(self, request):
+        self.request, self.automaton = request, None
+        if request.words.count("-") > 1:
+            raise Refused("standard input can be one of the files only")
+        if not request.words[1:] and request.passed:
+            raise Refused(f"{request.command.name} {request.passed[0]} wants a specification, which says who wins")
+        reader = Reader(request)
+        self.circuit = reader.text(Kind.CIRCUIT, request.words[0])
+        wrong = wrong_kinds(request.command, [self.circuit])
+        if wrong:
+            raise Refused(wrong)
+        for path in request.words[1:]:
+            self.specification = reader.text(Kind.FILE, path)
+            self.automaton = automaton_of(self.specification, reader, request)
+            unmentioned.drop([self.automaton, self.circuit])
+            reader.tell(self.circuit)
+
+    @property
+    def texts(self):
+        return [self.automaton, self.circuit] if self.automaton else [self.circuit]
+
+    @property
+    def question(self):
+        """What the program is asked: whether the circuit wins or, without a specification, only whether it is one."""
+        if self.automaton:
+            return files.joined("verify", self.request.passed, self.texts)
+        return files.joined("sim", [], [self.circuit, Text(Kind.STIMULUS, "no stimulus", b"")])
+
+    def judgement(self):
+        return [f"psyn verify says that this circuit wins, by {os.path.basename(self.specification.name)}."] if self.automaton else []
+
+    def sentences(self):
+        """For each proposition that a sentence mentions, these sentences, as lines: of a controller the guarantees, and
+        of an environment the assumptions."""
+        kept = specification.kept(automaton.read(self.automaton.string)) if self.automaton else None
+        parts = () if kept is None else kept.assumptions if self.request.has(ENV) else kept.guarantees
+        found = {}
+        for part in parts:
+            for name in part.names:
+                lines = found.setdefault(name, [])
+                lines += [line for line in [f"- {part.sentence or part.title}"] if line not in lines]
+        return found
+
+
+def automaton_of(text, reader, request):
+    """The automaton of a specification, which is an automaton or a list of parts."""
+    if text.looks_like is Kind.LIST:
+        made = Composer(specification.of_list(text, reader, request)).composed().text()
+        return Text(Kind.AUTOMATON, text.name, made.encode("utf-8", "surrogateescape"))
+    if text.looks_like is not Kind.AUTOMATON:
+        what = text.looks_like.with_article if text.looks_like else "no automaton" if text.bytes.strip() else "empty"
+        raise Refused(f"{text.name} is {what}; SPEC is an automaton or a list of parts")
+    return text

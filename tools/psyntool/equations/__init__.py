@@ -1,0 +1,1 @@
+"""Circuits as equations between named signals, for texts that people read."""
