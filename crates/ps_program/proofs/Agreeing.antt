@@ -1,6 +1,6 @@
--- Two reports on the same text have the same winner and print the same game. Two valid certificates of the same game
+-- Two answers to `synth` for one text have the same winner and the same game. Two valid certificates of the same game
 -- assign the same winner to each vertex.
-use Rattle.std.proofs.Common.{◌≡◌, ◌∙◌, ◌<◌, ◌↔◌, ℕ, Bool, List, Result, Ok, sym, ap, subst, arith, IsTrue}
+use Rattle.std.proofs.Common.{◌≡◌, ◌<◌, ℕ, Bool, List, Result, Ok, sym, subst, arith}
 use Rattle.std.proofs.lemmas.Option.{slice_get_within}
 use Rattle.ps_text.specs.Answers.{Found}
 use Rattle.ps_certificate.specs.Certificates.{CertificateData, Fits, IsValid, winner_of}
@@ -13,13 +13,11 @@ use Rattle.ps_hoa.specs.Texts.{ReadsFile}
 use Rattle.ps_hoa.specs.declared.fault.HoaCause.{HoaCause}
 use Rattle.ps_machine.specs.FileGames.{IsGameOfFile}
 use Rattle.ps_machine.specs.Keys.{mover_of, owner_of_key}
-use Rattle.ps_machine.specs.Solving.{IsCertified}
+use Rattle.ps_machine.specs.Solving.{IsCertified, winner_at_start}
 use Rattle.ps_machine.specs.declared.key.Key.{Key}
 use Rattle.ps_machine.specs.declared.key.Order.{Order}
-use Rattle.ps_pgsolver.specs.Written.{game_text}
 use Rattle.ps_machine.specs.Solvers.{MayAnswer}
-use Rattle.ps_synthesis.specs.Reports.{IsReport}
-use Rattle.ps_synthesis.specs.declared.report.Report.{Report}
+use Rattle.ps_synthesis.specs.Promises.{IsSynthesis, SynthesisData}
 use Rattle.ps_program.specs.Determined.{AgreeInWinners}
 use Rattle.ps_program.specs.Replies.{Reply, text_reply}
 
@@ -62,57 +60,26 @@ pub first_there : (order : Order) (file : FileData) (game : NamedGameData) → I
     0 < vertex_count game.game
 first_there order file game is = grind (arith, slice_get_within)
 
-pub tests_agree : (a b : Bool) (n m : ℕ) → IsTrue a ↔ (n ≡ 0) → IsTrue b ↔ (m ≡ 0) → n ≡ m → a ≡ b
-tests_agree a b n m h k e = grind arith
-
--- facts about one report: it prints the game of the text's automaton, and its winner is the player whom a valid
--- certificate gives the start vertex
-pub record Facts (May : MayAnswer) (order : Order) (compact : Bool) (text : List ℕ) (report : Report) : Type 0 where
-  pub file : FileData
-  pub reads : ReadsFile text (Ok file)
-  pub game : NamedGameData
-  pub is_game : IsGameOfFile order file game
-  pub printed : report.game_text.items ≡ game_text game
-  pub certificate : CertificateData
-  pub certified : IsCertified game certificate
-  pub realizable : IsTrue report.realizable ↔ (winner_of certificate 0 ≡ 0)
-
-facts_of : (May : MayAnswer) (order : Order) (compact : Bool) (text : List ℕ) (report : Report) →
-    IsReport May order compact text report → Facts May order compact text report
-facts_of May order compact text report r = grind arith
-
-pub report_game : (May : MayAnswer) (order : Order) (compact : Bool) (text : List ℕ) (report : Report)
-    (is : IsReport May order compact text report) → report.game_text.items ≡ game_text is.promise.game
-report_game May order compact text report is = is.promise.game_text.written
-
 module _ (files : OneFile) (file_games : OneFileGame) (winners : OneWinner) where
-  module _ (May : MayAnswer) (order : Order) (compact : Bool) (text : List ℕ) (a b : Report)
-      (r : IsReport May order compact text a) (s : IsReport May order compact text b) where
-    f : Facts May order compact text a
-    f = facts_of May order compact text a r
+  module _ (May : MayAnswer) (order : Order) (text : List ℕ) (s t : SynthesisData)
+      (one : IsSynthesis May order text s) (other : IsSynthesis May order text t) where
+    same_file : one.file ≡ other.file
+    same_file = ok_same one.file other.file (files text (Ok one.file) (Ok other.file) one.accepted.reads
+        other.accepted.reads)
 
-    g : Facts May order compact text b
-    g = facts_of May order compact text b s
+    -- both answers have the game of the automaton
+    pub syntheses-game : s.game ≡ t.game
+    syntheses-game = file_games order other.file s.game t.game
+        (subst (λ file. IsGameOfFile order file s.game) same_file one.is_game) other.is_game
 
-    same_file : f.file ≡ g.file
-    same_file = ok_same f.file g.file (files text (Ok f.file) (Ok g.file) f.reads g.reads)
-
-    same_game : f.game ≡ g.game
-    same_game = file_games order g.file f.game g.game (grind (arith, same_file)) g.is_game
-
-    -- both reports have the same winner
-    pub reports-winner : a.realizable ≡ b.realizable
-    reports-winner =
-        let certified : IsCertified f.game g.certificate =
-        subst (λ game. IsCertified game g.certificate) (sym same_game) g.certified in
-        let same_winner : winner_of f.certificate 0 ≡ winner_of g.certificate 0 =
-        winners f.game.game f.certificate g.certificate (owners_below order f.file f.game f.is_game) f.certified.fits
-        f.certified.valid certified.fits certified.valid 0 (first_there order f.file f.game f.is_game) in
-        tests_agree a.realizable b.realizable _ _ f.realizable g.realizable same_winner
-
-    -- both reports print the game of the automaton
-    pub reports-game : a.game_text.items ≡ b.game_text.items
-    reports-game = f.printed ∙ ap game_text same_game ∙ sym g.printed
+    -- both answers have the same winner
+    pub syntheses-winner : winner_at_start s.certificate ≡ winner_at_start t.certificate
+    syntheses-winner =
+        let certified : IsCertified s.game t.certificate =
+        subst (λ game. IsCertified game t.certificate) (sym syntheses-game) other.certified in
+        winners s.game.game s.certificate t.certificate (owners_below order one.file s.game one.is_game)
+        one.certified.fits one.certified.valid certified.fits certified.valid 0
+        (first_there order one.file s.game one.is_game)
 
   -- any two valid certificates of the same game assign the same winner to each vertex
   pub certificates_agree : (compact : Bool) (game : NamedGameData) (one other : CertificateData) (a b : Reply) →

@@ -33,8 +33,8 @@ use Rattle.ps_program.specs.Synthesis.{AnswersBy, AnswersReport}
 use Rattle.ps_program.specs.Verifying.{AnswersVerify}
 use Rattle.ps_program.specs.Texts.{CutsInTwo, ReadsCertified, ReadsCircuitText, ReadsGameText, ReadsSimulated}
 use Rattle.ps_program.specs.declared.commands.SynthLine.{SynthLine}
-use Rattle.ps_program.proofs.Agreeing.{OneCertificate, OneFile, OneFileGame, OneWinner, reports-winner, reports-game}
-use Rattle.ps_program.proofs.Agreeing.{certificates_agree, report_game}
+use Rattle.ps_program.proofs.Agreeing.{OneCertificate, OneFile, OneFileGame, OneWinner, certificates_agree}
+use Rattle.ps_program.proofs.Agreeing.{syntheses-game, syntheses-winner}
 use Rattle.ps_program.proofs.TraceFromLetters.{traces_agree}
 use Rattle.ps_program.proofs.OneStep.{IsOne, then_one, then_one_or, ended_one, reading_one}
 use Rattle.ps_program.proofs.OneCut.{cut_one, cut_three_one}
@@ -177,32 +177,30 @@ module _ (games : OneGame) (certificates : OneCertificate) (flaws : OneFlaw) (ci
 
   reports_alike : (solver : SolverData) (asked : SynthLine) (text : List ℕ) (x y : Result Reply (List ℕ)) →
       AnswersReport solver asked text x → AnswersReport solver asked text y →
-      Alike (AgreeAsReports asked.order asked.full text) x y
+      Alike (AgreeAsReports asked.order asked.full asked.compact text) x y
   reports_alike solver asked text x y (inl (l, s, e)) k = inl (fault_is x l e)
-  reports_alike solver asked text x y (inr (r, s, e)) (inl (m, t, f)) = inr (inl (fault_is y m f))
-  reports_alike solver asked text x y (inr (r, s, e)) (inr (r', t, f)) = inr (inr (record {
-    file = s.promise.file;
-    accepted = s.promise.accepted;
-    game = s.promise.game;
-    is_game = s.promise.is_game;
-    one = r;
-    other = r';
-    is_one = ap printed e;
-    is_other = ap printed f;
-    one_game = report_game (answers_now solver) asked.order asked.compact text r s;
-    other_game =
-        sym (reports-game files file_games winners (answers_now solver) asked.order asked.compact text r r' s t)
-        ∙ report_game (answers_now solver) asked.order asked.compact text r s;
-    winner = reports-winner files file_games winners (answers_now solver) asked.order asked.compact text r r' s t;
-  }))
+  reports_alike solver asked text x y (inr (s, is, (again, e))) (inl (m, t, f)) = inr (inl (fault_is y m f))
+  reports_alike solver asked text x y (inr (s, is, (again, e))) (inr (t, is', (again', f))) =
+      let May = answers_now solver in
+      inr (inr (record {
+        file = is.synthesis.file;
+        accepted = is.synthesis.accepted;
+        one = s;
+        other = t;
+        is_game = is.synthesis.is_game;
+        game = syntheses-game files file_games winners May asked.order text s t is.synthesis is'.synthesis;
+        winner = syntheses-winner files file_games winners May asked.order text s t is.synthesis is'.synthesis;
+        is_one = ap printed e;
+        is_other = ap printed f;
+      }))
 
   report_one_or : (solver : SolverData) (asked : SynthLine) (text : List ℕ) (x y : Result Reply (List ℕ)) →
       AnswersReport solver asked text x → AnswersReport solver asked text y
-      → (x ≡ y) ⊎ (HasAutomaton text × Alike (AgreeAsReports asked.order asked.full text) x y)
+      → (x ≡ y) ⊎ (HasAutomaton text × Alike (AgreeAsReports asked.order asked.full asked.compact text) x y)
   report_one_or solver asked text x y h k = search (rules, by, report_refused)
     where
       by : RefusedOr text x → RefusedOr text y →
-          (x ≡ y) ⊎ (HasAutomaton text × Alike (AgreeAsReports asked.order asked.full text) x y)
+          (x ≡ y) ⊎ (HasAutomaton text × Alike (AgreeAsReports asked.order asked.full asked.compact text) x y)
       by (inr choice) other = inr (choice, reports_alike solver asked text x y h k)
       by (inl refused) (inr choice) = inr (choice, reports_alike solver asked text x y h k)
       by (inl (l, reads, e)) (inl (m, reads', e')) =
@@ -211,7 +209,7 @@ module _ (games : OneGame) (certificates : OneCertificate) (flaws : OneFlaw) (ci
   -- two answers to `synth` print reports for the same automaton's text that have the same winner and the same game
   abbrev ReportsAgree : (cert : Bool) → SynthLine → List ℕ → Reply → Reply → Type 0
   ReportsAgree cert asked texts a b =
-      (text : List ℕ) × AsksFor cert texts text × AgreeAsReports asked.order asked.full text a b
+      (text : List ℕ) × AsksFor cert texts text × AgreeAsReports asked.order asked.full asked.compact text a b
 
   abbrev AskedAlike : (cert : Bool) → SynthLine → List ℕ → Result Reply (List ℕ) → Result Reply (List ℕ) → Type 0
   AskedAlike cert asked texts x y = ((text : List ℕ) × AsksFor cert texts text × HasAutomaton text)
@@ -222,29 +220,29 @@ module _ (games : OneGame) (certificates : OneCertificate) (flaws : OneFlaw) (ci
       (x ≡ y) ⊎ AskedAlike cert asked texts x y
   synth_one_or solvers asked texts false x y h k = by (report_one_or solvers.built_in asked texts x y h k)
     where
-      by : (x ≡ y) ⊎ (HasAutomaton texts × Alike (AgreeAsReports asked.order asked.full texts) x y) →
+      by : (x ≡ y) ⊎ (HasAutomaton texts × Alike (AgreeAsReports asked.order asked.full asked.compact texts) x y) →
           (x ≡ y) ⊎ AskedAlike false asked texts x y
       by (inl same) = inl same
       by (inr (choice, alike)) =
           inr (
             (texts, refl, choice),
-            alike_as {P = AgreeAsReports asked.order asked.full texts}
+            alike_as {P = AgreeAsReports asked.order asked.full asked.compact texts}
                 {Q = ReportsAgree false asked texts} x y (λ a b agree. (texts, refl, agree)) alike,
           )
   synth_one_or solvers asked texts true x y h k =
       by (then_one_or (CutsInTwo texts)
       (λ (parts : List ℕ × List ℕ). AnswersReport (once_fed parts.1 solvers.replay) asked
       parts.0) (λ (parts : List ℕ × List ℕ). HasAutomaton parts.0 × Alike (AgreeAsReports asked.order asked.full
-      parts.0) x y) (cut_one texts) x y
+      asked.compact parts.0) x y) (cut_one texts) x y
       (λ parts n m. report_one_or (once_fed parts.1 solvers.replay) asked parts.0 x y n m) h k)
     where
       by : (x ≡ y) ⊎ ((parts : List ℕ × List ℕ) × CutsInTwo texts (Ok parts) ×
-          (HasAutomaton parts.0 × Alike (AgreeAsReports asked.order asked.full parts.0) x y)) →
+          (HasAutomaton parts.0 × Alike (AgreeAsReports asked.order asked.full asked.compact parts.0) x y)) →
           (x ≡ y) ⊎ AskedAlike true asked texts x y
       by (inl same) = inl same
       by (inr (parts, cuts, (choice, alike))) = inr (
         (parts.0, (parts.1, cuts), choice),
-        alike_as {P = AgreeAsReports asked.order asked.full parts.0} {Q = ReportsAgree true asked texts} x y
+        alike_as {P = AgreeAsReports asked.order asked.full asked.compact parts.0} {Q = ReportsAgree true asked texts} x y
             (λ a b agree. (parts.0, (parts.1, cuts), agree)) alike,
       )
 

@@ -1,32 +1,27 @@
 -- Given a certificate in the input, `synth` has one answer: the automaton's file, its game and the certificate
 -- determine the report, or the line that reports the fault.
-use Rattle.std.proofs.Common.{rules, ◌≡◌, ◌⊎◌, ◌∙◌, ◌↔◌, ◌++◌, ℕ, Bool, true, false, List, Option, None, Some, Result}
-use Rattle.std.proofs.Common.{Ok, Err, IsTrue, refl, sym, ap, ap₂, subst, inl, inr, arith}
-use Rattle.std.specs.Prelude.{codes}
+use Rattle.std.proofs.Common.{rules, ◌≡◌, ◌⊎◌, ◌∙◌, ℕ, Bool, true, List, Option, None, Some, Result, Ok, Err, refl}
+use Rattle.std.proofs.Common.{sym, ap, subst, inl, inr, arith}
 use Rattle.ps_text.specs.Answers.{Found}
 use Rattle.ps_aiger.specs.Wires.{IsOutOfLiterals}
 use Rattle.ps_certificate.specs.Certificates.{CertificateData}
 use Rattle.ps_certificate.specs.Texts.{ReadsCertificate}
-use Rattle.ps_certificate.specs.Written.{text_in}
 use Rattle.ps_certificate.specs.declared.fault.CertCause.{CertCause}
 use Rattle.ps_circuit.specs.Circuits.{CircuitData}
-use Rattle.ps_circuit.specs.Written.{text_of}
 use Rattle.ps_game.specs.Games.{NamedGameData}
 use Rattle.ps_hoa.specs.Files.{FileData}
 use Rattle.ps_machine.specs.Behaviours.{Behaviour}
 use Rattle.ps_machine.specs.FileGames.{IsGameOfFile}
 use Rattle.ps_machine.specs.Solvers.{SolverData, answers_now, once_fed}
-use Rattle.ps_machine.specs.Solving.{IsCertified, Replays, winner_at_start}
+use Rattle.ps_machine.specs.Solving.{IsCertified, Replays}
 use Rattle.ps_machine.specs.declared.fault.SolveFault.{SolveFault}
 use Rattle.ps_machine.specs.declared.fault.SolveFault.TheVariants as solver_fault
 use Rattle.ps_machine.specs.declared.key.Order.{Order}
-use Rattle.ps_pgsolver.specs.Written.{game_text}
-use Rattle.ps_synthesis.specs.Promises.{IsAcceptedText}
-use Rattle.ps_synthesis.specs.Reports.{IsReport, IsWinners, IsWinnersCircuit}
+use Rattle.ps_synthesis.specs.Promises.{IsAcceptedText, SynthesisData}
+use Rattle.ps_synthesis.specs.Reports.{IsWinners, IsWinnersCircuit, IsWinnersSynthesis}
 use Rattle.ps_synthesis.specs.SynthFaults.{IsSynthFault, cycle_of}
 use Rattle.ps_synthesis.specs.declared.fault.SynthFault.{SynthFault}
 use Rattle.ps_synthesis.specs.declared.fault.SynthFault.TheVariants as stage
-use Rattle.ps_synthesis.specs.declared.report.Report.{Report}
 use Rattle.ps_program.specs.Automata.{ReadsAutomaton}
 use Rattle.ps_program.specs.CommandLine.{IsLine}
 use Rattle.ps_program.specs.Cut.{behind_line, first_line}
@@ -36,12 +31,11 @@ use Rattle.ps_program.specs.Program.{AnswersInput, AnswersWhole}
 use Rattle.ps_program.specs.Replies.{Reply}
 use Rattle.ps_program.specs.Solvers.{Solvers}
 use Rattle.ps_program.specs.StageFaults.{stage_line}
-use Rattle.ps_program.specs.Synthesis.{AnswersBy, AnswersReport, AnswersSynth, report_reply, verdict_line}
-use Rattle.ps_program.specs.Synthesis.{verdict_status}
+use Rattle.ps_program.specs.Synthesis.{AnswersBy, AnswersReport, AnswersSynth, synthesis_reply}
 use Rattle.ps_program.specs.Texts.{CutsInTwo}
 use Rattle.ps_program.specs.declared.commands.Line.TheVariants as line
 use Rattle.ps_program.specs.declared.commands.SynthLine.{SynthLine}
-use Rattle.ps_program.proofs.Agreeing.{OneCertificate, OneFile, OneFileGame, ok_same, tests_agree}
+use Rattle.ps_program.proofs.Agreeing.{OneCertificate, OneFile, OneFileGame, ok_same}
 use Rattle.ps_program.proofs.AutomatonLemmas.{no_line, text_refused}
 use Rattle.ps_program.proofs.OneCut.{cut_one}
 use Rattle.ps_program.proofs.OneLine.{is_line_one}
@@ -75,21 +69,6 @@ lines_one : (fault : SynthFault) (x y : Result Reply (List ℕ)) → IsLineOf fa
 unfolding line_or
 lines_one fault x y (l, told, e) (m, told', e') = grind arith
 
--- ---- reports
-
--- the text that is printed for a report
-abbrev reply_by : (full realizable : Bool) (circuit game certificate : List ℕ) → Reply
-reply_by true realizable circuit game certificate = record {
-  text = verdict_line realizable ++ circuit ++ (codes "%%\n" ++ game ++ codes "%%\n" ++ certificate);
-  status = verdict_status realizable;
-}
-reply_by false realizable circuit game certificate =
-    record { text = verdict_line realizable ++ circuit; status = verdict_status realizable }
-
-is_reply_by : (full : Bool) (r : Report) →
-    report_reply full r ≡ reply_by full r.realizable r.circuit_text.items r.game_text.items r.certificate_text.items
-is_reply_by full r = grind arith
-
 -- ---- what determines the answer of `synth`
 
 module _ (order : Order) (compact full : Bool) where
@@ -98,9 +77,7 @@ module _ (order : Order) (compact full : Bool) where
       is_game : IsGameOfFile order file game
       circuit : CircuitData
       is_circuit : IsWinnersCircuit order file game is_game c circuit
-      realizable : Bool
-      is_realizable : IsTrue realizable ↔ (winner_at_start c ≡ 0)
-      is_reply : x ≡ Ok (reply_by full realizable (text_of circuit) (game_text game) (text_in compact game c))
+      is_reply : x ≡ Ok (synthesis_reply full compact (record { game = game; certificate = c; circuit = circuit }))
 
   record Above (file : FileData) (game : NamedGameData) (c : CertificateData) (x : Result Reply (List ℕ)) : Type 0 where
     is_game : IsGameOfFile order file game
@@ -130,10 +107,9 @@ module _ (order : Order) (compact full : Bool) where
     reports_one : (file : FileData) (game : NamedGameData) (c : CertificateData) (x y : Result Reply (List ℕ)) →
         Reported file game c x → Reported file game c y → x ≡ y
     reports_one file game c x y a b =
-        let one = tests_agree a.realizable b.realizable (winner_at_start c) (winner_at_start c) a.is_realizable
-        b.is_realizable refl in
         let circuit = circuits order file game a.is_game b.is_game c a.circuit b.circuit a.is_circuit b.is_circuit in
-        grind arith
+        a.is_reply ∙ ap (λ (d : CircuitData). Ok (synthesis_reply full compact
+        (record { game = game; certificate = c; circuit = d }))) circuit ∙ sym b.is_reply
 
     tells_one : (file : FileData) (game : NamedGameData) (x y : Result Reply (List ℕ))
         (answer : Result CertificateData (Found CertCause)) →
@@ -226,30 +202,24 @@ module _ (solver : SolverData) (replaying : IsReplaying solver) (asked : SynthLi
       ))
   told_fault stage.OutOfMemory line x h told e = absurd (no_line told)
 
-  told_report : (report : Report) (x : Result Reply (List ℕ)) →
-      IsReport (answers_now solver) asked.order asked.compact text report →
-      x ≡ Ok (report_reply asked.full report) → Told x
-  told_report report x r e =
-      let p = r.promise in
-      certified p.file p.game p.certificate x p.accepted p.is_game p.answered (inr (
+  told_synthesis : (s : SynthesisData) (x : Result Reply (List ℕ)) →
+      IsWinnersSynthesis (answers_now solver) asked.order text s →
+      x ≡ Ok (synthesis_reply asked.full asked.compact s) → Told x
+  told_synthesis s x is e =
+      let p = is.synthesis in
+      certified p.file s.game s.certificate x p.accepted p.is_game p.answered (inr (
         p.certified,
         inr (record {
           is_game = p.is_game;
-          circuit = p.circuit;
-          is_circuit = r.circuit;
-          realizable = report.realizable;
-          is_realizable = p.realizable;
-          is_reply = e ∙ ap Ok (is_reply_by asked.full report
-              ∙ ap₂ (λ (z g : List ℕ). reply_by asked.full report.realizable z g report.certificate_text.items)
-              p.circuit_text.written p.game_text.written
-              ∙ ap (reply_by asked.full report.realizable (text_of p.circuit) (game_text p.game))
-              p.certificate_text.written);
+          circuit = s.circuit;
+          is_circuit = is.circuit;
+          is_reply = e;
         }),
       ))
 
   told : (x : Result Reply (List ℕ)) → AnswersReport solver asked text x → Told x
   told x (inl (line, (fault, cause, lies, is_line), e)) = told_fault fault line x cause is_line e
-  told x (inr (report, is_report, e)) = told_report report x is_report e
+  told x (inr (s, is, (again, e))) = told_synthesis s x is e
 
 pub report_one : OneFile → OneRefusal → OneOutcome → OneFileGame → OneCertificate → OneWinnersCircuit → CircuitOrNone →
     (solver : SolverData) → IsReplaying solver → (asked : SynthLine) (text : List ℕ) →

@@ -1,6 +1,6 @@
 -- The results of a command's steps make up the result of the command.
 use Rattle.std.proofs.Common.{rules, arith, ◌≡◌, ℕ, List, Result, Ok, Err, IsErrAnd}
-use Rattle.std.specs.Prelude.{IfOk}
+use Rattle.std.specs.Prelude.{IfOk, OnOk}
 use Rattle.ps_text.specs.Answers.{Found}
 use Rattle.ps_text.specs.Faults.{UnlessMemory}
 use Rattle.ps_text.specs.declared.faults.Fault.{Fault}
@@ -63,3 +63,8 @@ pub gives_after : {V Y W : Type 0} (step : Result V (List ℕ) → Type 0) (afte
     (next : V → Result W (List ℕ) → Type 0) (value : V) (outcome : Result Y Refusal)
     → step (Ok value) → Gives after (next value) outcome → Gives after (Then step next) outcome
 gives_after step after next value outcome was h = grind arith
+
+-- what holds anyway holds of each success
+pub whenever : {V E : Type 0} {P : Type 0} (result : Result V E) → P → OnOk result P
+whenever (Ok v) p = p
+whenever (Err e) p = tt

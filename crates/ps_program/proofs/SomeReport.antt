@@ -2,7 +2,6 @@
 -- - `certifies_surely`, `certifies_fed`: solving a game has a result if the solver satisfies `MayCertify`, or if it
 --   satisfies `MayReplay` and was fed a text
 -- - `solve_some`, `cert_some`: the commands `solve` and `cert` have a result
--- - `synthesises_some`: synthesis has a result, which is a report or the line that reports a fault
 -- - `synth_some`: the command `synth` has a result
 use Rattle.std.proofs.Common.{◌≡◌, ◌≢◌, ℕ, Bool, true, false, List, length, Result, Ok, Err, refl, ap, inl, inr}
 use Rattle.std.proofs.Common.{◌∙◌}
@@ -39,7 +38,7 @@ use Rattle.ps_program.specs.Games.{AnswersCert, MakesGame, ReadsGameOf}
 use Rattle.ps_program.specs.Solvers.{Solvers}
 use Rattle.ps_program.specs.Solving.{AnswersGame, AnswersSolve, Certifies}
 use Rattle.ps_program.specs.StageFaults.{stage_line}
-use Rattle.ps_program.specs.Synthesis.{AnswersBy, AnswersReport, Synthesises, report_reply}
+use Rattle.ps_program.specs.Synthesis.{AnswersBy, AnswersReport, Synthesises, synthesis_reply}
 use Rattle.ps_program.specs.Texts.{CutsInTwo, ReadsGameText}
 use Rattle.ps_program.specs.declared.commands.SynthLine.{SynthLine}
 use Rattle.ps_program.proofs.AutomatonLemmas.{no_line}
@@ -159,42 +158,33 @@ module _ (below : Below) where
       (certified : (file : FileData) (game : NamedGameData) → IsGameOfFile asked.order file game →
       HasSome (Certifies solver game)) (printed : IsPrintedBy solver asked text) where
     abbrev SomeReport : Type 0
-    SomeReport = HasSome (Synthesises solver asked.order asked.compact text)
+    SomeReport = HasSome (Synthesises solver asked.order text)
 
     module _ (file : FileData) (accepted : IsAcceptedText text file) (game : NamedGameData)
         (is_game : IsGameOfFile asked.order file game) where
       reported : (certificate : CertificateData) → IsCertified game certificate →
           answers_now solver game (Ok certificate) → (circuit : CircuitData) →
           IsWinnersCircuit asked.order file game is_game certificate circuit → SomeReport
-      reported certificate is answered circuit winners =
-          let (report, prints_game, prints_certificate, prints_circuit, realizable) =
-          printed file game is_game certificate circuit accepted answered is winners in (
-            Ok report,
-            record {
-              promise = record {
-                file = file;
-                accepted = accepted;
-                game = game;
-                is_game = is_game;
-                game_text = prints_game;
-                certificate = certificate;
-                answered = answered;
-                certified = is;
-                certificate_text = prints_certificate;
-                both_hold = below.held game.game certificate is.fits is.valid;
-                none_wins_outside =
-                    below.none_outside game.game certificate (below.file_game_sound asked.order file game is_game)
-                    is.fits is.valid;
-                realizable = realizable;
-                circuit = circuit;
-                circuit_text = prints_circuit;
-                answers = below.circuit_answers asked.order file game is_game certificate winners.machine circuit
-                    is.fits is.valid
-                    winners.winners.is_machine winners.winners.propositions winners.winners.machine_of winners.encodes;
-              };
-              circuit = winners;
-            },
-          )
+      reported certificate is answered circuit winners = (
+        Ok (record { game = game; certificate = certificate; circuit = circuit }),
+        record {
+          synthesis = record {
+            file = file;
+            accepted = accepted;
+            is_game = is_game;
+            answered = answered;
+            certified = is;
+            both_hold = below.held game.game certificate is.fits is.valid;
+            none_wins_outside =
+                below.none_outside game.game certificate (below.file_game_sound asked.order file game is_game)
+                is.fits is.valid;
+            answers = below.circuit_answers asked.order file game is_game certificate winners.machine circuit
+                is.fits is.valid
+                winners.winners.is_machine winners.winners.propositions winners.winners.machine_of winners.encodes;
+          };
+          circuit = winners;
+        },
+      )
 
       too_large : (certificate : CertificateData) → IsCertified game certificate →
           answers_now solver game (Ok certificate) → (m : Behaviour) →
@@ -267,8 +257,11 @@ module _ (below : Below) where
 
     report_some : HasSome (AnswersReport solver asked text)
     report_some = let (answer, reads) = below.some_file text in
-        then_some (Synthesises solver asked.order asked.compact text) _ (with_file answer reads)
-        (λ report is. ended_some (Ok (report_reply asked.full report)))
+        then_some (Synthesises solver asked.order text) _ (with_file answer reads)
+        (λ s is. let p = is.synthesis in (
+          Ok (synthesis_reply asked.full asked.compact s),
+          (printed p.file s p.is_game p.accepted p.answered p.certified is.circuit, refl),
+        ))
 
   pub synth_some : (solvers : Solvers) (asked : SynthLine) (texts : List ℕ) (cert : Bool) →
       MaySynthesise cert solvers asked texts → HasSome (AnswersBy cert solvers asked texts)

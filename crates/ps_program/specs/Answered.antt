@@ -9,31 +9,24 @@
 --   possible answer of the solver, even if the certificate is wrong
 -- - `HasSomeSolved solvers`: if `MayCertify` holds for the built-in solver, each input with the command `solve` or
 --   `cert` has an answer
--- - `IsPrintable compact game certificate circuit`: some report has the texts that psyn writes for these three (a text
---   may be too long for a `Vec`)
--- - `OfEachReport solver asked text P`: P holds of the game, the certificate and the circuit of each report that the
+-- - `OfEachSynthesis solver asked text P`: P holds of the game, the certificate and the circuit of each answer that the
 --   command `synth` may print
--- - `FitsInTexts compact game certificate circuit`: the three texts have fewer than 2^63 bytes each, and their numbers
---   fit in 64 bits
+-- - `FitsInWords s`: the numbers in the texts of a game, a certificate and a circuit fit in 64 bits
 -- - `HasSomeSynthesis solvers`: an input with the command `synth` has an answer under two conditions. `MayCertify` or
---   `MayReplay` holds for the solver that `synth` calls. `IsPrintable` holds for each valid certificate that the solver
+--   `MayReplay` holds for the solver that `synth` calls. `IsPrinted` holds for each valid certificate that the solver
 --   may return, and for the winner's circuit that it gives
-use Rattle.std.specs.Prelude.{◌≡◌, ◌↔◌, ⊤, ℕ, ◌^◌, ◌<◌, Bool, true, false, IsTrue, List, length, Some, Result, Ok}
+use Rattle.std.specs.Prelude.{◌≡◌, ⊤, ℕ, Bool, true, false, List, Some, Result, Ok}
 use Rattle.ps_certificate.specs.Certificates.{CertificateData}
-use Rattle.ps_certificate.specs.Written.{HasWords, text_in}
-use Rattle.ps_circuit.specs.Circuits.{CircuitData}
-use Rattle.ps_circuit.specs.Written.{text_of}
+use Rattle.ps_certificate.specs.Written.{HasWords}
 use Rattle.ps_game.specs.Games.{IsGame, IsNamedGame, NamedGameData}
 use Rattle.ps_hoa.specs.Files.{FileData}
 use Rattle.ps_machine.specs.FileGames.{IsGameOfFile}
 use Rattle.ps_machine.specs.Solvers.{SolverData, answers_now, once_fed}
-use Rattle.ps_machine.specs.Solving.{IsCertified, Replays, winner_at_start}
+use Rattle.ps_machine.specs.Solving.{IsCertified, Replays}
 use Rattle.ps_machine.specs.declared.fault.SolveFault.{SolveFault}
-use Rattle.ps_pgsolver.specs.Written.{game_text}
-use Rattle.ps_synthesis.specs.Printing.{HasGameWords, PrintsCertificate, PrintsCircuit, PrintsGame}
-use Rattle.ps_synthesis.specs.Promises.{IsAcceptedText}
+use Rattle.ps_synthesis.specs.Printing.{HasCircuitWords, HasGameWords}
+use Rattle.ps_synthesis.specs.Promises.{IsAcceptedText, SynthesisData}
 use Rattle.ps_synthesis.specs.Reports.{IsWinnersCircuit}
-use Rattle.ps_synthesis.specs.declared.report.Report.{Report}
 use Rattle.ps_program.specs.declared.commands.Line.{Line}
 use Rattle.ps_program.specs.declared.commands.Line.TheVariants.{Refused, Help, Closed, Check, Judge, Sim, Lasso}
 use Rattle.ps_program.specs.declared.commands.Line.TheVariants.{LassoTlsf, Game, Solve, Cert, Synth}
@@ -43,6 +36,7 @@ use Rattle.ps_program.specs.Cut.{behind_line, first_line}
 use Rattle.ps_program.specs.Program.{AnswersInput}
 use Rattle.ps_program.specs.Replies.{Reply}
 use Rattle.ps_program.specs.Solvers.{Solvers}
+use Rattle.ps_program.specs.Synthesis.{IsPrinted}
 use Rattle.ps_program.specs.Texts.{CutsInTwo}
 
 abbrev pub HasReply : Solvers → List ℕ → Type 0
@@ -90,42 +84,31 @@ abbrev pub HasSomeSolved : Solvers → Type 0
 HasSomeSolved solvers = MayCertify solvers.built_in → (input : List ℕ) (line : Line) →
     IsLine (first_line input) line → IsSolved line → HasReply solvers input
 
-abbrev pub IsPrintable : Bool → NamedGameData → CertificateData → CircuitData → Type 0
-IsPrintable compact game certificate circuit =
-    (report : Report) × PrintsGame report.game_text.items game
-    × PrintsCertificate compact report.certificate_text.items game certificate
-    × PrintsCircuit report.circuit_text.items circuit × (IsTrue report.realizable ↔ (winner_at_start certificate ≡ 0))
-
--- The game is well-formed, and the three texts that psyn writes can be held in memory and parsed. Each text has fewer
--- than 2 ^ 63 bytes, so a `Vec` can hold it. The numbers in the texts of the game and the certificate fit in 64 bits.
-pub record FitsInTexts (compact : Bool) (game : NamedGameData) (certificate : CertificateData)
-    (circuit : CircuitData) : Type 0 where
-  pub well_formed : IsNamedGame game
-  pub game_short : length (game_text game) < 2 ^ 63
-  pub certificate_short : length (text_in compact game certificate) < 2 ^ 63
-  pub circuit_short : length (text_of circuit) < 2 ^ 63
-  pub game_words : HasGameWords game
-  pub certificate_words : HasWords game.ids certificate
-
 -- P holds for the automaton's game, each valid certificate that this solver may return for the game, and the winner's
 -- circuit that the certificate gives
-abbrev pub OfEachReport : SolverData → SynthLine → List ℕ →
-    (Bool → NamedGameData → CertificateData → CircuitData → Type 0) → Type 0
-OfEachReport solver asked text P = (file : FileData) (game : NamedGameData)
-    (is_game : IsGameOfFile asked.order file game) (certificate : CertificateData) (circuit : CircuitData) →
-    IsAcceptedText text file → answers_now solver game (Ok certificate) → IsCertified game certificate →
-    IsWinnersCircuit asked.order file game is_game certificate circuit → P asked.compact game certificate circuit
+abbrev pub OfEachSynthesis : SolverData → SynthLine → List ℕ → (SynthesisData → Type 0) → Type 0
+OfEachSynthesis solver asked text P = (file : FileData) (s : SynthesisData)
+    (is_game : IsGameOfFile asked.order file s.game) → IsAcceptedText text file →
+    answers_now solver s.game (Ok s.certificate) → IsCertified s.game s.certificate →
+    IsWinnersCircuit asked.order file s.game is_game s.certificate s.circuit → P s
 
 abbrev pub IsPrintedBy : SolverData → SynthLine → List ℕ → Type 0
-IsPrintedBy solver asked text = OfEachReport solver asked text IsPrintable
+IsPrintedBy solver asked text = OfEachSynthesis solver asked text (IsPrinted asked.full asked.compact)
 
--- if the texts of each report fit, each report can be printed
+-- the game is well-formed, and the numbers in the texts of the game, the certificate and the circuit fit in 64 bits
+pub record FitsInWords (s : SynthesisData) : Type 0 where
+  pub well_formed : IsNamedGame s.game
+  pub game : HasGameWords s.game
+  pub certificate : HasWords s.game.ids s.certificate
+  pub circuit : HasCircuitWords s.circuit
+
+-- if the numbers of all three values fit in 64 bits, parsing their texts gives the values again
 abbrev pub ArePrinted : SolverData → Type 0
-ArePrinted solver =
-    (asked : SynthLine) (text : List ℕ) → OfEachReport solver asked text FitsInTexts → IsPrintedBy solver asked text
+ArePrinted solver = (asked : SynthLine) (text : List ℕ) → OfEachSynthesis solver asked text FitsInWords →
+    IsPrintedBy solver asked text
 
--- the solver that `synth` calls meets its condition (`MayCertify`, or with `--cert` `MayReplay`), and `IsPrintable`
--- holds for each valid certificate that it may return
+-- the solver that `synth` calls meets its condition (`MayCertify`, or with `--cert` `MayReplay`), and `IsPrinted` holds
+-- for each valid certificate that it may return
 abbrev pub MaySynthesise : (cert : Bool) → Solvers → SynthLine → List ℕ → Type 0
 MaySynthesise false solvers asked texts = MayCertify solvers.built_in × IsPrintedBy solvers.built_in asked texts
 MaySynthesise true solvers asked texts = MayReplay solvers.replay

@@ -4,7 +4,7 @@
 -- - `IsUndetermined line texts`: for these texts, the command in the line may have more than one correct answer
 -- - `IsReplaying solver`: the solver only returns the result of parsing the text that it was fed, unless memory runs
 --   out
--- - `AgreeAsReports order full text a b`: two reports for a text have the same winner and the automaton's game
+-- - `AgreeAsReports order full compact text a b`: both answers show the same winner of the automaton's game
 -- - `AgreeInWinners compact game a b`: the answers a and b print certificates of the game with the same winners
 -- - `AgreeAsLosing order role file c a b`: both answers show a stimulus on which the circuit loses
 -- - `AgreeInLoser named given a b`: both answers report a cycle that the same player loses
@@ -27,12 +27,10 @@ use Rattle.ps_solution.specs.Solved.{SolutionData}
 use Rattle.ps_hoa.specs.Files.{FileData}
 use Rattle.ps_machine.specs.FileGames.{IsGameOfFile}
 use Rattle.ps_machine.specs.Solvers.{SolverData}
-use Rattle.ps_machine.specs.Solving.{IsCertified, Replays}
+use Rattle.ps_machine.specs.Solving.{IsCertified, Replays, winner_at_start}
 use Rattle.ps_machine.specs.declared.fault.SolveFault.{SolveFault}
 use Rattle.ps_machine.specs.declared.key.Order.{Order}
-use Rattle.ps_pgsolver.specs.Written.{game_text}
-use Rattle.ps_synthesis.specs.Promises.{IsAcceptedText}
-use Rattle.ps_synthesis.specs.declared.report.Report.{Report}
+use Rattle.ps_synthesis.specs.Promises.{IsAcceptedText, SynthesisData}
 use Rattle.ps_program.specs.CommandLine.{Usage, IsLine, commands}
 use Rattle.ps_program.specs.Cut.{HasFewerSeparators, behind_line, first_line}
 use Rattle.ps_program.specs.Games.{ReadsGameOf}
@@ -40,7 +38,7 @@ use Rattle.ps_program.specs.Judging.{ReadsSolved, Loses, LosesCycle, cycle_text}
 use Rattle.ps_program.specs.Program.{AnswersLine, AnswersWhole}
 use Rattle.ps_program.specs.Replies.{Reply, fault_reply, text_reply}
 use Rattle.ps_program.specs.Solvers.{Solvers}
-use Rattle.ps_program.specs.Synthesis.{report_reply}
+use Rattle.ps_program.specs.Synthesis.{synthesis_reply}
 use Rattle.ps_program.specs.Verifying.{ReadsVerified, loses_reply}
 use Rattle.ps_program.specs.Texts.{CutsInTwo, ReadsGameText, missing_text}
 use Rattle.ps_program.specs.declared.commands.Line.{Line}
@@ -73,20 +71,18 @@ abbrev pub IsReplaying : SolverData → Type 0
 IsReplaying solver = (fed : Option (List ℕ)) (game : NamedGameData) (answer : Result CertificateData SolveFault) →
     solver.may_answer fed game answer → Replays game fed answer
 
--- Two reports that `synth` may print for one automaton have the same winner, and both print the automaton's game. So
--- two answers to `synth` for this automaton have the same exit status and the same first line.
-pub record AgreeAsReports (order : Order) (full : Bool) (text : List ℕ) (a b : Reply) : Type 0 where
+-- Two answers that `synth` may print for one automaton have the same game and the same winner. So they have the same
+-- exit status and the same first line.
+pub record AgreeAsReports (order : Order) (full compact : Bool) (text : List ℕ) (a b : Reply) : Type 0 where
   pub file : FileData
   pub accepted : IsAcceptedText text file
-  pub game : NamedGameData
-  pub is_game : IsGameOfFile order file game
-  pub one : Report
-  pub other : Report
-  pub is_one : a ≡ report_reply full one
-  pub is_other : b ≡ report_reply full other
-  pub one_game : one.game_text.items ≡ game_text game
-  pub other_game : other.game_text.items ≡ game_text game
-  pub winner : one.realizable ≡ other.realizable
+  pub one : SynthesisData
+  pub other : SynthesisData
+  pub is_game : IsGameOfFile order file one.game
+  pub game : one.game ≡ other.game
+  pub winner : winner_at_start one.certificate ≡ winner_at_start other.certificate
+  pub is_one : a ≡ synthesis_reply full compact one
+  pub is_other : b ≡ synthesis_reply full compact other
 
 -- two answers print certificates of the game that assign the same winner to each vertex
 pub record AgreeInWinners (compact : Bool) (game : NamedGameData) (a b : Reply) : Type 0 where
@@ -129,7 +125,7 @@ Agree (Solve compact) text a b = (game : NamedGameData) × ReadsGameText text (O
 Agree (Cert order compact) text a b =
     (game : NamedGameData) × ReadsGameOf order text (Ok game) × AgreeInWinners compact game a b
 Agree (Synth asked) texts a b =
-    (text : List ℕ) × AsksFor asked.cert texts text × AgreeAsReports asked.order asked.full text a b
+    (text : List ℕ) × AsksFor asked.cert texts text × AgreeAsReports asked.order asked.full asked.compact text a b
 Agree line texts a b = a ≡ b
 
 abbrev pub IsFaultReply : Reply → Type 0

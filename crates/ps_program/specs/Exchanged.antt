@@ -8,6 +8,7 @@ use Rattle.std.specs.Prelude.{◌≡◌, ◌↔◌, ℕ, Bool, true, List, codes
 use Rattle.ps_certificate.specs.Certificates.{CertificateData}
 use Rattle.ps_certificate.specs.Written.{HasWords, text_in}
 use Rattle.ps_circuit.specs.Circuits.{CircuitData}
+use Rattle.ps_circuit.specs.Written.{text_of}
 use Rattle.ps_game.specs.Games.{IsNamedGame, NamedGameData}
 use Rattle.ps_hoa.specs.Files.{FileData}
 use Rattle.ps_machine.specs.Solvers.{SolverData}
@@ -16,11 +17,12 @@ use Rattle.ps_machine.specs.declared.key.Order.{Order}
 use Rattle.ps_simulate.specs.Stimuli.{StimulusData}
 use Rattle.ps_simulate.specs.declared.role.Role.{Role}
 use Rattle.ps_simulate.specs.declared.role.Role.TheVariants.{Controller, Environment}
-use Rattle.ps_synthesis.specs.declared.report.Report.{Report}
+use Rattle.ps_synthesis.specs.Printing.{PrintsCircuit}
+use Rattle.ps_synthesis.specs.Promises.{SynthesisData}
 use Rattle.ps_verify.specs.Judgements.{IsLosing}
 use Rattle.ps_program.specs.Checks.{AnswersCheck}
 use Rattle.ps_program.specs.Replies.{Reply, line_reply}
-use Rattle.ps_program.specs.Synthesis.{Synthesises}
+use Rattle.ps_program.specs.Synthesis.{Synthesises, is_realizable}
 use Rattle.ps_program.specs.Texts.{CutsInTwo, ReadsGameText, ReadsStimulusText}
 use Rattle.ps_program.specs.Verifying.{AnswersVerify, stimulus_text, wins_reply}
 
@@ -40,9 +42,9 @@ ChecksCertificates = (compact : Bool) (named : NamedGameData) (certificate : Cer
 abbrev pub role_that_wins : Bool → Role
 role_that_wins realizable = if realizable then Controller else Environment
 
--- `texts` are the text of an automaton, and the circuit of the report that `synth` prints for this automaton
+-- `texts` are the text of an automaton, and the circuit that `synth` prints for this automaton
 abbrev pub VerifiesCircuits : SolverData → Type 0
-VerifiesCircuits solver = (order : Order) (compact : Bool) (text texts : List ℕ) (report : Report)
-    (outcome : Result Reply (List ℕ)) → Synthesises solver order compact text (Ok report) →
-    CutsInTwo texts (Ok (text, report.circuit_text.items)) →
-    AnswersVerify order (role_that_wins report.realizable) texts outcome ↔ (outcome ≡ Ok wins_reply)
+VerifiesCircuits solver = (order : Order) (text texts : List ℕ) (s : SynthesisData) (outcome : Result Reply (List ℕ)) →
+    Synthesises solver order text (Ok s) → PrintsCircuit (text_of s.circuit) s.circuit →
+    CutsInTwo texts (Ok (text, text_of s.circuit)) →
+    AnswersVerify order (role_that_wins (is_realizable s.certificate)) texts outcome ↔ (outcome ≡ Ok wins_reply)

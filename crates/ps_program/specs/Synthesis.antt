@@ -1,12 +1,21 @@
 -- The command that makes a circuit from an automaton.
+-- - `synthesis_reply full compact s`: what the program prints for a solved game and its circuit
+-- - `IsPrinted full compact s`: parsing each printed text gives the printed value again
 -- - `AnswersSynth solvers asked texts`: what the program answers to the command `synth`
-use Rattle.std.specs.Prelude.{◌≡◌, ℕ, Bool, true, false, List, ◌++◌, codes, Some, Result, Ok, Err, if◌then◌else◌}
+use Rattle.std.specs.Prelude.{◌≡◌, ℕ, Bool, true, false, List, ◌++◌, codes, nat_eq, Some, Result, Ok, Err, if◌then◌else◌}
+use Rattle.ps_certificate.specs.Certificates.{CertificateData}
+use Rattle.ps_certificate.specs.Written.{text_in}
+use Rattle.ps_circuit.specs.Written.{text_of}
+use Rattle.ps_game.specs.Games.{NamedGameData}
 use Rattle.ps_machine.specs.Solvers.{SolverData, answers_now, once_fed}
+use Rattle.ps_machine.specs.Solving.{winner_at_start}
 use Rattle.ps_machine.specs.declared.key.Order.{Order}
-use Rattle.ps_synthesis.specs.Reports.{IsReport}
+use Rattle.ps_pgsolver.specs.Written.{game_text}
+use Rattle.ps_synthesis.specs.Printing.{PrintsCertificate, PrintsCircuit, PrintsGame}
+use Rattle.ps_synthesis.specs.Promises.{SynthesisData}
+use Rattle.ps_synthesis.specs.Reports.{IsWinnersSynthesis}
 use Rattle.ps_synthesis.specs.SynthFaults.{IsSynthFault}
 use Rattle.ps_synthesis.specs.declared.fault.SynthFault.{SynthFault}
-use Rattle.ps_synthesis.specs.declared.report.Report.{Report}
 use Rattle.ps_program.specs.declared.commands.SynthLine.{SynthLine}
 use Rattle.ps_program.specs.Outcomes.{Then}
 use Rattle.ps_program.specs.Replies.{Reply}
@@ -16,9 +25,9 @@ use Rattle.ps_program.specs.Texts.{CutsInTwo}
 
 -- ---- the printed text
 
--- the game and its certificate, each after a line `%%`
-abbrev pub proof_text : Report → List ℕ
-proof_text report = codes "%%\n" ++ report.game_text.items ++ codes "%%\n" ++ report.certificate_text.items
+-- whether the controller, player 0, wins
+abbrev pub is_realizable : CertificateData → Bool
+is_realizable certificate = nat_eq (winner_at_start certificate) 0
 
 -- the line that states the winner
 abbrev pub verdict_line : Bool → List ℕ
@@ -28,32 +37,43 @@ abbrev pub verdict_status : Bool → ℕ
 verdict_status realizable = if realizable then 10 else 20
 
 -- the line that states the winner, and then the winner's circuit
-abbrev pub circuit_part : Report → List ℕ
-circuit_part report = verdict_line report.realizable ++ report.circuit_text.items
+abbrev pub circuit_part : SynthesisData → List ℕ
+circuit_part s = verdict_line (is_realizable s.certificate) ++ text_of s.circuit
 
--- the text of a report: if `full` is true, the whole report, and otherwise only the winner and the circuit
-abbrev pub report_text : (full : Bool) → Report → List ℕ
-report_text true report = circuit_part report ++ proof_text report
-report_text false report = circuit_part report
+-- the game and its certificate, each after a line `%%`
+abbrev pub proof_text : (compact : Bool) → NamedGameData → CertificateData → List ℕ
+proof_text compact game certificate =
+    codes "%%\n" ++ game_text game ++ codes "%%\n" ++ text_in compact game certificate
 
-abbrev pub report_reply : Bool → Report → Reply
-report_reply full report = record { text = report_text full report; status = verdict_status report.realizable }
+-- the game and its certificate are printed if `full` is true
+abbrev pub synthesis_text : (full compact : Bool) → SynthesisData → List ℕ
+synthesis_text true compact s = circuit_part s ++ proof_text compact s.game s.certificate
+synthesis_text false compact s = circuit_part s
+
+abbrev pub synthesis_reply : (full compact : Bool) → SynthesisData → Reply
+synthesis_reply full compact s =
+    record { text = synthesis_text full compact s; status = verdict_status (is_realizable s.certificate) }
+
+abbrev pub IsPrinted : (full compact : Bool) → SynthesisData → Type 0
+IsPrinted true compact s = PrintsCircuit (text_of s.circuit) s.circuit × PrintsGame (game_text s.game) s.game
+    × PrintsCertificate compact (text_in compact s.game s.certificate) s.game s.certificate
+IsPrinted false compact s = PrintsCircuit (text_of s.circuit) s.circuit
 
 -- ---- the answer
 
--- The result of synthesis: a report, or the line that reports a fault. A fault comes from the solver only if the solver
--- is not sure, that is, if it may return a wrong certificate or fail though memory suffices.
-abbrev pub Synthesises : SolverData → Order → Bool → List ℕ → Result Report (List ℕ) → Type 0
-Synthesises solver order compact text (Ok report) = IsReport (answers_now solver) order compact text report
-Synthesises solver order compact text (Err line) =
+-- The result of synthesis: the text's game with a certificate and the winner's circuit, or the line that reports a
+-- fault. A fault comes from the solver only if the solver is not sure, that is, if it may return a wrong certificate or
+-- fail though memory suffices.
+abbrev pub Synthesises : SolverData → Order → List ℕ → Result SynthesisData (List ℕ) → Type 0
+Synthesises solver order text (Ok s) = IsWinnersSynthesis (answers_now solver) order text s
+Synthesises solver order text (Err line) =
     (fault : SynthFault) × IsSynthFault (answers_now solver) order text fault
     × (IsOfSolver fault → solver.is_sure ≡ false) × (stage_line fault ≡ Some line)
 
 -- the circuit of an HOA text, made with the given solver
 abbrev pub AnswersReport : SolverData → SynthLine → List ℕ → Result Reply (List ℕ) → Type 0
-AnswersReport solver asked text =
-    Then (Synthesises solver asked.order asked.compact text) (λ report outcome.
-    outcome ≡ Ok (report_reply asked.full report))
+AnswersReport solver asked text = Then (Synthesises solver asked.order text) (λ s outcome.
+    IsPrinted asked.full asked.compact s × (outcome ≡ Ok (synthesis_reply asked.full asked.compact s)))
 
 -- the circuit of an HOA text, made with the given solver after it was fed the certificate that follows the text
 abbrev pub AnswersCertified : SolverData → SynthLine → List ℕ → Result Reply (List ℕ) → Type 0

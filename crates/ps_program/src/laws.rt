@@ -9,8 +9,6 @@ ghost use Rattle.ps_program.specs.Determined.{HasOneAnswer, HasOneCertified, Nee
 ghost use Rattle.ps_program.specs.Exchanged.{ChecksCertificates, ReadsLosing, VerifiesCircuits};
 ghost use Rattle.ps_program.specs.Solvers.{Solvers, solvers_of};
 
-use std::alloc::Global;
-
 /// Data of two solvers. The laws of answers hold for any data, and need no solver: a type with an `impl` of this trait
 /// has no values that matter.
 pub trait KnownSolvers {
@@ -78,10 +76,9 @@ pub fn missing_text_is_told<S: KnownSolvers>()
 /// must not be a sure one (which returns only valid certificates), because the text may be a wrong certificate. psyn's
 /// own solvers meet these conditions (`own_solvers_may_answer`).
 ///
-/// The second condition is that some report can have the texts that psyn writes for the game, the certificate and the
-/// circuit; a text may be too long for a `Vec`. Parsing the text of the certificate or the circuit must give the same
-/// value again. Parsing the game's text must give the same game again, unless the text is longer than the parser
-/// accepts. The law `fitting_texts_are_printed` states when this condition is met.
+/// The second condition is that parsing each printed text gives the printed value again: the circuit, and with `--full`
+/// the certificate and the game, unless the game's text is longer than the parser accepts. The law
+/// `fitting_texts_are_printed` states when this condition is met.
 ///
 /// The command `verify` is left out, because a proof for it would have to decide, as the code does, whether an
 /// automaton accepts all lasso traces of a circuit.
@@ -127,14 +124,11 @@ pub fn own_solvers_may_answer()
     ps_machine::each_game_has_a_certificate();
 }
 
-/// Discharges the second condition of `some_answer` for `synth`: a report can be printed if the texts of its circuit,
-/// game and certificate have fewer than 2^63 bytes each, and the numbers in them fit in 64 bits. The texts of a report
-/// are held in `Vec`s, for which the law needs an allocator; it allocates nothing.
-pub fn fitting_texts_are_printed<S: KnownSolvers>(alloc: Global)
+/// Discharges the second condition of `some_answer` for `synth`: parsing each text that `synth` prints gives the
+/// printed value again if the numbers of its circuit, game and certificate fit in 64 bits.
+pub fn fitting_texts_are_printed<S: KnownSolvers>()
     ensures { ArePrinted S.solvers.built_in }
 {
-    let bytes: Vec<u8> = Vec::new(alloc);
-    drop(bytes);
     ps_synthesis::written_texts_are_read();
     ps_traces::certified_circuit_of_file_answers();
 }

@@ -12,7 +12,7 @@
 //! | `lines_are_read`, `missing_text_is_told` | laws: how command lines are read; a command needs each of its texts |
 //! | `one_answer` | a law: an input has one answer, except for what a solver may choose |
 //! | `some_answer`, `own_solvers_may_answer` | laws: an input has an answer, except that nothing is said of `verify` |
-//! | `fitting_texts_are_printed` | a law: a report can be printed if its texts and their numbers are not too large |
+//! | `fitting_texts_are_printed` | a law: what `synth` prints can be parsed again if its numbers fit in 64 bits |
 //! | `losing_stimulus_is_read`, `circuits_are_verified` | laws: what `verify` and `synth` print is read |
 //! | `certificates_are_checked` | a law: `check` answers `valid` for a certificate that another command prints |
 //!

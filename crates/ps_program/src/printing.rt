@@ -1,45 +1,60 @@
-//! Prints the report of a synthesis.
+//! Prints a solved synthesis problem.
 
-ghost use Rattle.std.specs.Prelude.{◌≡◌, ◌++◌, false, IfOk};
+ghost use Rattle.std.specs.Prelude.{◌≡◌, ◌<◌, ◌++◌, codes, length, IfOk, OnOk};
+ghost use Rattle.ps_certificate.specs.Certificates.{Fits};
+ghost use Rattle.ps_certificate.specs.Written.{text_in};
+ghost use Rattle.ps_circuit.specs.Written.{text_of};
+ghost use Rattle.ps_game.specs.Games.{vertex_count};
+ghost use Rattle.ps_pgsolver.specs.Written.{game_text};
 ghost use Rattle.ps_program.specs.Replies.{reply_of};
-ghost use Rattle.ps_program.specs.Synthesis.{proof_text, report_reply, verdict_line, verdict_status};
-ghost use Rattle.ps_synthesis.specs.Briefs.{IsPartOf};
-ghost use Rattle.ps_synthesis.specs.declared.report.Report as reports;
+ghost use Rattle.ps_program.specs.Synthesis.{IsPrinted, is_realizable, proof_text, synthesis_reply, verdict_line, verdict_status};
+ghost use Rattle.ps_synthesis.specs.Printing.{PrintsCertificate, PrintsCircuit, PrintsGame};
 
 use crate::answer::{Answer, REALIZABLE, UNREALIZABLE};
-use ps_synthesis::{BriefReport, Report};
+use crate::commands::SynthLine;
+use ps_certificate::Certificate;
+use ps_game::NamedGame;
+use ps_synthesis::{Synthesis, certificate_text};
 use std::alloc::{AllocError, Global};
 
 /// The line `%%`, which separates the parts of an answer.
 const DIVIDER: &[u8] = b"%%\n";
 
-/// The text that is printed for a report. Fails if memory runs out.
-pub fn print(alloc: Global, report: &Report, full: bool) -> Result<Answer, AllocError>
-    ensures { IfOk result (λ answer. reply_of answer ≡ report_reply full report.now) }
+/// What is printed for a solved game: the winner, the winner's circuit and, if they are asked for, the game and its
+/// certificate. Fails if memory runs out.
+pub fn print(
+    alloc: Global,
+    asked: SynthLine,
+    game: &NamedGame,
+    synthesis: &Synthesis,
+) -> Result<Answer, AllocError>
+    requires some { 0 < vertex_count game.now.game }
+    requires fits { Fits game.now.game synthesis.now.certificate }
+    ensures answer { IfOk result (λ answer. reply_of answer ≡ synthesis_reply asked.full asked.compact
+        (record { game = game.now; certificate = synthesis.now.certificate; circuit = synthesis.now.circuit })) }
+    ensures printed { IfOk result (λ _. IsPrinted asked.full asked.compact
+        (record { game = game.now; certificate = synthesis.now.certificate; circuit = synthesis.now.circuit })) }
 {
-    let mut answer = print_circuit(alloc, report.realizable, &report.circuit_text)?;
-    if full {
-        add_proof(&mut answer.text, report)?;
+    let mut answer = print_circuit(alloc, synthesis)?;
+    if asked.full {
+        let certificate = &synthesis.certificate;
+        add_proof(alloc, &mut answer.text, game, certificate, asked.compact)?;
     }
     Ok(answer)
 }
 
-/// The text that is printed for a report if only the winner and the circuit are asked for. Fails if memory runs out.
-pub(crate) fn print_briefly(alloc: Global, brief: &BriefReport) -> Result<Answer, AllocError>
-    ensures { IfOk result (λ answer. (report : reports.Report) → IsPartOf report brief.now →
-        reply_of answer ≡ report_reply false report) }
-{
-    print_circuit(alloc, brief.realizable, &brief.circuit_text)
-}
-
 /// The line that states the winner, and then the winner's circuit. Fails if memory runs out.
-fn print_circuit(alloc: Global, realizable: bool, circuit_text: &[u8]) -> Result<Answer, AllocError>
-    ensures text { IfOk result (λ answer. answer.text.items ≡ verdict_line realizable ++ circuit_text.now) }
-    ensures status { IfOk result (λ answer. answer.status ≡ verdict_status realizable) }
+fn print_circuit(alloc: Global, synthesis: &Synthesis) -> Result<Answer, AllocError>
+    requires { 0 < length synthesis.now.certificate.entries }
+    ensures text { IfOk result (λ answer. answer.text.items ≡
+        verdict_line (is_realizable synthesis.now.certificate) ++ text_of synthesis.now.circuit) }
+    ensures status { IfOk result (λ answer. answer.status ≡
+        verdict_status (is_realizable synthesis.now.certificate)) }
+    ensures printed { IfOk result (λ _. PrintsCircuit (text_of synthesis.now.circuit) synthesis.now.circuit) }
 {
-    let (word, status) = verdict(realizable);
+    let (word, status) = verdict(synthesis.certificate.winner(0) == 0);
     let mut text = word.as_bytes().to_vec(alloc)?;
-    text.extend_from_slice(circuit_text)?;
+    text.extend_from_slice(&ps_aiger::write(alloc, &synthesis.circuit)?)?;
     Ok(Answer { text, status })
 }
 
@@ -56,11 +71,49 @@ fn verdict(realizable: bool) -> (&'static str, u8)
 }
 
 /// Appends the game and its certificate, each after a line `%%`.
-fn add_proof(text: &mut Vec<u8>, report: &Report) -> Result<(), AllocError>
-    ensures { IfOk result (λ _. text.new.items ≡ text.old.items ++ proof_text report.now) }
+fn add_proof(
+    alloc: Global,
+    text: &mut Vec<u8>,
+    game: &NamedGame,
+    certificate: &Certificate,
+    compact: bool,
+) -> Result<(), AllocError>
+    requires some { 0 < vertex_count game.now.game }
+    requires fits { Fits game.now.game certificate.now }
+    ensures text { OnOk result (text.new.items ≡
+        text.old.items ++ proof_text compact game.now certificate.now) }
+    ensures game { OnOk result (PrintsGame (game_text game.now) game.now) }
+    ensures certificate { OnOk result (PrintsCertificate compact (text_in compact game.now certificate.now) game.now
+        certificate.now) }
+{
+    add_game(alloc, text, game)?;
+    add_certificate(alloc, text, game, certificate, compact)
+}
+
+/// Appends a line `%%` and the text of the game.
+fn add_game(alloc: Global, text: &mut Vec<u8>, game: &NamedGame) -> Result<(), AllocError>
+    requires { 0 < vertex_count game.now.game }
+    ensures text { OnOk result (text.new.items ≡ text.old.items ++ codes "%%\n" ++ game_text game.now) }
+    ensures printed { OnOk result (PrintsGame (game_text game.now) game.now) }
 {
     text.extend_from_slice(DIVIDER)?;
-    text.extend_from_slice(&report.game_text)?;
+    text.extend_from_slice(&ps_pgsolver::write(alloc, game)?)
+}
+
+/// Appends a line `%%` and the plain or the compact text of a certificate of the game.
+fn add_certificate(
+    alloc: Global,
+    text: &mut Vec<u8>,
+    game: &NamedGame,
+    certificate: &Certificate,
+    compact: bool,
+) -> Result<(), AllocError>
+    requires { Fits game.now.game certificate.now }
+    ensures text { OnOk result (text.new.items ≡
+        text.old.items ++ codes "%%\n" ++ text_in compact game.now certificate.now) }
+    ensures printed { OnOk result (PrintsCertificate compact (text_in compact game.now certificate.now) game.now
+        certificate.now) }
+{
     text.extend_from_slice(DIVIDER)?;
-    text.extend_from_slice(&report.certificate_text)
+    text.extend_from_slice(&certificate_text(alloc, certificate, game, compact)?)
 }

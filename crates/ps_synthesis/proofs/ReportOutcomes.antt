@@ -1,18 +1,19 @@
 -- If each possible answer of one solver is a possible answer of another, a result of synthesis that is right for the
 -- first solver is right for the other as well. In each of the three cases of `IsReportOrFault`, a report guarantees
 -- what it states, and a fault has the reason that `IsSynthFault` states.
-use Rattle.std.proofs.Common.{rules, arith, ℕ, Bool, List, Result, Ok, Err, refl, subst, sym}
+use Rattle.std.proofs.Common.{rules, arith, ◌≡◌, ℕ, Bool, List, Result, Ok, Err, refl, subst, sym}
 use Rattle.std.specs.Prelude.{IfErr, IfOk}
+use Rattle.std.specs.Result.{IsErrAnd}
 use Rattle.ps_certificate.specs.Certificates.{CertificateData}
 use Rattle.ps_game.specs.Games.{NamedGameData}
 use Rattle.ps_hoa.specs.Files.{FileData}
 use Rattle.ps_machine.specs.declared.fault.SolveFault.{SolveFault}
 use Rattle.ps_machine.specs.declared.key.Order.{Order}
 use Rattle.ps_machine.specs.Solvers.{MayAnswer}
-use Rattle.ps_synthesis.specs.Promises.{KeepsPromise}
-use Rattle.ps_synthesis.specs.Reports.{IsReport}
+use Rattle.ps_synthesis.specs.Promises.{IsSynthesis, SynthesisData}
+use Rattle.ps_synthesis.specs.Reports.{IsReport, IsWinnersSynthesis}
 use Rattle.ps_synthesis.specs.SynthFaults.{IsReportOrFault, Reported, TooLarge, LacksMemory, IsSynthFault, IsTooLarge}
-use Rattle.ps_synthesis.specs.SynthFaults.{OfGame}
+use Rattle.ps_synthesis.specs.SynthFaults.{IsSureFault, OfGame}
 use Rattle.ps_synthesis.specs.declared.fault.SynthFault.{SynthFault}
 use Rattle.ps_synthesis.specs.declared.fault.SynthFault.TheVariants.{Text, Automaton, BadCycle, Certificate}
 use Rattle.ps_synthesis.specs.declared.fault.SynthFault.TheVariants.{NotCertified, CircuitTooLarge, OutOfMemory}
@@ -24,30 +25,37 @@ AnswersMore May Other =
     (game : NamedGameData) (answer : Result CertificateData SolveFault) → May game answer → Other game answer
 
 module _ (May Other : MayAnswer) (more : AnswersMore May Other) (order : Order) (text : List ℕ) where
-  promise_more : (compact : Bool) (report : Report) → KeepsPromise May order compact text report →
-      KeepsPromise Other order compact text report
-  promise_more compact report p = record {
-    file = p.file;
-    accepted = p.accepted;
-    game = p.game;
-    is_game = p.is_game;
-    game_text = p.game_text;
-    certificate = p.certificate;
-    answered = more p.game (Ok p.certificate) p.answered;
-    certified = p.certified;
-    certificate_text = p.certificate_text;
-    both_hold = p.both_hold;
-    none_wins_outside = p.none_wins_outside;
-    realizable = p.realizable;
-    circuit = p.circuit;
-    circuit_text = p.circuit_text;
-    answers = p.answers;
+  synthesis_more : (s : SynthesisData) → IsSynthesis May order text s → IsSynthesis Other order text s
+  synthesis_more s is = record {
+    file = is.file;
+    accepted = is.accepted;
+    is_game = is.is_game;
+    answered = more s.game (Ok s.certificate) is.answered;
+    certified = is.certified;
+    both_hold = is.both_hold;
+    none_wins_outside = is.none_wins_outside;
+    answers = is.answers;
   }
+
+  pub winners_more : (s : SynthesisData) → IsWinnersSynthesis May order text s → IsWinnersSynthesis Other order text s
+  unfolding synthesis_more
+  winners_more s is = record { synthesis = synthesis_more s is.synthesis; circuit = is.circuit }
 
   pub report_more : (compact : Bool) (report : Report) → IsReport May order compact text report →
       IsReport Other order compact text report
-  unfolding promise_more
-  report_more compact report r = record { promise = promise_more compact report r.promise; circuit = r.circuit }
+  unfolding synthesis_more
+  report_more compact report r = let p = r.promise in
+      record {
+        promise = record {
+          printed = p.printed;
+          synthesis = synthesis_more p.printed p.synthesis;
+          realizable = p.realizable;
+          game_text = p.game_text;
+          certificate_text = p.certificate_text;
+          circuit_text = p.circuit_text;
+        };
+        circuit = r.circuit;
+      }
 
   of_game : (P Q : FileData → NamedGameData → Type 0) → OfGame order text P →
       ((file : FileData) (game : NamedGameData) → P file game → Q file game) → OfGame order text Q
@@ -74,12 +82,6 @@ module _ (May Other : MayAnswer) (more : AnswersMore May Other) (order : Order) 
 
 -- ## Outcomes
 
--- the faults that synthesis can return for an accepted text if the solver is sure (all its certificates are valid)
-abbrev pub IsSureFault : SynthFault → Type 0
-IsSureFault CircuitTooLarge = Unit {0}
-IsSureFault OutOfMemory = Unit {0}
-IsSureFault fault = ⊥
-
 module _ (May : MayAnswer) (order : Order) (compact : Bool) (text : List ℕ) where
   pub outcome : (answer : Result Report SynthFault) → IfOk answer (IsReport May order compact text) →
       IfErr answer (IsSynthFault May order text) → IfErr answer IsSureFault →
@@ -92,6 +94,13 @@ module _ (May : MayAnswer) (order : Order) (compact : Bool) (text : List ℕ) wh
   outcome (Err (BadCycle ids)) is cause sure = absurd sure
   outcome (Err (Certificate c offset)) is cause sure = absurd sure
   outcome (Err NotCertified) is cause sure = absurd sure
+
+  -- a fault that is passed on
+  pub failed : (answer : Result Report SynthFault) (fault : SynthFault) → IsErrAnd answer (λ given. given ≡ fault) →
+      IsSynthFault May order text fault → IsSureFault fault → IsReportOrFault May order compact text answer
+  failed (Ok report) fault passed cause sure = absurd passed
+  failed (Err given) fault passed cause sure = outcome (Err given) tt
+      (subst (IsSynthFault May order text) (sym passed) cause) (subst IsSureFault (sym passed) sure)
 
   pub report_in : (answer : Result Report SynthFault) → IsReportOrFault May order compact text answer →
       IfOk answer (IsReport May order compact text)

@@ -1,6 +1,6 @@
--- If the stages of synthesis succeed, the report guarantees what it states (`IsReport`); if one fails, the fault has
--- the reason that `IsSynthFault` states.
-use Rattle.std.proofs.Common.{rules, arith, ◌≡◌, ◌↔◌, ℕ, Bool, List, Result, Ok, Err, subst}
+-- If the stages of synthesis succeed, they give a certificate and a circuit that are right (`IsWinnersSynthesis`), and
+-- the report guarantees what it states (`IsReport`); if one fails, the fault has the reason that `IsSynthFault` states.
+use Rattle.std.proofs.Common.{rules, arith, ◌≡◌, ◌↔◌, ℕ, Bool, List, Result, Ok, Err, refl, subst, sym}
 use Rattle.std.specs.Prelude.{IfErr, IfOk, IsTrue}
 use Rattle.std.specs.Result.{IsErrAnd}
 use Rattle.ps_circuit.specs.Circuits.{CircuitData}
@@ -8,7 +8,7 @@ use Rattle.ps_automaton.specs.Automata.{AutomatonData, IsBuiltFrom, auto_of}
 use Rattle.ps_automaton.specs.Chains.{Chain}
 use Rattle.ps_certificate.specs.Certificates.{CertificateData}
 use Rattle.ps_certificate.specs.Regions.{BothHold, NoneWinsOutside}
-use Rattle.ps_game.specs.Games.{NamedGameData}
+use Rattle.ps_game.specs.Games.{NamedGameData, ParityGame}
 use Rattle.ps_hoa.specs.Files.{FileData}
 use Rattle.ps_machine.specs.Boards.{Board, IsGameOf}
 use Rattle.ps_machine.specs.BuiltBoards.{board_of}
@@ -21,16 +21,15 @@ use Rattle.ps_machine.specs.declared.key.Key.{Key}
 use Rattle.ps_machine.specs.declared.key.Order.{Order}
 use Rattle.ps_synthesis.specs.Printing.{PrintsCertificate, PrintsCircuit, PrintsGame}
 use Rattle.ps_synthesis.specs.Problems.{ReturnsOnly, IsProblem, IsProblemOf, ProblemData}
-use Rattle.ps_synthesis.specs.Reports.{IsReport, IsWinners, IsWinnersCircuit}
+use Rattle.ps_synthesis.specs.Reports.{IsReport, IsWinners, IsWinnersCircuit, IsWinnersSynthesis}
 use Rattle.ps_machine.specs.Solvers.{MayAnswer}
-use Rattle.ps_synthesis.specs.Promises.{KeepsPromise}
+use Rattle.ps_synthesis.specs.Promises.{SynthesisData}
 use Rattle.ps_synthesis.specs.Stages.{IsAutomatonOf, IsCircuitFault, IsCircuitOf, IsExtracted}
-use Rattle.ps_synthesis.specs.SynthFaults.{IsReportOrFault, IsSynthFault}
+use Rattle.ps_synthesis.specs.SynthFaults.{IsSureFault, IsSynthFault}
 use Rattle.ps_synthesis.specs.declared.fault.SynthFault.{SynthFault}
 use Rattle.ps_synthesis.specs.declared.fault.SynthFault.TheVariants.{Text, Automaton, BadCycle, Certificate}
 use Rattle.ps_synthesis.specs.declared.fault.SynthFault.TheVariants.{NotCertified, CircuitTooLarge, OutOfMemory}
 use Rattle.ps_synthesis.specs.declared.report.Report.{Report}
-use Rattle.ps_synthesis.proofs.ReportOutcomes.{IsSureFault, outcome}
 use Rattle.ps_traces.specs.Answers.{IsWitness}
 
 module _ (order : Order) (text : List ℕ) (a : AutomatonData) (keys : List Key) (game : NamedGameData)
@@ -55,61 +54,30 @@ module _ (order : Order) (text : List ℕ) (a : AutomatonData) (keys : List Key)
       IsWinners order of.file game of_file certificate m
   winners certificate m e = grind arith
 
-  promise_is : (May : MayAnswer) (compact : Bool) (certificate : CertificateData) (circuit : CircuitData)
-      (report : Report) → May game (Ok certificate) → IsCertified game certificate
-      → BothHold game.game certificate → NoneWinsOutside game.game certificate
-      → ((file : FileData) (chain : Chain) → IsBuiltFrom file chain a →
-      IsWitness order file (winner_at_start certificate) circuit)
-      → (IsTrue report.realizable ↔ (winner_at_start certificate ≡ 0)) →
-      PrintsCircuit report.circuit_text.items circuit →
-      PrintsGame report.game_text.items game → PrintsCertificate compact report.certificate_text.items
-      game certificate
-      → KeepsPromise May order compact text report
-  promise_is May compact certificate circuit report may certified hold outside answers realizable prints_circuit
-      prints_game prints_certificate = record {
-        file = of.file;
-        accepted = of.accepted;
-        game = game;
-        is_game = of_file;
-        game_text = prints_game;
-        certificate = certificate;
-        answered = may;
-        certified = certified;
-        certificate_text = prints_certificate;
-        both_hold = hold;
-        none_wins_outside = outside;
-        realizable = realizable;
-        circuit = circuit;
-        circuit_text = prints_circuit;
-        answers = answers of.file of.chain of.built;
-      }
-
   circuit_is : (certificate : CertificateData) (circuit : CircuitData) →
       IsCircuitOf order a game.game certificate circuit → IsWinnersCircuit order of.file game of_file
       certificate circuit
   circuit_is certificate circuit made = grind (arith, winners)
 
-  -- a report made from the game, a valid certificate and the circuit of the winner guarantees what it states
-  reports : (May : MayAnswer) (compact : Bool) (certificate : CertificateData) (result : Result Report SynthFault) →
-      May game (Ok certificate) → IsCertified game certificate → BothHold game.game certificate
-      → NoneWinsOutside game.game certificate → IfOk result (λ report.
-      IsTrue report.realizable ↔ (winner_at_start certificate ≡ 0))
-      → IfOk result (λ report. (circuit : CircuitData) × PrintsCircuit report.circuit_text.items circuit ×
-      IsCircuitOf order a game.game certificate circuit
-      × ((file : FileData) (chain : Chain) → IsBuiltFrom file chain a →
-      IsWitness order file (winner_at_start certificate) circuit))
-      → IfOk result (λ report. PrintsGame report.game_text.items game) →
-      IfOk result (λ report. PrintsCertificate compact report.certificate_text.items game certificate)
-      → IfOk result (IsReport May order compact text)
-  unfolding promise_is
-  reports May compact certificate (Ok report) may certified hold outside realizable made prints_game
-      prints_certificate =
-      record {
-        promise = search (rules, promise_is);
-        circuit = circuit_is certificate made.0 made.2;
-      }
-  reports May compact certificate (Err fault) may certified hold outside realizable made prints_game
-      prints_certificate = tt
+  synthesis_is : (May : MayAnswer) (certificate : CertificateData) (circuit : CircuitData) → May game (Ok certificate) →
+      IsCertified game certificate → BothHold game.game certificate → NoneWinsOutside game.game certificate →
+      IsCircuitOf order a game.game certificate circuit →
+      ((file : FileData) (chain : Chain) → IsBuiltFrom file chain a →
+      IsWitness order file (winner_at_start certificate) circuit) →
+      IsWinnersSynthesis May order text (record { game = game; certificate = certificate; circuit = circuit })
+  synthesis_is May certificate circuit may certified hold outside made answers = record {
+    synthesis = record {
+      file = of.file;
+      accepted = of.accepted;
+      is_game = of_file;
+      answered = may;
+      certified = certified;
+      both_hold = hold;
+      none_wins_outside = outside;
+      answers = answers of.file of.chain of.built;
+    };
+    circuit = circuit_is certificate circuit made;
+  }
 
   circuit_cause : (May : MayAnswer) (certificate : CertificateData) (fault : SynthFault) → May game (Ok certificate) →
       IsCertified game certificate → IsCircuitFault order a game.game certificate fault →
@@ -128,49 +96,70 @@ module _ (order : Order) (text : List ℕ) (a : AutomatonData) (keys : List Key)
   circuit_cause May certificate (Certificate cause offset) may certified h = absurd h
   circuit_cause May certificate NotCertified may certified h = absurd h
 
-  circuit_causes : (May : MayAnswer) (certificate : CertificateData) (result : Result Report SynthFault) →
-      May game (Ok certificate) → IsCertified game certificate
-      → IfErr result (IsCircuitFault order a game.game certificate) → IfErr result (IsSynthFault May order text)
-  circuit_causes May certificate result may certified h = grind (arith, circuit_cause)
-
 -- ## A problem
 
--- the result of making a report from a problem and a certificate: the texts of the game, the certificate and the
--- winner's circuit, or the reason why there is no circuit
-pub record IsMade (p : ProblemData) (certificate : CertificateData) (compact : Bool)
-    (result : Result Report SynthFault) : Type 0 where
-  pub realizable : IfOk result (λ report. IsTrue report.realizable ↔ (winner_at_start certificate ≡ 0))
-  pub circuit : IfOk result (λ report. (circuit : CircuitData) × PrintsCircuit report.circuit_text.items circuit ×
-      IsCircuitOf p.order p.automaton p.game.game certificate circuit
-      × ((file : FileData) (chain : Chain) → IsBuiltFrom file chain p.automaton →
-      IsWitness p.order file (winner_at_start certificate) circuit))
-  pub game : IfOk result (λ report. PrintsGame report.game_text.items p.game)
-  pub certificate_text : IfOk result (λ report. PrintsCertificate compact report.certificate_text.items
-      p.game certificate)
-  pub refused : IfErr result (IsCircuitFault p.order p.automaton p.game.game certificate)
-
-sure_circuit : (p : ProblemData) (certificate : CertificateData) (fault : SynthFault) →
-    IsCircuitFault p.order p.automaton p.game.game certificate fault → IsSureFault fault
-sure_circuit p certificate fault h = grind arith
-
-sure_circuits : (p : ProblemData) (certificate : CertificateData) (result : Result Report SynthFault) →
-    IfErr result (IsCircuitFault p.order p.automaton p.game.game certificate) → IfErr result IsSureFault
-sure_circuits p certificate result h = grind (arith, sure_circuit)
-
-module _ (p : ProblemData) (is : IsProblem p) (certificate : CertificateData) (compact : Bool)
-    (result : Result Report SynthFault) (made : IsMade p certificate compact result)
-    (certified : IsCertified p.game certificate)
+-- a valid certificate of a problem's game, and the circuit or the fault that it gives
+module _ (p : ProblemData) (is : IsProblem p) (certificate : CertificateData) (certified : IsCertified p.game certificate)
     (order : Order) (text : List ℕ) (of : IsProblemOf order text p) where
-  pub problem_outcome : BothHold p.game.game certificate → NoneWinsOutside p.game.game certificate →
-      IsReportOrFault (ReturnsOnly p.game certificate) order compact text result
-  problem_outcome hold outside =
-      subst (λ (o : Order). IsReportOrFault (ReturnsOnly p.game certificate) o compact text result)
-      of.order_is (search (rules, outcome, reports, circuit_causes, sure_circuits))
+  abbrev Only : MayAnswer
+  Only = ReturnsOnly p.game certificate
 
--- ## A certificate that was checked
+  pub problem_synthesis : (circuit : CircuitData) → BothHold p.game.game certificate →
+      NoneWinsOutside p.game.game certificate → IsCircuitOf p.order p.automaton p.game.game certificate circuit →
+      ((file : FileData) (chain : Chain) → IsBuiltFrom file chain p.automaton →
+      IsWitness p.order file (winner_at_start certificate) circuit) →
+      IsWinnersSynthesis Only order text (record { game = p.game; certificate = certificate; circuit = circuit })
+  problem_synthesis circuit hold outside made answers =
+      subst (λ (o : Order). IsWinnersSynthesis Only o text
+      (record { game = p.game; certificate = certificate; circuit = circuit })) of.order_is
+      (synthesis_is p.order text p.automaton p.keys p.game of.automaton_of is.is_game is.are_named Only certificate
+      circuit (refl, refl) certified hold outside made answers)
 
--- ## A fault that is passed on
+  pub problem_cause : (fault : SynthFault) → IsCircuitFault p.order p.automaton p.game.game certificate fault →
+      IsSynthFault Only order text fault
+  problem_cause fault h = subst (λ (o : Order). IsSynthFault Only o text fault) of.order_is
+      (circuit_cause p.order text p.automaton p.keys p.game of.automaton_of is.is_game is.are_named Only certificate
+      fault (refl, refl) certified h)
 
--- if the result is a fault, every claim about its report holds, since there is no report
-pub no_report : (r : Result Report SynthFault) (P : Report → Type 0) (Q : SynthFault → Type 0) → IsErrAnd r Q → IfOk r P
-no_report r P Q is = grind arith
+pub sure_circuit : (order : Order) (a : AutomatonData) (game : ParityGame) (certificate : CertificateData)
+    (fault : SynthFault) → IsCircuitFault order a game certificate fault → IsSureFault fault
+sure_circuit order a game certificate fault h = grind arith
+
+-- ## A report
+
+-- a report that prints the values of a synthesis guarantees what it states
+pub report_is : (May : MayAnswer) (order : Order) (text : List ℕ) (s : SynthesisData) (compact : Bool)
+    (report : Report) → IsWinnersSynthesis May order text s →
+    (IsTrue report.realizable ↔ (winner_at_start s.certificate ≡ 0)) →
+    PrintsCircuit report.circuit_text.items s.circuit → PrintsGame report.game_text.items s.game →
+    PrintsCertificate compact report.certificate_text.items s.game s.certificate →
+    IsReport May order compact text report
+report_is May order text s compact report is realizable circuit game certificate = record {
+  promise = record {
+    printed = s;
+    synthesis = is.synthesis;
+    realizable = realizable;
+    game_text = game;
+    certificate_text = certificate;
+    circuit_text = circuit;
+  };
+  circuit = is.circuit;
+}
+
+-- ## Results
+
+-- what follows from two facts about a value follows from two facts about a result
+pub ok_both : {V E : Type 0} (P Q R : V → Type 0) → ((v : V) → P v → Q v → R v) → (r : Result V E) → IfOk r P →
+    IfOk r Q → IfOk r R
+ok_both P Q R both (Ok v) p q = both v p q
+ok_both P Q R both (Err e) p q = tt
+
+pub err_all : {V E : Type 0} (P Q : E → Type 0) → ((e : E) → P e → Q e) → (r : Result V E) → IfErr r P → IfErr r Q
+err_all P Q all (Ok v) p = tt
+err_all P Q all (Err e) p = all e p
+
+-- what holds of a fault holds of the fault that is passed on
+pub err_passed : {V E : Type 0} (Q : E → Type 0) (fault : E) → Q fault → (r : Result V E) →
+    IsErrAnd r (λ given. given ≡ fault) → IfErr r Q
+err_passed Q fault h (Ok v) passed = absurd passed
+err_passed Q fault h (Err given) passed = subst Q (sym passed) h

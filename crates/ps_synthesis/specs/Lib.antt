@@ -1,8 +1,6 @@
-pub mod Inner
 pub mod Printing
 pub mod Promises
 pub mod Problems
-pub mod Briefs
 pub mod Reports
 pub mod Stages
 pub mod SynthFaults

@@ -6,9 +6,11 @@
 -- - `IsTooLarge May order file game`: the circuit of a valid certificate's machine needs too many variables
 -- - `IsSynthFault May order text fault`: the reason for which synthesis returns this fault; none is stated for
 --   `OutOfMemory`, which a table, a game or a certificate with about 2^32 entries returns, too
+-- - `IsSureFault fault`: a fault that synthesis may return for an accepted text if the solver is sure (all its
+--   certificates are valid)
 -- - `IsReportOrFault May order compact text answer`: what synthesis may return for an accepted text if the solver is
 --   sure (all its certificates are valid)
-use Rattle.std.specs.Prelude.{◌≡◌, ◌≢◌, ℕ, ◌<◌, Bool, List, length, map, slice_index, Option, None, Some, Result, Ok}
+use Rattle.std.specs.Prelude.{◌≡◌, ◌≢◌, ⊤, ℕ, ◌<◌, Bool, List, length, map, slice_index, Option, None, Some, Result, Ok}
 use Rattle.std.specs.Prelude.{Err}
 use Rattle.std.specs.List.{All}
 use Rattle.ps_aiger.specs.Wires.{IsOutOfLiterals}
@@ -83,6 +85,11 @@ IsSynthFault May order text (Certificate cause offset) =
 IsSynthFault May order text NotCertified = OfGame order text (λ file game. IsNotCertified May game)
 IsSynthFault May order text CircuitTooLarge = OfGame order text (IsTooLarge May order)
 IsSynthFault May order text OutOfMemory = Unit {0}
+
+abbrev pub IsSureFault : SynthFault → Type 0
+IsSureFault CircuitTooLarge = ⊤
+IsSureFault OutOfMemory = ⊤
+IsSureFault fault = ⊥
 
 -- the result for an accepted text if all certificates of the solver are valid: a report, or the fault `CircuitTooLarge`
 -- or `OutOfMemory`

@@ -20,19 +20,18 @@
 //! | Call | What it gives |
 //! |---|---|
 //! | `synthesise_by(text, order, compact, solver)` | the report of an HOA text, or the `SynthFault` that prevents it |
-//! | `synthesise_briefly_by(text, order, solver)` | the same without the texts of the game and the certificate |
 //! | `certified(game, solver)` | the certificate that a solver returns for a game, checked |
 //! | `is_certified(game, certificate)` | whether a certificate fits a game and is valid |
 //! | `Problem::read(text, order)` | the problem of an HOA text, or the `SynthFault` that prevents it |
 //! | `Problem::game` | the game of a problem, for a solver to solve |
 //! | `Problem::report(certificate, compact)` | the report that a certificate gives, after checking the certificate |
 //! | `Problem::report_of_certified(certificate, compact)` | the report, if the certificate was checked before |
-//! | `Problem::brief_report_of_certified(certificate)` | the same without the texts of the game and the certificate |
+//! | `Problem::solve(solver)` | the certificate that a solver returns, checked, and the winner's circuit |
+//! | `Problem::circuit(certificate)` | the winner's circuit, if the certificate was checked before |
 //! | `Problem::close` | frees a problem |
 //! | `read_automaton(text)` | the automaton of a text |
 //! | `circuit_of_certificate` | the circuit of the player who wins the start vertex, from a valid certificate |
 //! | `report_of`, `certificate_text` | the three texts of a report; the text of a certificate |
-//! | `brief_report_of` | the circuit's text alone |
 //! | `ids_of(game, vertices)` | the ids that name vertices in a fault |
 //! | `SynthFault::number`, `name` | the number and name of a fault in psyn's list of faults |
 //! | `winners_circuit_is_one` | a law: a certificate of a game has at most one circuit |
@@ -48,13 +47,12 @@ mod laws;
 mod problem;
 mod report;
 mod synthesis;
-mod texts;
 
 pub use automata::read_automaton;
 pub use certifying::{certified, ids_of, is_certified};
 pub use circuits::circuit_of_certificate;
 pub use fault::SynthFault;
 pub use laws::{winners_circuit_is_one, winners_circuit_is_there, written_texts_are_read};
-pub use problem::Problem;
-pub use report::{BriefReport, Report, brief_report_of, certificate_text, report_of};
-pub use synthesis::{synthesise_briefly_by, synthesise_by};
+pub use problem::{Problem, Synthesis};
+pub use report::{Report, certificate_text, report_of};
+pub use synthesis::synthesise_by;

@@ -1,39 +1,40 @@
-//! A synthesis problem is made from an HOA text, gives the game to solve, and makes a report from a certificate of that
-//! game.
+//! A synthesis problem is made from an HOA text, gives the game to solve, and makes a circuit and a report from a
+//! certificate of that game.
 
-ghost use Rattle.std.specs.Prelude.{◌≡◌, ◌<◌, ◌↔◌, ℕ, Bool, IsTrue, List, IfOk, IfErr};
+ghost use Rattle.std.specs.Prelude.{◌≡◌, ℕ, true, List, IfOk, IfErr};
 ghost use Rattle.std.specs.Result.{IsErrAnd};
-ghost use Rattle.ps_circuit.specs.Circuits.{CircuitData};
-ghost use Rattle.ps_automaton.specs.Automata.{IsBuiltFrom};
-ghost use Rattle.ps_automaton.specs.Chains.{Chain};
 ghost use Rattle.ps_hoa.specs.Files.{FileData};
-ghost use Rattle.ps_machine.specs.Solving.{winner_at_start};
+ghost use Rattle.ps_machine.specs.Solvers.{Answered, IsKept};
 ghost use Rattle.ps_machine.specs.Solving.{IsCertified};
 ghost use Rattle.ps_machine.specs.declared.key.Order.{Order};
-ghost use Rattle.ps_synthesis.specs.Briefs.{IsShortened};
-ghost use Rattle.ps_synthesis.specs.Inner.Certified.{IsCertifiedGame};
-ghost use Rattle.ps_synthesis.specs.Inner.Texts.{HaveTexts};
-ghost use Rattle.ps_synthesis.specs.Printing.{PrintsCertificate, PrintsCircuit, PrintsGame};
 ghost use Rattle.ps_synthesis.specs.Problems.{ReturnsOnly, IsProblem, IsProblemOf, IsReportFault};
-ghost use Rattle.ps_synthesis.specs.Reports.{IsReport};
+ghost use Rattle.ps_synthesis.specs.Reports.{IsReport, IsWinnersSynthesis};
 ghost use Rattle.ps_synthesis.specs.Promises.{IsAcceptedText};
-ghost use Rattle.ps_synthesis.specs.Stages.{IsCircuitFault, IsCircuitOf, IsTextFault};
-ghost use Rattle.ps_synthesis.specs.SynthFaults.{IsReportOrFault};
+ghost use Rattle.ps_synthesis.specs.Stages.{IsCircuitFault, IsTextFault};
+ghost use Rattle.ps_synthesis.specs.SynthFaults.{IsReportOrFault, IsSureFault, IsSynthFault};
 ghost use Rattle.ps_synthesis.specs.declared.fault.SynthFault.TheVariants.{NotCertified, OutOfMemory};
-ghost use Rattle.ps_traces.specs.Answers.{IsWitness};
 
 use crate::automata::read_automaton;
-use crate::certifying::is_certified;
+use crate::certifying::{certified, is_certified};
 use crate::circuits::circuit_of_certificate;
 use crate::fault::SynthFault;
-use crate::report::{BriefReport, Report, brief_report_of, report_of};
-use crate::texts::have_texts;
+use crate::report::{Report, report_of};
+use ps_aiger::Circuit;
 use ps_automaton::Automaton;
 use ps_certificate::{Certificate, no_strategy_wins_outside, valid_regions_are_held};
 use ps_game::NamedGame;
-use ps_machine::{AutomatonGame, Order};
+use ps_machine::{AutomatonGame, Order, Solver};
 use std::alloc::Global;
 use std::marker::Model;
+
+/// The solution of a problem: who wins each vertex of its game and by which moves, and the winner's circuit.
+#[derive(Drop)]
+pub struct Synthesis {
+    /// A valid certificate of the game.
+    pub certificate: Certificate,
+    /// The circuit of the player who wins vertex 0, which is a controller or an environment.
+    pub circuit: Circuit,
+}
 
 /// A synthesis problem: the automaton of a text, the player who moves first, and the game that they define. A valid
 /// certificate of the game solves the problem, since it states who wins each vertex, and by which moves.
@@ -143,87 +144,54 @@ impl Problem {
         ensures cause { IfErr result (IsCircuitFault self.now.order self.now.automaton self.now.game.game
             certificate.now) }
     {
-        valid_regions_are_held();
-        no_strategy_wins_outside();
-        let _ = self.game.game.game();
-        report_of_certificate(
-            alloc,
-            &self.automaton,
-            self.order,
-            &self.game,
-            certificate,
-            compact,
-        )
+        let circuit = self.circuit(alloc, certificate)?;
+        Ok(report_of(alloc, self.game(), certificate, &circuit, compact)?)
     }
 
-    /// The report that a valid certificate of the game gives, without the texts of the game and the certificate; the
-    /// certificate is not checked again.
+    /// The circuit of the player who wins the start vertex, from a valid certificate of the game; the certificate is
+    /// not checked again.
     ///
     /// # Errors
     ///
     /// Fails if the circuit would need more variables than AIGER literals can number, or if memory runs out.
-    pub fn brief_report_of_certified(
-        &self,
-        alloc: Global,
-        certificate: &Certificate,
-    ) -> Result<BriefReport, SynthFault>
+    pub fn circuit(&self, alloc: Global, certificate: &Certificate) -> Result<Circuit, SynthFault>
         requires { IsCertified self.now.game certificate.now }
-        ensures { (compact : Bool) (order : Order) (text : List ℕ) → IsProblemOf order text self.now →
-            IsShortened (IsReportOrFault (ReturnsOnly self.now.game certificate.now) order compact text) result }
+        ensures circuit { (order : Order) (text : List ℕ) → IsProblemOf order text self.now → IfOk result (λ circuit.
+            IsWinnersSynthesis (ReturnsOnly self.now.game certificate.now) order text
+            (record { game = self.now.game; certificate = certificate.now; circuit = circuit })) }
+        ensures refused { (order : Order) (text : List ℕ) → IsProblemOf order text self.now →
+            IfErr result (IsSynthFault (ReturnsOnly self.now.game certificate.now) order text) }
+        ensures cause { IfErr result (IsCircuitFault self.now.order self.now.automaton self.now.game.game
+            certificate.now) }
     {
         valid_regions_are_held();
         no_strategy_wins_outside();
         let _ = self.game.game.game();
-        brief_report_of_certificate(alloc, &self.automaton, self.order, &self.game, certificate)
+        circuit_of_certificate(alloc, &self.automaton, self.order, &self.game, certificate)
     }
-}
 
-/// The report that a certificate of an automaton's game gives, with the circuit of the player who wins the start
-/// vertex.
-fn report_of_certificate(
-    alloc: Global,
-    automaton: &Automaton,
-    order: Order,
-    game: &AutomatonGame,
-    certificate: &Certificate,
-    compact: bool,
-) -> Result<Report, SynthFault>
-    requires { IsCertifiedGame order automaton.now game.now certificate.now }
-    ensures realizable { IfOk result (λ report. IsTrue report.realizable ↔ (winner_at_start certificate.now ≡ 0)) }
-    ensures circuit { IfOk result (λ report. (circuit : CircuitData)
-        × PrintsCircuit report.circuit_text.items circuit
-        × IsCircuitOf order automaton.now game.now.game.game certificate.now circuit
-        × ((file : FileData) (chain : Chain) → IsBuiltFrom file chain automaton.now →
-        IsWitness order file (winner_at_start certificate.now) circuit)) }
-    ensures game { IfOk result (λ report. PrintsGame report.game_text.items game.now.game) }
-    ensures certificate { IfOk result (λ report. PrintsCertificate compact report.certificate_text.items game.now.game
-        certificate.now) }
-    ensures refused { IfErr result (IsCircuitFault order automaton.now game.now.game.game certificate.now) }
-{
-    let circuit = circuit_of_certificate(alloc, automaton, order, game, certificate)?;
-    Ok(report_of(alloc, &game.game, certificate, &circuit, compact)?)
-}
-
-/// The brief report that a certificate of an automaton's game gives, with the circuit of the player who wins the start
-/// vertex. The texts that a report also has are there, but they are not written.
-fn brief_report_of_certificate(
-    alloc: Global,
-    automaton: &Automaton,
-    order: Order,
-    game: &AutomatonGame,
-    certificate: &Certificate,
-) -> Result<BriefReport, SynthFault>
-    requires { IsCertifiedGame order automaton.now game.now certificate.now }
-    ensures realizable { IfOk result (λ brief. IsTrue brief.realizable ↔ (winner_at_start certificate.now ≡ 0)) }
-    ensures circuit { IfOk result (λ brief. (circuit : CircuitData)
-        × PrintsCircuit brief.circuit_text.items circuit
-        × IsCircuitOf order automaton.now game.now.game.game certificate.now circuit
-        × ((file : FileData) (chain : Chain) → IsBuiltFrom file chain automaton.now →
-        IsWitness order file (winner_at_start certificate.now) circuit)) }
-    ensures texts { IfOk result (λ _. HaveTexts game.now.game certificate.now) }
-    ensures refused { IfErr result (IsCircuitFault order automaton.now game.now.game.game certificate.now) }
-{
-    let circuit = circuit_of_certificate(alloc, automaton, order, game, certificate)?;
-    have_texts(alloc, &game.game, certificate)?;
-    Ok(brief_report_of(alloc, certificate, &circuit)?)
+    /// Solves the game with the given solver: the certificate that the solver returns, which is checked, and the
+    /// circuit that the certificate gives the player who wins the start vertex.
+    ///
+    /// # Errors
+    ///
+    /// Fails with the solver's fault, with `NotCertified` if the solver's certificate does not fit the game or is not
+    /// valid, or with `CircuitTooLarge`; fails at any time if memory runs out.
+    pub fn solve<S: Solver>(&self, alloc: Global, solver: &mut S) -> Result<Synthesis, SynthFault>
+        ensures synthesis { (order : Order) (text : List ℕ) → IsProblemOf order text self.now → IfOk result (λ made.
+            IsWinnersSynthesis (Answered (S.known solver.old) (S.known solver.new)) order text
+            (record { game = self.now.game; certificate = made.certificate; circuit = made.circuit })) }
+        ensures certified { IfOk result (λ made. IsCertified self.now.game made.certificate) }
+        ensures refused { (order : Order) (text : List ℕ) → IsProblemOf order text self.now →
+            IfErr result (IsSynthFault (Answered (S.known solver.old) (S.known solver.new)) order text) }
+        ensures sure { (S.known solver.old).is_sure ≡ true → IfErr result IsSureFault }
+        ensures kept { IsKept (S.known solver.old) (S.known solver.new) }
+    {
+        let certificate = certified(alloc, self.game(), solver)?;
+        let circuit = self.circuit(alloc, &certificate)?;
+        Ok(Synthesis {
+            certificate,
+            circuit,
+        })
+    }
 }

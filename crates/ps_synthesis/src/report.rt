@@ -1,6 +1,6 @@
 //! The report that synthesis returns.
 
-ghost use Rattle.std.specs.Prelude.{◌≡◌, ◌<◌, ◌↔◌, IsTrue, IfOk, length};
+ghost use Rattle.std.specs.Prelude.{◌≡◌, ◌<◌, ◌↔◌, IsTrue, IfOk};
 ghost use Rattle.ps_certificate.specs.Certificates.{Fits};
 ghost use Rattle.ps_game.specs.Games.{vertex_count};
 ghost use Rattle.ps_machine.specs.Solving.{winner_at_start};
@@ -24,15 +24,6 @@ pub struct Report {
     pub certificate_text: Vec<u8>,
 }
 
-/// A report without the texts of the game and the certificate.
-#[derive(Debug, Drop)]
-pub struct BriefReport {
-    /// Whether the controller wins.
-    pub realizable: bool,
-    /// The circuit of the winner, which is a controller or an environment.
-    pub circuit_text: Vec<u8>,
-}
-
 /// Makes a report from a circuit, a game and a certificate, which is printed as a plain or a compact text. Fails if out
 /// of memory.
 pub fn report_of(
@@ -50,31 +41,11 @@ pub fn report_of(
     ensures certificate { IfOk result (λ report. PrintsCertificate compact report.certificate_text.items game.now
         certificate.now) }
 {
-    let BriefReport {
-        realizable,
-        circuit_text,
-    } = brief_report_of(alloc, certificate, circuit)?;
     Ok(Report {
-        realizable,
-        circuit_text,
-        game_text: ps_pgsolver::write(alloc, game)?,
-        certificate_text: certificate_text(alloc, certificate, game, compact)?,
-    })
-}
-
-/// Makes a brief report from a circuit and a certificate. Fails if out of memory.
-pub fn brief_report_of(
-    alloc: Global,
-    certificate: &Certificate,
-    circuit: &Circuit,
-) -> Result<BriefReport, AllocError>
-    requires { 0 < length certificate.now.entries }
-    ensures realizable { IfOk result (λ brief. IsTrue brief.realizable ↔ (winner_at_start certificate.now ≡ 0)) }
-    ensures circuit { IfOk result (λ brief. PrintsCircuit brief.circuit_text.items circuit.now) }
-{
-    Ok(BriefReport {
         realizable: certificate.winner(0) == 0,
         circuit_text: ps_aiger::write(alloc, circuit)?,
+        game_text: ps_pgsolver::write(alloc, game)?,
+        certificate_text: certificate_text(alloc, certificate, game, compact)?,
     })
 }
 

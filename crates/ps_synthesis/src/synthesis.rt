@@ -1,19 +1,17 @@
 //! The whole synthesis, from an HOA text to a report, with a given solver.
 
-ghost use Rattle.std.specs.Prelude.{◌≡◌, ℕ, Bool, true, List, IfOk, IfErr};
+ghost use Rattle.std.specs.Prelude.{◌≡◌, ℕ, true, List, IfOk, IfErr};
 ghost use Rattle.ps_hoa.specs.Files.{FileData};
 ghost use Rattle.ps_machine.specs.Solvers.{Answered, IsKept};
 ghost use Rattle.ps_machine.specs.declared.key.Order.{Order};
-ghost use Rattle.ps_synthesis.specs.Briefs.{IsShortened, IsSynthesised};
 ghost use Rattle.ps_synthesis.specs.Problems.{IsProblemOf};
 ghost use Rattle.ps_synthesis.specs.Promises.{IsAcceptedText};
 ghost use Rattle.ps_synthesis.specs.Reports.{IsReport};
 ghost use Rattle.ps_synthesis.specs.SynthFaults.{IsReportOrFault, IsSynthFault};
 
-use crate::certifying::certified;
 use crate::fault::SynthFault;
 use crate::problem::Problem;
-use crate::report::{BriefReport, Report};
+use crate::report::{Report, report_of};
 use ps_machine::{Order, Solver};
 use std::alloc::Global;
 
@@ -66,43 +64,12 @@ fn report_by<S: Solver>(
         IsReportOrFault (Answered (S.known solver.old) (S.known solver.new)) order compact text result }
     ensures kept { IsKept (S.known solver.old) (S.known solver.new) }
 {
-    let certificate = certified(alloc, problem.game(), solver)?;
-    problem.report_of_certified(alloc, &certificate, compact)
-}
-
-/// Makes the report of an HOA text as `synthesise_by` does, but without the texts of the game and the certificate.
-///
-/// # Errors
-///
-/// Fails like `synthesise_by`.
-pub fn synthesise_briefly_by<S: Solver>(
-    alloc: Global,
-    text: &[u8],
-    order: Order,
-    solver: &mut S,
-) -> Result<BriefReport, SynthFault>
-    ensures result { (compact : Bool) → IsShortened (IsSynthesised
-        (Answered (S.known solver.old) (S.known solver.new)) (S.known solver.old).is_sure order compact text.now)
-        result }
-    ensures kept { IsKept (S.known solver.old) (S.known solver.new) }
-{
-    let problem = Problem::read(alloc, text, order)?;
-    let brief = brief_report_by(alloc, &problem, solver);
-    problem.close();
-    brief
-}
-
-/// Solves the game of a problem with the given solver, and makes the brief report.
-fn brief_report_by<S: Solver>(
-    alloc: Global,
-    problem: &Problem,
-    solver: &mut S,
-) -> Result<BriefReport, SynthFault>
-    ensures result { (compact : Bool) (order : Order) (text : List ℕ) → IsProblemOf order text problem.now →
-        IsShortened (IsSynthesised (Answered (S.known solver.old) (S.known solver.new))
-        (S.known solver.old).is_sure order compact text) result }
-    ensures kept { IsKept (S.known solver.old) (S.known solver.new) }
-{
-    let certificate = certified(alloc, problem.game(), solver)?;
-    problem.brief_report_of_certified(alloc, &certificate)
+    let synthesis = problem.solve(alloc, solver)?;
+    Ok(report_of(
+        alloc,
+        problem.game(),
+        &synthesis.certificate,
+        &synthesis.circuit,
+        compact,
+    )?)
 }

@@ -23,15 +23,15 @@ CLAUSES = {
     "rejected": Clause("IsWitness", ANSWERS, "The automaton accepts the word of no lasso trace of an environment's circuit."),
     "goes_on": Clause("IsWitness", ANSWERS, "For each stem and lap of inputs, some lasso trace of the circuit reads the stem and then the lap again and again."),
     "meetings": Clause("IsWitness", ANSWERS, "Each meeting of an environment with a finite-state controller is one lasso trace, which is rejected."),
-    "is_game": Clause("KeepsPromise", PROMISES, "The game that is printed is the game of the automaton's file in this order of moves; there is exactly one."),
+    "is_game": Clause("IsSynthesis", PROMISES, "The game that is printed is the game of the automaton's file in this order of moves; there is exactly one."),
     "both_hold": Clause(
-        "KeepsPromise",
+        "IsSynthesis",
         PROMISES,
         "From each vertex that the certificate gives to a player, the plays that follow this player's moves stay among such vertices, and the "
         "player wins each of their loops.",
     ),
     "none_wins_outside": Clause(
-        "KeepsPromise",
+        "IsSynthesis",
         PROMISES,
         "At any other vertex the player has no winning strategy of finite memory, and each table over histories, of any length, is beaten.",
     ),

@@ -1,17 +1,18 @@
 //! The command that makes a circuit for an automaton.
 
-ghost use Rattle.std.specs.Prelude.{◌≡◌, false};
+ghost use Rattle.std.specs.Prelude.{◌≡◌, ℕ, List};
 ghost use Rattle.ps_program.specs.Outcomes.{Gives};
 ghost use Rattle.ps_program.specs.Replies.{reply_of};
 ghost use Rattle.ps_program.specs.Solvers.{solvers_of};
 ghost use Rattle.ps_program.specs.Synthesis.{AnswersCertified, AnswersReport, AnswersSynth};
+ghost use Rattle.ps_synthesis.specs.Problems.{IsProblemOf};
 
 use crate::answer::{Answer, Refusal};
 use crate::commands::SynthLine;
-use crate::printing::{print, print_briefly};
+use crate::printing::print;
 use crate::texts::two_texts;
 use ps_machine::Solver;
-use ps_synthesis::{synthesise_briefly_by, synthesise_by};
+use ps_synthesis::Problem;
 use std::alloc::Global;
 
 /// The circuit for the automaton of a text. If a certificate follows this text in the input, the second solver is fed
@@ -65,38 +66,23 @@ fn report<S: Solver>(
     ensures answer { Gives reply_of (AnswersReport (S.known solver.old) asked text.now) result }
     ensures kept { (S.known solver.new).is_sure ≡ (S.known solver.old).is_sure }
 {
-    if asked.full {
-        full_report(alloc, asked, text, solver)
-    } else {
-        brief_report(alloc, asked, text, solver)
-    }
+    let problem = Problem::read(alloc, text, asked.order)?;
+    let answer = solution(alloc, asked, &problem, solver);
+    problem.close();
+    answer
 }
 
-/// The circuit for the automaton of a text, and the game and its certificate if they are asked for.
-fn full_report<S: Solver>(
+/// The circuit for the automaton of a problem, made with the given solver.
+fn solution<S: Solver>(
     alloc: Global,
     asked: SynthLine,
-    text: &[u8],
+    problem: &Problem,
     solver: &mut S,
 ) -> Result<Answer, Refusal>
-    ensures answer { Gives reply_of (AnswersReport (S.known solver.old) asked text.now) result }
+    ensures answer { (text : List ℕ) → IsProblemOf asked.order text problem.now →
+        Gives reply_of (AnswersReport (S.known solver.old) asked text) result }
     ensures kept { (S.known solver.new).is_sure ≡ (S.known solver.old).is_sure }
 {
-    let report = synthesise_by(alloc, text, asked.order, asked.compact, solver)?;
-    Ok(print(alloc, &report, asked.full)?)
-}
-
-/// The circuit for the automaton of a text; the texts of the game and its certificate are not written.
-fn brief_report<S: Solver>(
-    alloc: Global,
-    asked: SynthLine,
-    text: &[u8],
-    solver: &mut S,
-) -> Result<Answer, Refusal>
-    requires { asked.full ≡ false }
-    ensures answer { Gives reply_of (AnswersReport (S.known solver.old) asked text.now) result }
-    ensures kept { (S.known solver.new).is_sure ≡ (S.known solver.old).is_sure }
-{
-    let brief = synthesise_briefly_by(alloc, text, asked.order, solver)?;
-    Ok(print_briefly(alloc, &brief)?)
+    let synthesis = problem.solve(alloc, solver)?;
+    Ok(print(alloc, asked, problem.game(), &synthesis)?)
 }

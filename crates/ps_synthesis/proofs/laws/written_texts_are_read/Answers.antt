@@ -2,7 +2,7 @@ use Rattle.std.proofs.Common.{refl}
 use Rattle.ps_certificate.proofs.Rereading.WrittenEntries as certificate
 use Rattle.ps_circuit.proofs.CircuitRereading.RereadText as circuit
 use Rattle.ps_pgsolver.proofs.WrittenGames as game
-use Rattle.ps_synthesis.proofs.TextsThere.{greatest_word}
+use Rattle.ps_synthesis.proofs.GreatestWord.{greatest_word}
 use Rattle.ps_synthesis.proofs.laws.written_texts_are_read.Goals as goal
 
 pub returns : goal.returns
