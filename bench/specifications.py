@@ -12,12 +12,13 @@ that is a fault ends the script.
 """
 import os
 import random
+import re
 import subprocess
 import sys
 import tempfile
 
 LENGTH = 1 << 24
-NAMES = [f"p{number}" for number in range(8)]
+NAMES = [f"p{number}" for number in range(64)]
 
 
 def specification(names, sections):
@@ -54,20 +55,16 @@ def texts():
     yield "64 uses of 64 names of 128 KiB", long_names(64)
 
 
-def random_formula(dice, nodes):
-    """A random formula with this number of nodes, whose parentheses are few levels deep."""
-    if nodes <= 1:
-        return dice.choice(NAMES)
-    if nodes == 2:
-        return f"{dice.choice('!XFG')} {dice.choice(NAMES)}"
-    left = random_formula(dice, (nodes - 1) // 2)
-    infix = dice.choice(("&&", "||", "->", "<->", "U", "R", "W"))
-    return f"({left} {infix} {random_formula(dice, nodes // 2)})"
+def formula_with(nodes, names):
+    """A formula with about this number of different nodes, in chains of 250 prefixes before one name each. There are
+    four different chains for each name."""
+    chains = (("XFG!" * 64)[at // len(names) :][:250] + names[at % len(names)] for at in range(nodes // 250))
+    return " && ".join(re.sub("([XFG!])", r"\1 ", chain) for chain in chains)
 
 
-def letters(count):
+def letters(count, width):
     dice = random.Random(count)
-    return [format(dice.getrandbits(len(NAMES)), f"0{len(NAMES)}b") for _ in range(count)]
+    return [format(dice.getrandbits(width), f"0{width}b") for _ in range(count)]
 
 
 def lasso_input(text, names, word):
@@ -79,8 +76,8 @@ def lasso_input(text, names, word):
     return f"lasso --tlsf\n{text}%%\naag {len(names)} {len(names)} 0 0 0\n{declared}{symbols}%%\n{stimulus}".encode()
 
 
-def formula_input(formula, word):
-    return lasso_input(specification(NAMES, f"GUARANTEE {{ {formula}; }}"), NAMES, word)
+def formula_input(formula, names, word):
+    return lasso_input(specification(names, f"GUARANTEE {{ {formula}; }}"), names, word)
 
 
 def game():
@@ -128,17 +125,18 @@ def measure(bench):
         names = [word.strip() for word in text.split("INPUTS {", 1)[1].split("}", 1)[0].split(";")[:-1]]
         bench.beside(f"{name} ({len(text)} bytes)", lasso_input(text, names, ["0" * len(names)] * 2), check)
     for count in (500, 1_000, 2_000, 4_000, 8_000, 16_000, 32_000):
-        word = letters(2_000)
-        one, other = (formula_input(random_formula(random.Random(1), size), word) for size in (2 * count, count))
+        word = letters(2_000, len(NAMES))
+        one, other = (formula_input(formula_with(size, NAMES), NAMES, word) for size in (2 * count, count))
         bench.beside(f"{2 * count} nodes, 2,000 letters", one, other)
-    formula = random_formula(random.Random(1), 2_000)
+    names = NAMES[:8]
+    formula = formula_with(2_000, names)
     for count in (1_000, 2_000, 4_000, 8_000, 16_000, 32_000):
-        one, other = (formula_input(formula, letters(size)) for size in (2 * count, count))
+        one, other = (formula_input(formula, names, letters(size, len(names))) for size in (2 * count, count))
         bench.beside(f"2,000 nodes, {2 * count} letters", one, other)
-    word = letters(100_000)
+    word = letters(100_000, len(names))
     chain = "(" * 250 + "p0" + "".join(f" <-> p{(number * 5 + 1) % 8})" for number in range(250))
-    flat = " && ".join(NAMES[number * 5 % 8] for number in range(493))
-    bench.beside("250 nested <->, 500 nodes", formula_input(chain, word), formula_input(flat, word))
+    flat = " && ".join(names[number * 5 % 8] for number in range(493))
+    bench.beside("250 nested <->, 500 nodes", formula_input(chain, names, word), formula_input(flat, names, word))
 
 
 def main():
