@@ -5,3 +5,14 @@ pub mod Complete
 pub mod Rounds
 pub mod WrongCovers
 pub mod Ways
+pub mod SetLemmas
+pub mod BoardLemmas
+pub mod Products
+pub mod NeedLemmas
+pub mod JoinLemmas
+pub mod CoverRows
+pub mod OperatorLemmas
+pub mod WayLemmas
+pub mod PruneLemmas
+pub mod PruneSteps
+pub mod ReduceLemmas

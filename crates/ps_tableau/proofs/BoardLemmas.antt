@@ -1,0 +1,104 @@
+-- Sets and edges stay if a board grows.
+use Rattle.std.proofs.Common.{◌≡◌, ℕ, Bool, List, [], ◌∷◌, ap}
+use Rattle.std.proofs.Common.{refl, subst, sym, ◌∙◌}
+use Rattle.std.proofs.lemmas.List.Elements.{All-head, All-tail, All-weaker}
+use Rattle.std.specs.List.{All, Contains}
+use Rattle.std.specs.Prelude.{is_some}
+use Rattle.ps_diagram.proofs.Cells.{keeps_refl}
+use Rattle.ps_diagram.proofs.KnownLemmas.{keeps_trans}
+use Rattle.ps_diagram.specs.Letters.{assignment}
+use Rattle.ps_diagram.specs.Table.{Keeps, Table}
+use Rattle.ps_diagram.specs.Tree.{Tree, leaf_at}
+use Rattle.ps_formula.specs.NormalForms.{NormalFormula}
+use Rattle.ps_tableau.specs.Boards.{Grows, IsEdgeOf, IsSetOf, MakesEdges, cover_of, covers_of}
+use Rattle.ps_tableau.specs.Boards.{formulas_in}
+use Rattle.ps_tableau.specs.Sets.{AreSets, IsSet}
+use Rattle.ps_tableau.specs.Covers.{Cover}
+use Rattle.ps_tableau.specs.declared.board.Board.{Board}
+use Rattle.ps_tableau.specs.declared.edge.Edge.{Edge}
+use Rattle.ps_tableau.proofs.SetLemmas.{extends_refl, extends_trans}
+
+pub grows_refl : (b : Board) → AreSets b.sets → Grows b b
+grows_refl b sets = record {
+  formulas = refl;
+  needed = refl;
+  untils = refl;
+  initial = refl;
+  sets = extends_refl b.sets;
+  sound = sets;
+  guards = keeps_refl b.guards;
+}
+
+pub grows_trans : {a b c : Board} → Grows a b → Grows b c → Grows a c
+grows_trans first second = record {
+  formulas = second.formulas ∙ first.formulas;
+  needed = second.needed ∙ first.needed;
+  untils = second.untils ∙ first.untils;
+  initial = second.initial ∙ first.initial;
+  sets = extends_trans first.sets second.sets;
+  sound = second.sound;
+  guards = keeps_trans first.guards second.guards;
+}
+
+pub grows_guards : (b : Board) (t : Table) → AreSets b.sets → Keeps b.guards t → Grows b (record b { guards = t })
+grows_guards b t sets keeps = record {
+  formulas = refl;
+  needed = refl;
+  untils = refl;
+  initial = refl;
+  sets = extends_refl b.sets;
+  sound = sets;
+  guards = keeps;
+}
+
+-- ## Sets
+
+pub formulas_kept : {old new : Board} {set : ℕ} → Grows old new → IsSet old.sets set →
+    formulas_in new set ≡ formulas_in old set
+formulas_kept {old} {new} {set} grows held = rw (grows.formulas, grows.sets.same set held) refl
+
+pub set_kept : {P Q : ℕ → Type 0} {old new : Board} {set : ℕ} → Grows old new → ((k : ℕ) → P k → Q k) →
+    IsSetOf P old set → IsSetOf Q new set
+set_kept {P} {Q} {old} {new} {set} grows more is = record {
+  held = grows.sets.held set is.held;
+  each = λ k there. more k (is.each k (subst (λ (s : List ℕ). Contains s k) (grows.sets.same set is.held) there));
+}
+
+-- ## Edges
+
+pub edge_kept : {old new : Board} {e : Edge} → Grows old new → IsEdgeOf old e → IsEdgeOf new e
+edge_kept {old} {new} {e} grows is = record {
+  guard = grows.guards.held e.guard is.guard;
+  next = set_kept grows (λ k h. rw grows.needed h) is.next;
+  postponed = set_kept grows (λ k h. rw grows.untils h) is.postponed;
+}
+
+guard_kept : {old new : Board} {e : Edge} → Grows old new → IsEdgeOf old e →
+    (cover_of new e).guard ≡ (cover_of old e).guard
+guard_kept {old} {new} {e} grows is =
+    ap {B = ℕ → Bool} (λ (t : Tree) (letter : ℕ). is_some (leaf_at t (assignment letter))) (grows.guards.same e.guard is.guard)
+
+abbrev made_of : (ℕ → Bool) → List NormalFormula → List NormalFormula → Cover
+made_of guard next postponed = record { guard = guard; next = next; postponed = postponed }
+
+pub cover_kept : {old new : Board} {e : Edge} → Grows old new → IsEdgeOf old e → cover_of new e ≡ cover_of old e
+cover_kept {old} {new} {e} grows is =
+    let a = cover_of old e in
+    let b = cover_of new e in
+    ap (λ (g : ℕ → Bool). made_of g b.next b.postponed) (guard_kept grows is)
+    ∙ ap (λ (fs : List NormalFormula). made_of a.guard fs b.postponed) (formulas_kept grows is.next.held)
+    ∙ ap (λ (fs : List NormalFormula). made_of a.guard a.next fs) (formulas_kept grows is.postponed.held)
+
+pub covers_kept : {old new : Board} → Grows old new → (edges : List Edge) → All (IsEdgeOf old) edges →
+    covers_of new edges ≡ covers_of old edges
+covers_kept grows [] all = refl
+covers_kept {old} {new} grows (e ∷ es) all =
+    ap (λ (c : Cover). c ∷ covers_of new es) (cover_kept grows (All-head (IsEdgeOf old) e es all))
+    ∙ ap (λ (cs : List Cover). cover_of old e ∷ cs) (covers_kept grows es (All-tail (IsEdgeOf old) e es all))
+
+pub makes_kept : {old new : Board} {P : List Cover → Type 0} {edges : List Edge} → Grows old new →
+    MakesEdges old P edges → MakesEdges new P edges
+makes_kept {old} {new} {P} {edges} grows made = record {
+  held = All-weaker (IsEdgeOf old) (IsEdgeOf new) (λ e h. edge_kept grows h) edges made.held;
+  right = subst P (sym (covers_kept grows edges made.held)) made.right;
+}

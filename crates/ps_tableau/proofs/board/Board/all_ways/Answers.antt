@@ -1,0 +1,28 @@
+use Rattle.std.proofs.Common.{◌∙◌, ◌+◌, ◌∷◌, [], ap, length, length-append, subst, sym}
+use Rattle.ps_formula.specs.NormalForms.{normal_formula_at}
+use Rattle.ps_tableau.proofs.BoardLemmas.{grows_trans}
+use Rattle.ps_tableau.proofs.WayLemmas.{ways_more}
+use Rattle.ps_tableau.specs.Boards.{HasCovers}
+use Rattle.ps_tableau.specs.Needs.{IsNeeded}
+use Rattle.ps_tableau.proofs.board.Board.all_ways.Goals as goal
+
+pub returns-in_err-covers-clause-grows : goal.returns-in_err-covers-clause-grows
+returns-in_err-covers-clause-grows c = grows_trans c.loop-index.invariant.grows c.next_ways.ensures.grows
+
+pub returns-in_err-push-clause-grows : goal.returns-in_err-push-clause-grows
+returns-in_err-push-clause-grows c = grows_trans c.loop-index.invariant.grows c.next_ways.ensures.grows
+
+pub loop-index-preserved : goal.loop-index-preserved
+loop-index-preserved c =
+    let b = c.loop-index.self in
+    let covers = c.in_ok-covers.covers in
+    let count = c.loop-index.invariant.count in
+    let last = subst (λ n. IsNeeded b.needed.items n →
+    HasCovers c.next_ways.new.self (normal_formula_at b.formulas n ∷ []) covers.items) (sym count)
+    c.in_ok-covers.ensures.ways in
+    record {
+      grows = grows_trans c.loop-index.invariant.grows c.next_ways.ensures.grows;
+      ways = rw c.in_ok-push.ensures.items (ways_more covers c.next_ways.ensures.grows c.loop-index.invariant.ways last);
+      count = ap length c.in_ok-push.ensures.items ∙ length-append c.loop-index.ways.items (covers ∷ [])
+          ∙ ap (λ n. n + 1) count;
+    }

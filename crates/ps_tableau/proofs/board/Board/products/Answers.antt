@@ -1,0 +1,36 @@
+use Rattle.std.proofs.Common.{◌≡◌, ◌∙◌, ◌+◌, ◌++◌, ◌∷◌, [], List, ap, sym, subst, take}
+use Rattle.std.proofs.lemmas.List.{take_more}
+use Rattle.ps_tableau.proofs.BoardLemmas.{edge_kept, grows_trans}
+use Rattle.ps_tableau.proofs.CoverRows.{edges_kept, item_held, rows_more}
+use Rattle.ps_tableau.specs.Boards.{IsEdgeOf, MakesEdges, covers_of}
+use Rattle.ps_tableau.specs.Operators.{AreProducts}
+use Rattle.ps_tableau.specs.declared.edge.Edge.{Edge}
+use Rattle.ps_tableau.proofs.board.Board.products.Goals as goal
+
+pub add_row-requires-clause-edge : goal.add_row-requires-clause-edge
+add_row-requires-clause-edge c = edge_kept c.loop-edge.invariant.grows (item_held (IsEdgeOf c.args.self.now)
+    c.args.first.now c.loop-edge.edge-index c.edge-item.result c.requires.first c.loop-edge-test.true c.edge-item.is)
+
+pub add_row-requires-clause-others : goal.add_row-requires-clause-others
+add_row-requires-clause-others c = edges_kept c.loop-edge.invariant.grows c.args.second.now c.requires.second
+
+pub returns-in_err-add_row-clause-grows : goal.returns-in_err-add_row-clause-grows
+returns-in_err-add_row-clause-grows c = grows_trans c.loop-edge.invariant.grows c.add_row.ensures.grows
+
+pub loop-edge-preserved : goal.loop-edge-preserved
+loop-edge-preserved c =
+    let b = c.args.self.now in
+    let first = c.args.first.now in
+    let second = c.args.second.now in
+    let i = c.loop-edge.edge-index in
+    let edge = c.edge-item.result in
+    let held = item_held (IsEdgeOf b) first i edge c.requires.first c.loop-edge-test.true c.edge-item.is in
+    let longer : take (i + 1) first ≡ take i first ++ edge ∷ [] =
+    take_more first i edge c.loop-edge-test.true ∙ ap (λ (e : Edge). take i first ++ e ∷ []) (sym c.edge-item.is) in
+    record {
+      grows = grows_trans c.loop-edge.invariant.grows c.add_row.ensures.grows;
+      products = subst (λ (es : List Edge). MakesEdges c.add_row.new.self
+          (AreProducts (covers_of b es) (covers_of b second)) c.add_row.new.joins.items) (sym longer)
+          (rows_more (take i first) held c.requires.second c.loop-edge.invariant.grows c.add_row.ensures.grows
+          c.loop-edge.invariant.products c.in_ok-add_row.ensures.row);
+    }

@@ -1,0 +1,27 @@
+use Rattle.std.proofs.Common.{ℕ, Option, subst, sym}
+use Rattle.std.specs.Prelude.{IsTrue, is_some}
+use Rattle.ps_tableau.proofs.BoardLemmas.{formulas_kept, set_kept}
+use Rattle.ps_tableau.proofs.CoverRows.{kept_leaf}
+use Rattle.ps_tableau.proofs.ReduceLemmas.{pruned_reduced, reduced_fewer}
+use Rattle.ps_tableau.specs.Boards.{cover_of}
+use Rattle.ps_tableau.proofs.board.Board.reduced_edge.Goals as goal
+
+pub returns-clause-pruned : goal.returns-clause-pruned
+returns-clause-pruned c =
+    let b = c.args.self.now in
+    let edge = c.args.edge.now in
+    let held = c.requires.edge in
+    let grows = c.reduced_set.ensures.grows in
+    let reduced = c.in_ok-next.ensures.reduced in
+    let leaf = λ (letter : ℕ). kept_leaf b.guards c.reduced_set.new.self.guards edge.guard letter grows.guards held.guard in
+    record {
+      held = record {
+        guard = grows.guards.held edge.guard held.guard;
+        next = reduced.state;
+        postponed = set_kept grows (λ k h. rw grows.untils h) held.postponed;
+      };
+      right = pruned_reduced (cover_of b edge) _
+          (λ letter serves. subst (λ (l : Option ℕ). IsTrue (is_some l)) (sym (leaf letter)) serves)
+          (λ letter serves. subst (λ (l : Option ℕ). IsTrue (is_some l)) (leaf letter) serves)
+          (reduced_fewer grows.formulas reduced) reduced.brings (formulas_kept grows held.postponed.held);
+    }

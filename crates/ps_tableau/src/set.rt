@@ -1,0 +1,47 @@
+//! Sets of formulas, as numbers.
+
+ghost use Rattle.std.specs.Prelude.{◌≡◌};
+ghost use Rattle.std.specs.Cmp.Rules.{hashing};
+ghost use Rattle.std.proofs.Common.{rules};
+
+use ps_keys::Word;
+use std::marker::Model;
+
+/// A set of formulas of a tableau. A set may be used with the tableau that made it.
+#[derive(Debug, Clone, Copy, PartialEq, Eq)]
+pub struct Set {
+    pub(crate) number: u32,
+}
+
+impl Model for Set {
+    ghost use Rattle.std.specs.Prelude.{ℕ};
+
+    ghost Value = { ℕ };
+
+    ghost view = { λ s. s.number };
+
+    ghost inverse = { λ n. record { number = n } };
+}
+
+impl Set {
+    /// The set without formulas.
+    pub(crate) const EMPTY: Set = Set { number: 0 };
+
+    /// The number of the set.
+    pub fn number(self) -> u32
+        ensures { result ≡ self }
+    {
+        self.number
+    }
+}
+
+impl Word for Set {
+    ghost word = { λ set. set };
+
+    ghost equal = { Prim.search (hashing, rules) };
+
+    #[inline(always)]
+    fn word(&self) -> u64 {
+        self.number as u64
+    }
+}

@@ -1,0 +1,222 @@
+//! A table of sets of formulas.
+
+ghost use Rattle.std.specs.Prelude.{◌≡◌, ◌↔◌, ◌∷◌, ℕ, [], Contains, IfOk, IsTrue, MatchOption};
+ghost use Rattle.ps_tableau.specs.Inner.SetSteps.{AreMerged, ArePartsOf, AreSetsWith, IsGreatest, IsNone, IsUnion};
+ghost use Rattle.ps_tableau.specs.Inner.SetSteps.{IsWithin, MakesSet};
+ghost use Rattle.ps_tableau.specs.Sets.{AreSets, KeepsSets, IsSet, indices_in};
+
+use crate::set::Set;
+use ps_keys::KeyList;
+use std::alloc::{AllocError, Global};
+use std::marker::Model;
+
+/// A table of sets of formulas, which are numbered from 0. A formula is given by its index in a table of formulas. The
+/// set 0 is empty; the set k + 1 is given by the pair with the index k, which has the greatest index of a formula of the
+/// set, and the set of its other formulas. So equal sets are one number.
+#[derive(Debug, Drop)]
+pub(crate) struct Sets {
+    pairs: KeyList<(u32, Set)>,
+    alloc: Global,
+}
+
+impl Model for Sets {
+    ghost use Rattle.std.specs.Prelude.{ℕ, List};
+    ghost use Rattle.ps_tableau.specs.Sets.{AreSets};
+
+    ghost Value = { List (ℕ × ℕ) };
+
+    ghost view = { λ s. s.pairs };
+
+    ghost invariant = { λ s. AreSets s.pairs };
+}
+
+/// A set that is not empty.
+#[derive(Clone, Copy)]
+pub(crate) struct Parts {
+    /// The greatest formula.
+    pub greatest: u32,
+    /// The set of the other formulas.
+    pub others: Set,
+}
+
+/// The greatest formula of two sets that are not empty.
+#[derive(Clone, Copy)]
+pub(crate) struct Greatest {
+    /// The formula.
+    pub index: u32,
+    /// The first set, without the formula.
+    pub first: Set,
+    /// The second set, without the formula.
+    pub second: Set,
+}
+
+/// Two sets, taken apart.
+#[derive(Drop)]
+pub(crate) struct Merged {
+    /// Formulas of the sets, in descending order.
+    pub taken: Vec<u32>,
+    /// The set of their other formulas.
+    pub rest: Set,
+}
+
+impl Sets {
+    /// A table that has the empty set alone.
+    pub(crate) fn new(alloc: Global) -> Self
+        ensures { result ≡ [] }
+    {
+        Sets {
+            pairs: KeyList::new(alloc),
+            alloc,
+        }
+    }
+
+    /// The greatest formula of a set and the set of the others, unless the set is empty.
+    pub(crate) fn parts(&self, set: Set) -> Option<Parts>
+        requires { IsSet self.now set }
+        ensures parts { MatchOption result (set ≡ 0) (ArePartsOf self.now set) }
+        ensures sets { AreSets self.now }
+    {
+        let pairs = self.pairs.as_slice();
+        if set == Set::EMPTY {
+            return None;
+        }
+        let pair = pairs[set.number as usize - 1];
+        Some(Parts {
+            greatest: pair.0,
+            others: pair.1,
+        })
+    }
+
+    /// The set with one more formula, which is greater than those of the given set.
+    pub(crate) fn with(&mut self, index: u32, rest: Set) -> Result<Set, AllocError>
+        requires { IsSet self.old rest }
+        ensures extends { KeepsSets self.old self.new }
+        ensures sets { AreSets self.new }
+        ensures set { IfOk result (MakesSet self.new (λ is. is ≡ index ∷ indices_in self.old rest)) }
+    {
+        let place = self.pairs.place_of((index, rest))?;
+        let _ = self.pairs.len();
+        Ok(Set {
+            number: place as u32 + 1,
+        })
+    }
+
+    /// The union of two sets. Fails if out of memory.
+    pub(crate) fn union(&mut self, a: Set, b: Set) -> Result<Set, AllocError>
+        requires a { IsSet self.old a }
+        requires b { IsSet self.old b }
+        ensures extends { KeepsSets self.old self.new }
+        ensures sets { AreSets self.new }
+        ensures set { IfOk result (IsUnion self.old a b self.new) }
+    {
+        let merged = self.merged(a, b)?;
+        self.with_all(&merged.taken, merged.rest)
+    }
+
+    /// Two sets, taken apart until one of them is empty. Fails if out of memory.
+    fn merged(&self, a: Set, b: Set) -> Result<Merged, AllocError>
+        requires a { IsSet self.now a }
+        requires b { IsSet self.now b }
+        ensures merged { IfOk result (AreMerged self.now a b) }
+        ensures sets { AreSets self.now }
+    {
+        let mut first = a;
+        let mut second = b;
+        let mut taken = Vec::new(self.alloc);
+        while let Some(greatest) = self.greatest(first, second) {
+            taken.push(greatest.index)?;
+            first = greatest.first;
+            second = greatest.second;
+        }
+        let rest = if first == Set::EMPTY { second } else { first };
+        Ok(Merged { taken, rest })
+    }
+
+    /// The greatest formula of two sets, and the sets without it. The result is `None` if one of the sets is empty.
+    fn greatest(&self, a: Set, b: Set) -> Option<Greatest>
+        requires a { IsSet self.now a }
+        requires b { IsSet self.now b }
+        ensures { MatchOption result (IsNone a b) (IsGreatest self.now a b) }
+    {
+        let left = self.parts(a)?;
+        let right = self.parts(b)?;
+        let i = left.greatest;
+        let j = right.greatest;
+        Some(Greatest {
+            index: i.max(j),
+            first: if i < j { a } else { left.others },
+            second: if j < i { b } else { right.others },
+        })
+    }
+
+    /// A set with more formulas, each of which is greater than those behind it and those of the set. Fails if out of
+    /// memory.
+    pub(crate) fn with_all(&mut self, more: &[u32], set: Set) -> Result<Set, AllocError>
+        requires { IsSet self.old set }
+        ensures extends { KeepsSets self.old self.new }
+        ensures sets { AreSets self.new }
+        ensures set { IfOk result (AreSetsWith self.old more.now set self.new) }
+    {
+        let _ = &self.pairs;
+        let mut set = set;
+        for place in (0..more.len()).rev() {
+            set = self.with(more[place], set)?;
+        }
+        Ok(set)
+    }
+
+    /// Whether each formula of a set is one of another.
+    pub(crate) fn is_within(&self, a: Set, b: Set) -> bool
+        requires a { IsSet self.now a }
+        requires b { IsSet self.now b }
+        ensures { IsTrue result → IsWithin self.now a b }
+    {
+        let mut first = a;
+        let mut second = b;
+        while first != second {
+            let Some(left) = self.parts(first) else {
+                return true;
+            };
+            let Some(right) = self.parts(second) else {
+                return false;
+            };
+            if right.greatest < left.greatest {
+                return false;
+            }
+            if left.greatest == right.greatest {
+                first = left.others;
+            }
+            second = right.others;
+        }
+        true
+    }
+
+    /// Whether a formula is in a set.
+    pub(crate) fn contains(&self, set: Set, index: u32) -> bool
+        requires { IsSet self.now set }
+        ensures { IsTrue result ↔ Contains (indices_in self.now set) index }
+    {
+        let mut rest = set;
+        while let Some(parts) = self.parts(rest) {
+            if parts.greatest == index {
+                return true;
+            }
+            rest = parts.others;
+        }
+        false
+    }
+
+    /// The formulas of a set, in descending order. Fails if out of memory.
+    pub(crate) fn members(&self, set: Set) -> Result<Vec<u32>, AllocError>
+        requires { IsSet self.now set }
+        ensures { IfOk result (λ members. members.items ≡ indices_in self.now set) }
+    {
+        let mut members = Vec::new(self.alloc);
+        let mut rest = set;
+        while let Some(parts) = self.parts(rest) {
+            members.push(parts.greatest)?;
+            rest = parts.others;
+        }
+        Ok(members)
+    }
+}
