@@ -39,6 +39,7 @@ NAMED = (
     "no_moves_given",
     "one_successor_tested",
     "overlap_accepted",
+    "postponed_dropped",
     "raises_not_counted",
     "region_too_small",
     "second_pass_missing",
@@ -46,7 +47,7 @@ NAMED = (
     "unknown_names_skipped",
     "wrong_polarity_or_reset",
 )
-MOST_CRATES = 12
+MOST_CRATES = 13
 VERDICTS = {"refused", "refused by a name", "to be tried"}
 
 
