@@ -1,0 +1,9 @@
+pub mod LassoWalks
+pub mod WordSteps
+pub mod FairLassos
+pub mod HavingLassos
+pub mod GraphLassos
+pub mod HavingCycles
+pub mod BoardTableaux
+pub mod Refuting
+pub mod WinningLemmas

@@ -1,0 +1,4 @@
+pub mod Judgements
+pub mod Products
+pub mod ProductGraphs
+pub mod BoardStates
