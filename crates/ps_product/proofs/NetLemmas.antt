@@ -1,6 +1,7 @@
 -- Facts about a circuit's variables and the places by which they are numbered: the constant, the inputs, the latches,
 -- the gates.
-use Rattle.std.proofs.Common.{◌≡◌, ℕ, suc, ◌+◌, ◌-◌, ◌<◌, ◌⊎◌, inl, inr, Bool, false, List}
+use Rattle.std.proofs.Common.{◌≡◌, ℕ, suc, ◌+◌, ◌-◌, ◌<◌, ◌⊎◌, inl, inr, Bool, true, false, List}
+use Rattle.std.specs.Prelude.{if◌then◌else◌, nat_le}
 use Rattle.std.proofs.Common.{length, get_or, refl, ap, sym, ◌∙◌, arith}
 use Rattle.std.proofs.lemmas.Bool.{cases_lt}
 use Rattle.std.proofs.lemmas.List.{get_or-map}
@@ -19,6 +20,24 @@ use Rattle.ps_simulate.proofs.PlacesLemmas.{place_known, sides_known, variables_
 use Rattle.ps_simulate.proofs.RowLemmas.{definitions_gate, definitions_input, definitions_latch, length-definitions}
 use Rattle.ps_simulate.proofs.RowLemmas.{length-variables, no_latch}
 use Rattle.ps_simulate.proofs.ValueLemmas.{bit_of-definition}
+
+-- the two literals that a gate reads may be exchanged
+either_order : (c : CircuitData) (place : ℕ) (first second : Wire) →
+    IsGateAt c place (record { first = first; second = second }) →
+    IsGateAt c place (record { first = second; second = first })
+either_order c place first second g = record {
+  first_below = g.second_below;
+  second_below = g.first_below;
+  meets = λ inputs latches values are.
+      g.meets inputs latches values are ∙ and_comm (read_at c values first) (read_at c values second);
+}
+
+-- the two literals that a gate reads may be put in the order of their variables' places
+ordered : (c : CircuitData) (place : ℕ) (one other : Wire) (b : Bool) →
+    IsGateAt c place (record { first = one; second = other }) →
+    IsGateAt c place (if b then record { first = one; second = other } else record { first = other; second = one })
+ordered c place one other true g = g
+ordered c place one other false g = either_order c place one other g
 
 module _ {c : CircuitData} (is : IsCircuit c) where
   -- a literal that refers to its variable by the variable's index has the same bit as the original literal
@@ -99,8 +118,9 @@ module _ {c : CircuitData} (is : IsCircuit c) where
         ];
       }
 
-  pub gate_at : (i place : ℕ) → place ≡ front_of c + i → i < length c.gates → IsGateAt c place (sides_of c (gate i))
-  gate_at i place at lt =
+  gate_there : (i place : ℕ) → place ≡ front_of c + i → i < length c.gates →
+      IsGateAt c place (record { first = wire_of c (gate i).first; second = wire_of c (gate i).second })
+  gate_there i place at lt =
       let here : place ≡ suc (length c.inputs + length c.latches + i) = omega arith in
       let known = sides_known is i no_gate lt in
       let g = gate i in
@@ -113,13 +133,8 @@ module _ {c : CircuitData} (is : IsCircuit c) where
             ∙ cc (read_is values g.first known.0, read_is values g.second known.1);
       }
 
--- the two literals that a gate reads may be exchanged
-pub either_order : (c : CircuitData) (place : ℕ) (first second : Wire) →
-    IsGateAt c place (record { first = first; second = second }) →
-    IsGateAt c place (record { first = second; second = first })
-either_order c place first second g = record {
-  first_below = g.second_below;
-  second_below = g.first_below;
-  meets = λ inputs latches values are.
-      g.meets inputs latches values are ∙ and_comm (read_at c values first) (read_at c values second);
-}
+  pub gate_at : (i place : ℕ) → place ≡ front_of c + i → i < length c.gates → IsGateAt c place (sides_of c (gate i))
+  gate_at i place at lt =
+      let one = wire_of c (gate i).first in
+      let other = wire_of c (gate i).second in
+      ordered c place one other (nat_le one.place other.place) (gate_there i place at lt)

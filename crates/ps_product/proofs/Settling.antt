@@ -138,28 +138,10 @@ module _ (c : CircuitData) (order : List ℕ) where
 
 -- ## What a step does to the stack
 
-split_last : (xs : List ℕ) (d : ℕ) → 0 < length xs → xs ≡ take (length xs - 1) xs ++ get_or xs (length xs - 1) d ∷ []
-split_last [] d some = absurd (omega arith)
-split_last (x ∷ []) d some = refl
-split_last (x ∷ y ∷ ys) d some =
-    let same : length (x ∷ y ∷ ys) - 1 ≡ suc (length (y ∷ ys) - 1) = omega arith in
-    rw same (ap (λ (zs : List ℕ). x ∷ zs) (split_last (y ∷ ys) d (omega arith)))
-
--- a list that ends with x consists of the entries before this x, and of x
-pub ends_with : (xs : List ℕ) (x : ℕ) → slice_get xs (length xs - 1) ≡ Some x →
-    xs ≡ take (length xs - 1) xs ++ x ∷ []
-ends_with xs x at =
-    let lt = slice_get_within xs (length xs - 1) x at in
-    let last : get_or xs (length xs - 1) x ≡ x = get_or_from_slice_get xs (length xs - 1) x x at in
-    split_last xs x (omega (arith, lt)) ∙ ap (λ y. take (length xs - 1) xs ++ y ∷ []) last
-
--- what a successful pop returns is the last entry of the list
-pub popped : (xs rest : List ℕ) (o : Option ℕ) (x n : ℕ) → slice_get xs (length xs - 1) ≡ Some x → n ≡ length xs →
-    ((d : ℕ) → 0 < n → o ≡ Some (get_or xs (n - 1) d)) → xs ≡ rest ++ option_to_list o → xs ≡ rest ++ x ∷ []
-popped xs rest o x n at many value split =
-    let lt = slice_get_within xs (length xs - 1) x at in
-    let last : get_or xs (n - 1) x ≡ x = rw many (get_or_from_slice_get xs (length xs - 1) x x at) in
-    split ∙ ap (λ (p : Option ℕ). rest ++ option_to_list p) (value x (omega (arith, lt)) ∙ ap (λ y. Some y) last)
+-- a list from which nothing could be popped is empty
+pub emptied : (xs rest : List ℕ) (n : ℕ) → xs ≡ rest ++ [] → rest ≡ take (n - 1) xs → n ≡ 0 → xs ≡ []
+emptied xs rest n split left none =
+    split ∙ ap (λ (ys : List ℕ). ys ++ []) left ∙ ap (λ k. take (k - 1) xs ++ []) none
 
 module _ (c : CircuitData) (order : List ℕ) (top : ℕ) (front : List ℕ) {known new : List (Option Truth)}
     {place : ℕ} {stack : List ℕ} (w : Waits c order known place stack) (split : stack ≡ front ++ top ∷ []) where

@@ -1,19 +1,18 @@
 -- Lemmas about Boolean functions that are stored as diagrams in a table that grows.
 use Rattle.std.proofs.Common.{◌≡◌, ℕ, ◌<◌, ◌^◌, Bool, true, false, Option, Some, None, refl, ap, sym, ◌∙◌}
 use Rattle.std.proofs.Common.{List, cond, length, set, length-set, get_or-set_same, get_or-set_other, inl, inr}
-use Rattle.std.specs.Prelude.{is_some}
+use Rattle.std.specs.Prelude.{◌&&◌, if◌then◌else◌, is_some}
 use Rattle.std.proofs.lemmas.Bool.{cases_eq}
 use Rattle.ps_diagram.specs.Labels.{IsOneOrNone, one_where}
-use Rattle.ps_diagram.specs.Leaves.{chosen, opposite}
+use Rattle.ps_diagram.specs.Leaves.{chosen}
 use Rattle.ps_diagram.specs.Letters.{assignment}
 use Rattle.ps_diagram.specs.Table.{Table, IsNode, Keeps, leaf_of}
 use Rattle.ps_diagram.specs.Tree.{leaf_at}
 use Rattle.ps_diagram.proofs.KnownLemmas.{keeps_trans}
-use Rattle.ps_diagram.proofs.Truths.{opposite_of}
 use Rattle.ps_circuit.specs.Values.{AreValues}
 use Rattle.ps_product.specs.Inner.Knowing.{IsReady, IsSite, IsTruthAt, Knows, Learns}
 use Rattle.ps_product.specs.Inner.Nets.{value_at}
-use Rattle.ps_product.specs.Truths.{IsTruth, IsVarying, bits_at, truth_at}
+use Rattle.ps_product.specs.Truths.{IsTruth, IsVarying, bits_at, signed, truth_at}
 use Rattle.ps_product.specs.declared.site.Site.{Site}
 use Rattle.ps_product.specs.declared.truth.Truth.{Truth}
 use Rattle.ps_product.specs.declared.truth.Truth.TheVariants.{Never, Always, Sometimes}
@@ -33,13 +32,13 @@ varying_kept {t} {u} {node} k v = record {
 pub truth_kept : {t u : Table} → Keeps t u → (truth : Truth) → IsTruth t truth → IsTruth u truth
 truth_kept k Never h = tt
 truth_kept k Always h = tt
-truth_kept k (Sometimes node) h = varying_kept k h
+truth_kept k (Sometimes n node) h = varying_kept k h
 
 pub truth_same : {t u : Table} → Keeps t u → (truth : Truth) → IsTruth t truth → (letter : ℕ) →
     truth_at u truth letter ≡ truth_at t truth letter
 truth_same k Never h letter = refl
 truth_same k Always h letter = refl
-truth_same k (Sometimes node) h letter = ap is_some (leaf_kept letter k h.held)
+truth_same k (Sometimes n node) h letter = ap (λ o. signed n (is_some o)) (leaf_kept letter k h.held)
 
 pub some_where : (b : Bool) → is_some (one_where b) ≡ b
 some_where true = refl
@@ -49,8 +48,29 @@ pub chosen_leaf : (x y z : Option ℕ) → IsOneOrNone y → IsOneOrNone z → I
 chosen_leaf None y z hy hz = hz
 chosen_leaf (Some k) y z hy hz = hy
 
-pub negated_leaf : (x : Option ℕ) → IsOneOrNone x → IsOneOrNone (opposite x)
-negated_leaf x h = (cond h.0 false true, ap opposite h.1 ∙ opposite_of h.0)
+pub signed_same : (n a b : Bool) → signed n a ≡ signed n b → a ≡ b
+signed_same true true true e = refl
+signed_same true false false e = refl
+signed_same true true false e = absurd (cc)
+signed_same true false true e = absurd (cc)
+signed_same false a b e = e
+
+-- the conjunction of the bits of x and y, y with a sign: at a letter where x has no leaf, a diagram with the leaf of
+-- `one_where n` there, and with the sign n, is false
+pub both_chosen : (x y : Option ℕ) (m n : Bool) →
+    signed n (is_some (chosen x (if m then one_where n else y) (if m then y else one_where n))) ≡
+    (signed m (is_some x) && signed n (is_some y))
+both_chosen None y true n = refl
+both_chosen None y false true = refl
+both_chosen None y false false = refl
+both_chosen (Some k) y true true = refl
+both_chosen (Some k) y true false = refl
+both_chosen (Some k) y false n = refl
+
+pub chosen_one : (x y : Option ℕ) (m n : Bool) → IsOneOrNone y →
+    IsOneOrNone (chosen x (if m then one_where n else y) (if m then y else one_where n))
+chosen_one x y true n h = chosen_leaf x (one_where n) y (n, refl) h
+chosen_one x y false n h = chosen_leaf x y (one_where n) h (n, refl)
 
 -- a computed function is the function of a variable (`IsTruthAt`) if it has the variable's value at each letter
 pub placed : (s : Site) {t u : Table} (f : ℕ → Bool) (place : ℕ) (truth : Truth) → Keeps t u → IsTruth u truth →

@@ -108,7 +108,7 @@ fn truths_of(
     for wire in wires {
         site.settle(known, stack, truths, wire.place)?;
         let truth = known.get(wire.place).unwrap();
-        made.push(truths.along(truth, *wire)?)?;
+        made.push(truth.along(*wire))?;
     }
     Ok(made)
 }

@@ -1,7 +1,7 @@
 //! Refines a diagram so that its leaves also distinguish the values of given Boolean functions (truths).
 
-ghost use Rattle.std.specs.Prelude.{All, [], ◌∷◌};
-ghost use Rattle.ps_product.specs.Inner.Edges.{CanSplit, Groups, IsWhole};
+ghost use Rattle.std.specs.Prelude.{All, IsTrue, [], ◌∷◌};
+ghost use Rattle.ps_product.specs.Inner.Edges.{CanSplit, Groups, IsToldApart, IsWhole};
 ghost use Rattle.ps_product.specs.Truths.{IsTruth};
 
 use crate::truth::Truth;
@@ -22,10 +22,43 @@ pub(crate) fn grouped(
     ensures { Groups store.old store.new node truths.now result }
 {
     let mut made = node;
-    for truth in truths {
-        made = split_by(alloc, store, made, *truth)?;
+    for (place, truth) in truths.iter().enumerate() {
+        if !is_told_apart(store, &truths[..place], truth) {
+            made = split_by(alloc, store, made, *truth)?;
+        }
     }
     Ok(made)
+}
+
+/// Whether a function in `before` is the given function or its negation: at two letters at which each function in
+/// `before` has the same value, so has the given function.
+fn is_told_apart(store: &Store, before: &[Truth], truth: &Truth) -> bool
+    requires before { All (IsTruth store.now) before.now }
+    requires truth { IsTruth store.now truth.now }
+    ensures { IsTrue result → IsToldApart store.now before.now truth.now }
+{
+    for other in before {
+        if is_same_or_negated(store, *other, *truth) {
+            return true;
+        }
+    }
+    false
+}
+
+/// Whether two functions that are not constant have the same diagram, so that they are equal or one is the negation of
+/// the other.
+fn is_same_or_negated(store: &Store, first: Truth, second: Truth) -> bool
+    requires first { IsTruth store.now first }
+    requires second { IsTruth store.now second }
+    ensures { IsTrue result → IsToldApart store.now (first ∷ []) second }
+{
+    let Truth::Sometimes { node: one, .. } = first else {
+        return false;
+    };
+    let Truth::Sometimes { node: other, .. } = second else {
+        return false;
+    };
+    store.same(one, other)
 }
 
 /// Like `grouped`, but for a single Boolean function.
@@ -33,7 +66,11 @@ fn split_by(alloc: Global, store: &mut Store, node: Node, truth: Truth) -> Resul
     requires { CanSplit store.old node truth }
     ensures { Groups store.old store.new node (truth ∷ []) result }
 {
-    let Truth::Sometimes(condition) = truth else {
+    let Truth::Sometimes {
+        node: condition,
+        ..
+    } = truth
+    else {
         return Ok(node);
     };
     let sides = store.fill(condition, 0)?;

@@ -11,7 +11,7 @@ use std::marker::Model;
 /// equals its stamp.
 #[derive(Clone, Copy)]
 struct Entry {
-    stamp: u64,
+    stamp: u32,
     truth: Truth,
 }
 
@@ -26,7 +26,7 @@ const FORGOTTEN: Entry = Entry {
 #[derive(Drop)]
 pub(crate) struct Known {
     entries: Vec<Entry>,
-    stamp: u64,
+    stamp: u32,
 }
 
 impl Model for Known {
@@ -78,7 +78,7 @@ impl Known {
         ensures size { length self.new ≡ length self.old }
         ensures none { IsForgotten self.new }
     {
-        if self.stamp == u64::MAX {
+        if self.stamp == u32::MAX {
             self.entries.fill(FORGOTTEN);
             self.stamp = 0;
         }

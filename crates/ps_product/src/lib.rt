@@ -10,7 +10,8 @@
 //! | `Product::build(circuit, automaton, order, role)` | the product, or the first `ProductFault` |
 //! | `Product::game`, `inputs(vertex, number)` | the product's game; the inputs that a step to a successor reads |
 //! | `ProductFault::number`, `name` | the fault's number and name in psyn's list of faults |
-//! | `Truths::new(propositions)`, `proposition`, `both`, `negated` | makes truths, in a store of their own |
+//! | `Truths::new(store)`, `proposition`, `both`, `into_store` | makes truths, whose diagrams are added to a store |
+//! | `Truth::negated` | the negation of a truth, which has the same diagram |
 //! | `Evaluator::new(circuit)`, `at(propositions, latches, truths)` | the truths of outputs and next latches |
 //!
 //! The law `outcome_is_the_step` says that the functions which an evaluator computes have, at each letter, the values

@@ -2,7 +2,7 @@
 
 ghost use Rattle.std.specs.Prelude.{◌≡◌, ℕ, ◌<◌, length, map, IfOk, MatchOption};
 ghost use Rattle.ps_circuit.specs.Circuits.{CircuitData, IsCircuit};
-ghost use Rattle.ps_product.specs.Inner.Nets.{IsGateAt, front_of, sides_of};
+ghost use Rattle.ps_product.specs.Inner.Nets.{IsGateAt, front_of, in_order, sides_of};
 ghost use Rattle.ps_simulate.specs.Plans.{variables, wire_of};
 
 use ps_circuit::Circuit;
@@ -10,7 +10,7 @@ use ps_simulate::{Places, Wire, next_wires, output_wires};
 use std::alloc::{AllocError, Global};
 use std::marker::Model;
 
-/// The two literals that a gate reads.
+/// The two literals that a gate reads, in the order of their variables' places (indices).
 #[derive(Clone, Copy)]
 pub(crate) struct Sides {
     /// The first literal.
@@ -19,17 +19,19 @@ pub(crate) struct Sides {
     pub second: Wire,
 }
 
-impl Sides {
-    /// The two literals, in the order of their variables' places (indices).
-    pub fn lower_first(self) -> Self
-        ensures { (c : CircuitData) (place : ℕ) → IsGateAt c place self → IsGateAt c place result }
-    {
-        if self.first.place <= self.second.place {
-            return self;
-        }
+/// Two literals, in the order of their variables' places (indices).
+fn in_order(one: Wire, other: Wire) -> Sides
+    ensures { result ≡ in_order one other }
+{
+    if one.place <= other.place {
         Sides {
-            first: self.second,
-            second: self.first,
+            first: one,
+            second: other,
+        }
+    } else {
+        Sides {
+            first: other,
+            second: one,
         }
     }
 }
@@ -133,10 +135,9 @@ fn gate_sides(alloc: Global, places: &Places) -> Result<Vec<Sides>, AllocError>
     let circuit = places.circuit();
     let mut sides = Vec::new(alloc);
     for gate in circuit.gates() {
-        sides.push(Sides {
-            first: places.wire(gate.first),
-            second: places.wire(gate.second),
-        })?;
+        let one = places.wire(gate.first);
+        let other = places.wire(gate.second);
+        sides.push(in_order(one, other))?;
     }
     Ok(sides)
 }

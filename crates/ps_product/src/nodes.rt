@@ -21,7 +21,13 @@ fn node_of(store: &mut Store, truth: Truth) -> Result<Node, AllocError>
     match truth {
         Truth::Never => store.none(),
         Truth::Always => store.leaf(1),
-        Truth::Sometimes(node) => Ok(node),
+        Truth::Sometimes { is_negated, node } => {
+            if is_negated {
+                store.negated(node)
+            } else {
+                Ok(node)
+            }
+        }
     }
 }
 
@@ -115,6 +121,8 @@ fn holds(store: &Store, truth: Truth, letter: u64) -> bool
     match truth {
         Truth::Never => false,
         Truth::Always => true,
-        Truth::Sometimes(node) => store.eval(node, letter).is_some(),
+        Truth::Sometimes { is_negated, node } => {
+            store.eval(node, letter).is_some() != is_negated
+        }
     }
 }

@@ -1,18 +1,14 @@
 //! Evaluates a circuit at given latches, gate by gate.
 
-ghost use Rattle.std.specs.Prelude.{◌≡◌, ℕ, ◌<◌, ◌&&◌, length, slice_index_or, IfOk, IsSome, IsTrue, None, not};
-ghost use Rattle.std.specs.Prelude.{if◌then◌else◌, OnOk};
-ghost use Rattle.std.specs.Prelude.{false};
-ghost use Rattle.ps_diagram.specs.Table.{Keeps, Table};
+ghost use Rattle.std.specs.Prelude.{◌≡◌, ◌<◌, length, slice_index_or, IfOk, IsSome, None, OnOk};
+ghost use Rattle.ps_diagram.specs.Table.{Keeps};
 ghost use Rattle.ps_product.specs.Inner.Knowing.{IsReady, IsReadyAt, IsSite, IsStep, IsTruthAt, Learns};
 ghost use Rattle.ps_product.specs.Inner.Nets.{front_of};
-ghost use Rattle.ps_product.specs.Truths.{IsTruth, MakesTruth, truth_at, bit_by_wire};
 ghost use Rattle.ps_simulate.specs.Plans.{variables};
 
 use crate::known::Known;
-use crate::net::{Net, Sides};
+use crate::net::Net;
 use crate::truth::{Truth, Truths};
-use ps_simulate::Wire;
 use std::alloc::AllocError;
 
 /// A circuit with given latches, and a proposition for each input.
@@ -46,17 +42,19 @@ impl<'s, 'c> Site<'s, 'c> {
         }
         let order = self.net.circuit().order();
         stack.clear();
-        stack.push(place)?;
-        while let Some(&top) = stack.last() {
+        let mut top = place;
+        loop {
             // the loop ends, since in `order` each gate comes after the gates that it reads
             let _ = order;
-            let Some(lower) = self.step(known, truths, top)? else {
-                let _ = stack.pop();
-                continue;
-            };
-            stack.push(lower)?;
+            if let Some(lower) = self.step(known, truths, top)? {
+                stack.push(top)?;
+                top = lower;
+            } else if let Some(waiting) = stack.pop() {
+                top = waiting;
+            } else {
+                return Ok(());
+            }
         }
-        Ok(())
     }
 
     /// Makes one step in the evaluation of a variable that has not been evaluated. Either the variable is evaluated, or
@@ -77,18 +75,18 @@ impl<'s, 'c> Site<'s, 'c> {
             known.put(place, truth);
             return Ok(None);
         };
-        let sides = sides.lower_first();
         let Some(one) = known.get(sides.first.place) else {
             return Ok(Some(sides.first.place));
         };
-        if is_never(&one, sides.first.is_negated) {
+        let one = one.along(sides.first);
+        if let Truth::Never = one {
             known.put(place, Truth::Never);
             return Ok(None);
         }
         let Some(other) = known.get(sides.second.place) else {
             return Ok(Some(sides.second.place));
         };
-        let truth = conjunction(truths, sides, one, other)?;
+        let truth = truths.both(one, other.along(sides.second))?;
         known.put(place, truth);
         Ok(None)
     }
@@ -111,34 +109,4 @@ impl<'s, 'c> Site<'s, 'c> {
         }
         Ok(Truth::constant(self.latches[place - inputs - 1]))
     }
-}
-
-/// Whether a Boolean function, negated if the flag is set, is the constant false.
-fn is_never(truth: &Truth, is_negated: bool) -> bool
-    ensures { IsTrue result → (table : Table) (letter : ℕ) →
-        (if is_negated then not (truth_at table truth.now letter) else truth_at table truth.now letter) ≡ false }
-{
-    match truth {
-        Truth::Never => !is_negated,
-        Truth::Always => is_negated,
-        Truth::Sometimes(_) => false,
-    }
-}
-
-/// The Boolean function of a gate that reads the two given literals, computed from the functions of their variables.
-fn conjunction(
-    truths: &mut Truths,
-    sides: Sides,
-    one: Truth,
-    other: Truth,
-) -> Result<Truth, AllocError>
-    requires one { IsTruth truths.old one }
-    requires other { IsTruth truths.old other }
-    ensures { MakesTruth truths.old truths.new result (λ letter.
-        bit_by_wire sides.first (truth_at truths.old one letter) &&
-        bit_by_wire sides.second (truth_at truths.old other letter)) }
-{
-    let one = truths.along(one, sides.first)?;
-    let other = truths.along(other, sides.second)?;
-    truths.both(one, other)
 }

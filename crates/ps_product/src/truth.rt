@@ -4,11 +4,11 @@ ghost use Rattle.std.specs.Prelude.{◌≡◌, ℕ, ◌^◌, ◌<◌, ◌≤◌,
 ghost use Rattle.ps_label.specs.Truth.{is_in};
 ghost use Rattle.ps_diagram.specs.Labels.{IsOneOrNone};
 ghost use Rattle.ps_diagram.specs.Table.{IsNode, Table, leaf_of};
-ghost use Rattle.ps_product.specs.Truths.{IsTruth, MakesTruth, truth_at, bit_by_wire};
+ghost use Rattle.ps_product.specs.Truths.{IsTruth, IsVarying, MakesTruth, bit_by_wire, signed, truth_at};
 
 use ps_diagram::{Node, Store};
 use ps_simulate::Wire;
-use std::alloc::{AllocError, Global};
+use std::alloc::AllocError;
 use std::marker::Model;
 
 /// A truth: a Boolean function of letters.
@@ -18,8 +18,13 @@ pub enum Truth {
     Never,
     /// The function that is true at every letter.
     Always,
-    /// A function that is not constant: it is true at the letters at which this node has a leaf.
-    Sometimes(Node),
+    /// A function that is not constant.
+    Sometimes {
+        /// Whether the node is that of the function's negation.
+        is_negated: bool,
+        /// The diagram of the function, or of its negation. It has a leaf where that one is true.
+        node: Node,
+    },
 }
 
 impl Truth {
@@ -30,10 +35,38 @@ impl Truth {
     {
         if bit { Truth::Always } else { Truth::Never }
     }
+
+    /// The negation of the function.
+    pub fn negated(self) -> Self
+        ensures truth { (table : Table) (letter : ℕ) → truth_at table result letter ≡ not (truth_at table self letter) }
+        ensures is_truth { (table : Table) → IsTruth table self → IsTruth table result }
+    {
+        match self {
+            Truth::Never => Truth::Always,
+            Truth::Always => Truth::Never,
+            Truth::Sometimes { is_negated, node } => Truth::Sometimes {
+                is_negated: !is_negated,
+                node,
+            },
+        }
+    }
+
+    /// The function of a literal: the given function of its variable, negated if the literal is negated.
+    pub(crate) fn along(self, wire: Wire) -> Self
+        ensures truth { (table : Table) (letter : ℕ) →
+            truth_at table result letter ≡ bit_by_wire wire (truth_at table self letter) }
+        ensures is_truth { (table : Table) → IsTruth table self → IsTruth table result }
+    {
+        if wire.is_negated {
+            self.negated()
+        } else {
+            self
+        }
+    }
 }
 
-/// Makes Boolean functions (truths) of the letters over some propositions, in a store of its own. A call that makes a
-/// function fails if memory runs out.
+/// Makes Boolean functions (truths) of the letters over some propositions. A call that makes a function fails if memory
+/// runs out.
 #[derive(Drop)]
 pub struct Truths {
     store: Store,
@@ -53,26 +86,17 @@ impl Model for Truths {
 }
 
 impl Truths {
-    /// Creates a maker of Boolean functions, whose store has only the two constants.
-    pub fn new(alloc: Global, propositions: u32) -> Result<Self, AllocError>
-        requires few { propositions ≤ 64 }
-        ensures { IfOk result (λ truths. truths.propositions ≡ propositions) }
+    /// Creates a maker of Boolean functions, whose diagrams are added to a store.
+    pub fn new(mut store: Store) -> Result<Self, AllocError>
+        ensures { IfOk result (λ truths. truths.propositions ≡ store.propositions) }
     {
-        let mut store = Store::new(alloc, propositions);
         let none = store.none()?;
         let one = store.leaf(1)?;
         Ok(Truths { store, none, one })
     }
 
-    /// The store of the functions' decision diagrams.
-    pub fn store(&self) -> &Store
-        ensures { result.now ≡ self.now }
-    {
-        &self.store
-    }
-
     /// Returns the store of the functions' decision diagrams, and frees the other fields.
-    pub(crate) fn into_store(self) -> Store
+    pub fn into_store(self) -> Store
         ensures { result ≡ self }
     {
         self.store
@@ -84,7 +108,7 @@ impl Truths {
         ensures { MakesTruth self.old self.new result (λ letter. is_in proposition letter) }
     {
         let node = self.store.of_proposition(proposition)?;
-        Ok(self.truth_of(node))
+        Ok(self.truth_of(node, false))
     }
 
     /// The conjunction of two Boolean functions.
@@ -94,60 +118,62 @@ impl Truths {
         ensures { MakesTruth self.old self.new result
             (λ letter. truth_at self.old first letter && truth_at self.old second letter) }
     {
-        let one = match first {
+        let (one, one_negated) = match first {
             Truth::Never => return Ok(Truth::Never),
             Truth::Always => return Ok(second),
-            Truth::Sometimes(node) => node,
+            Truth::Sometimes { is_negated, node } => (node, is_negated),
         };
-        let other = match second {
-            Truth::Never => return Ok(Truth::Never),
-            Truth::Always => return Ok(first),
-            Truth::Sometimes(node) => node,
-        };
-        let node = self.store.choose(one, other, self.none)?;
-        Ok(self.truth_of(node))
-    }
-
-    /// The negation of a Boolean function.
-    pub fn negated(&mut self, truth: Truth) -> Result<Truth, AllocError>
-        requires held { IsTruth self.old truth }
-        ensures { MakesTruth self.old self.new result (λ letter. not (truth_at self.old truth letter)) }
-    {
-        match truth {
-            Truth::Never => Ok(Truth::Always),
-            Truth::Always => Ok(Truth::Never),
-            Truth::Sometimes(node) => {
-                let node = self.store.negated(node)?;
-                Ok(self.truth_of(node))
+        match second {
+            Truth::Never => Ok(Truth::Never),
+            Truth::Always => Ok(first),
+            Truth::Sometimes { is_negated, node } => {
+                self.both_varying(one, one_negated, node, is_negated)
             }
         }
     }
 
-    /// The function of a literal: the given function of its variable, negated if the literal is negated.
-    pub(crate) fn along(&mut self, truth: Truth, wire: Wire) -> Result<Truth, AllocError>
-        requires held { IsTruth self.old truth }
-        ensures { MakesTruth self.old self.new result (λ letter. bit_by_wire wire (truth_at self.old truth letter)) }
+    /// The conjunction of two functions that are not constant, each given by a diagram and whether this is the diagram
+    /// of the function's negation.
+    fn both_varying(
+        &mut self,
+        one: Node,
+        one_negated: bool,
+        other: Node,
+        other_negated: bool,
+    ) -> Result<Truth, AllocError>
+        requires one { IsVarying self.old one }
+        requires other { IsVarying self.old other }
+        ensures { MakesTruth self.old self.new result
+            (λ letter. signed one_negated (is_some (leaf_of self.old one letter)) &&
+            signed other_negated (is_some (leaf_of self.old other letter))) }
     {
-        if wire.is_negated {
-            return self.negated(truth);
-        }
-        Ok(truth)
+        // where `one` is false, so is the conjunction, and `rest` has the leaf of a function whose diagram is negated
+        // as `other` is
+        let rest = if other_negated { self.one } else { self.none };
+        let (high, low) = if one_negated {
+            (rest, other)
+        } else {
+            (other, rest)
+        };
+        let node = self.store.choose(one, high, low)?;
+        Ok(self.truth_of(node, other_negated))
     }
 
-    /// The Boolean function of a diagram in which each leaf is 1: it is true at the letters that have a leaf.
-    fn truth_of(&self, node: Node) -> Truth
+    /// The Boolean function of a diagram in which each leaf is 1: it is true at the letters that have a leaf, or, if
+    /// `is_negated`, at the others.
+    fn truth_of(&self, node: Node, is_negated: bool) -> Truth
         requires held { IsNode self.now node }
         requires leaves { (letter : ℕ) → IsOneOrNone (leaf_of self.now node letter) }
         ensures is_truth { IsTruth self.now result }
         ensures truth { (letter : ℕ) → letter < 2 ^ self.now.propositions →
-            truth_at self.now result letter ≡ is_some (leaf_of self.now node letter) }
+            truth_at self.now result letter ≡ signed is_negated (is_some (leaf_of self.now node letter)) }
     {
         if self.store.same(node, self.none) {
-            return Truth::Never;
+            return Truth::constant(is_negated);
         }
         if self.store.same(node, self.one) {
-            return Truth::Always;
+            return Truth::constant(!is_negated);
         }
-        Truth::Sometimes(node)
+        Truth::Sometimes { is_negated, node }
     }
 }

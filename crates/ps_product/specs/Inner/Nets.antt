@@ -1,6 +1,7 @@
 -- The variables of a circuit are numbered anew, in the order constant, inputs, latches, gates; a variable's new number
 -- is its place.
-use Rattle.std.specs.Prelude.{◌≡◌, ℕ, ◌+◌, ◌-◌, ◌<◌, ◌≤◌, ◌⊎◌, ◌&&◌, Bool, List, length, map, slice_index_or}
+use Rattle.std.specs.Prelude.{◌≡◌, ℕ, ◌+◌, ◌-◌, ◌<◌, ◌≤◌, ◌⊎◌, ◌&&◌, Bool, if◌then◌else◌, List, length, map, nat_le}
+use Rattle.std.specs.Prelude.{slice_index_or}
 use Rattle.ps_circuit.specs.declared.parts.Gate.{Gate}
 use Rattle.ps_circuit.specs.Circuits.{CircuitData, IsCircuit, ReadsGate}
 use Rattle.ps_circuit.specs.Values.{AreValues, value_of}
@@ -13,8 +14,14 @@ use Rattle.ps_simulate.specs.Plans.{variables, wire_of}
 abbrev pub front_of : CircuitData → ℕ
 front_of c = 1 + length c.inputs + length c.latches
 
+-- two literals, in the order of their variables' places
+abbrev pub in_order : Wire → Wire → Sides
+in_order one other =
+    if nat_le one.place other.place then record { first = one; second = other }
+    else record { first = other; second = one }
+
 abbrev pub sides_of : CircuitData → Gate → Sides
-sides_of c g = record { first = wire_of c g.first; second = wire_of c g.second }
+sides_of c g = in_order (wire_of c g.first) (wire_of c g.second)
 
 pub record IsNet (c : CircuitData) (front : ℕ) (gates : List Sides) (outputs nexts : List Wire) : Type 0 where
   pub is_circuit : IsCircuit c

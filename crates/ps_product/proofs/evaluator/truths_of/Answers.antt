@@ -1,8 +1,9 @@
 use Rattle.std.proofs.Common.{◌∙◌, false, get_or, sym, take}
 use Rattle.std.proofs.lemmas.List.{take_more}
+use Rattle.ps_diagram.proofs.Cells.{keeps_refl}
 use Rattle.ps_diagram.proofs.KnownLemmas.{keeps_trans}
 use Rattle.ps_product.proofs.LiteralTruths.{along_kept, along_more, truth_along}
-use Rattle.ps_product.proofs.TruthLemmas.{learns_on, learnt, ready_on}
+use Rattle.ps_product.proofs.TruthLemmas.{learnt, ready_on}
 use Rattle.ps_simulate.specs.declared.plan.Wire.{Wire}
 use Rattle.ps_product.specs.Inner.Knowing.{Learns}
 use Rattle.ps_product.proofs.evaluator.truths_of.Goals as goal
@@ -20,13 +21,8 @@ settle-requires-clause-ready c = ready_on c.requires.ready c.loop-wire.invariant
 pub returns-in_err-settle-clause-learns : goal.returns-in_err-settle-clause-learns
 returns-in_err-settle-clause-learns c = settled (goal.at.returns-in_err-settle-clause-learns c).After-settle
 
-pub returns-in_err-along-clause-learns : goal.returns-in_err-along-clause-learns
-returns-in_err-along-clause-learns c =
-    learns_on _ _ (settled (goal.at.returns-in_err-along-clause-learns c).After-settle) c.along.ensures.keeps
-
 pub returns-in_err-push-clause-learns : goal.returns-in_err-push-clause-learns
-returns-in_err-push-clause-learns c =
-    learns_on _ _ (settled (goal.at.returns-in_err-push-clause-learns c).After-settle) c.along.ensures.keeps
+returns-in_err-push-clause-learns c = settled (goal.at.returns-in_err-push-clause-learns c).After-settle
 
 pub loop-wire-preserved : goal.loop-wire-preserved
 loop-wire-preserved c =
@@ -36,13 +32,14 @@ loop-wire-preserved c =
     let before = take i c.args.wires.now in
     let w = get_or c.args.wires.now i none in
     let truth = c.unwrap-truth.result in
-    let made = c.in_ok-along.field-0 in
-    let along = c.along.ensures.keeps in
+    let made = c.along.result in
+    let t = c.settle.new.truths in
     let at = c.settle.ensures.learns.knows.each w.place truth (sym c.get.ensures ∙ c.unwrap-truth.ensures) in
     record {
-      learns = learns_on _ _ (settled (goal.at.loop-wire-preserved c).After-settle) along;
-      made = along_more s before c.loop-wire.made.items w made (along_kept s before c.loop-wire.made.items
-          (keeps_trans c.settle.ensures.learns.keeps along) c.loop-wire.invariant.made)
-          (truth_along s w truth made along at c.in_ok-along.ensures.is_truth c.in_ok-along.ensures.truth)
+      learns = settled (goal.at.loop-wire-preserved c).After-settle;
+      made = along_more s before c.loop-wire.made.items w made
+          (along_kept s before c.loop-wire.made.items c.settle.ensures.learns.keeps c.loop-wire.invariant.made)
+          (truth_along s w truth made (keeps_refl t) at (c.along.ensures.is_truth t at.is_truth)
+          (λ letter lt. c.along.ensures.truth t letter))
           (take_more c.args.wires.now i none c.loop-wire-test.true) c.in_ok-push.ensures.items;
     }

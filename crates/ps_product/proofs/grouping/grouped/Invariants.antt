@@ -3,9 +3,9 @@ use Rattle.ps_diagram.specs.Table.{IsNode, Keeps}
 use Rattle.ps_product.specs.Inner.Edges.{IsGroupedBy}
 use Rattle.ps_product.proofs.grouping.grouped.Given as goal
 
-abbrev pub invariant-loop-truth : goal.invariant-loop-truth
-invariant-loop-truth l = record {
+abbrev pub invariant-loop-place : goal.invariant-loop-place
+invariant-loop-place l = record {
   keeps : Keeps l.fn.store l.store;
   held : IsNode l.store l.made;
-  grouped : IsGroupedBy l.fn.store l.store l.fn.node l.made (take l.truth-index l.truths);
+  grouped : IsGroupedBy l.fn.store l.store l.fn.node l.made (take l.place l.truths);
 }

@@ -3,13 +3,13 @@ use Rattle.std.proofs.lemmas.Grind.{common_steps}
 use Rattle.ps_simulate.proofs.PlacesLemmas.{sides_known}
 use Rattle.ps_product.proofs.net.gate_sides.Goals as goal
 
-pub wire-requires : goal.wire-requires
-wire-requires c = rw (← c.circuit-circuit.ensures.circuit, c.gate-item.is, c.gates-gate-items.ensures.gates)
+pub wire-one-requires : goal.wire-one-requires
+wire-one-requires c = rw (← c.circuit-circuit.ensures.circuit, c.gate-item.is, c.gates-gate-items.ensures.gates)
     (sides_known c.gates-gate-items.ensures.well_formed c.loop-gate.gate-index c.gate-item.result
     (rw c.gates-gate-items.ensures.gates at c.loop-gate-test.true)).0
 
-pub wire-requires-in-loop-gate : goal.wire-requires-in-loop-gate
-wire-requires-in-loop-gate c =
+pub wire-other-requires : goal.wire-other-requires
+wire-other-requires c =
     rw (← c.circuit-circuit.ensures.circuit, c.gate-item.is, c.gates-gate-items.ensures.gates)
     (sides_known c.gates-gate-items.ensures.well_formed c.loop-gate.gate-index c.gate-item.result
     (rw c.gates-gate-items.ensures.gates at c.loop-gate-test.true)).1
