@@ -9,7 +9,8 @@ pub mod StepsOf
 pub mod RoleLemmas
 pub mod GroupLemmas
 pub mod TruthNodes
-pub mod VertexTree
+pub mod WordLemmas
+pub mod VertexNumbers
 pub mod EdgeLemmas
 pub mod ExploringLemmas
 pub mod TimingLemmas

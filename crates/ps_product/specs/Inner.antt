@@ -10,3 +10,4 @@ pub mod Numbers
 pub mod Plans
 pub mod Roles
 pub mod Stored
+pub mod Words

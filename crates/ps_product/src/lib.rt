@@ -38,6 +38,7 @@ mod roles;
 mod site;
 mod truth;
 mod vertex;
+mod words;
 
 pub use evaluator::{Evaluator, Outcome};
 pub use fault::ProductFault;

@@ -1,7 +1,5 @@
 use Rattle.std.specs.Prelude.{IsTrue}
 use Rattle.std.proofs.Common.{rules}
-use Rattle.ps_product.specs.Inner.Edges.{IsToldApart}
-use Rattle.ps_product.specs.declared.truth.Truth.TheVariants.{Never}
 use Rattle.ps_product.proofs.GroupLemmas.{told_by_one}
 use Rattle.ps_product.proofs.grouping.is_told_apart.Goals as goal
 

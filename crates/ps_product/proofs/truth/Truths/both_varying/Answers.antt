@@ -28,7 +28,8 @@ node_leaf c letter = c.in_ok-node.ensures.leaf letter ∙ elim c.if-one_negated.
 pub truth_of-requires-clause-leaves : goal.truth_of-requires-clause-leaves
 truth_of-requires-clause-leaves c = λ letter.
     let held : IsVarying c.self.inside.store c.args.other = rw (← c.self.view_is) at c.requires.other in
-    let one = chosen_one (leaf_of c.self.inside.store c.args.one letter) (leaf_of c.self.inside.store c.args.other letter)
+    let one =
+    chosen_one (leaf_of c.self.inside.store c.args.one letter) (leaf_of c.self.inside.store c.args.other letter)
     c.args.one_negated c.args.other_negated (held.leaves letter) in
     (one.0, node_leaf c letter ∙ one.1)
 
