@@ -1,0 +1,162 @@
+//! The circuit with the gates of a builder, and with the names of another circuit.
+
+ghost use Rattle.std.specs.Prelude.{◌≡◌, ◌+◌, ◌*◌, ◌^◌, ◌≤◌, All, IfOk, None, length, map, replicate};
+ghost use Rattle.std.specs.List.{range_with_len};
+ghost use Rattle.std.specs.Option.{option_copied};
+ghost use Rattle.ps_circuit.specs.Building.{IsHeld, IsSoundDraft};
+ghost use Rattle.ps_circuit.specs.Circuits.{IsCircuit};
+ghost use Rattle.ps_circuit.specs.Drafts.{data_of, name_bytes};
+ghost use Rattle.ps_aiger.specs.Wires.{AreGates};
+ghost use Rattle.ps_shrink.specs.Inner.Assembled.{AreCells, HasNamesOf, HasGatesOf};
+
+use ps_circuit::{Builder, Circuit, Gate, Latch, Literal, Parts};
+use ps_simulate::{input_symbols, output_symbols};
+use std::alloc::{AllocError, Global};
+
+/// A latch: the literal of its next value, and its first value.
+#[derive(Clone, Copy)]
+pub(crate) struct Cell {
+    /// The literal of the next value.
+    pub next: Literal,
+    /// The value in the first step.
+    pub reset: bool,
+}
+
+/// The circuit with the gates of a builder, and with the inputs and the output names of the circuit `named`. The
+/// builder's given variables are those of the inputs and of the latches, in this order. Fails if out of memory.
+pub(crate) fn assembled(
+    alloc: Global,
+    named: &Circuit,
+    builder: &Builder,
+    cells: &[Cell],
+    outputs: Vec<Literal>,
+) -> Result<Circuit, AllocError>
+    requires given { builder.now.given ≡ length named.now.inputs + length cells.now }
+    requires nexts { All (λ cell. IsHeld builder.now cell.next) cells.now }
+    requires outputs { All (IsHeld builder.now) outputs.items }
+    requires each { length outputs.items ≡ length named.now.outputs }
+    ensures { IfOk result (HasNamesOf named.now) }
+{
+    let parts = parts_of(alloc, named, builder, cells, outputs)?;
+    Circuit::in_order(alloc, parts)
+}
+
+/// The parts of that circuit.
+fn parts_of(
+    alloc: Global,
+    named: &Circuit,
+    builder: &Builder,
+    cells: &[Cell],
+    outputs: Vec<Literal>,
+) -> Result<Parts, AllocError>
+    requires given { builder.now.given ≡ length named.now.inputs + length cells.now }
+    ensures sound { IsSoundDraft builder.now }
+    ensures circuit { IsCircuit named.now }
+    ensures parts { IfOk result (λ parts. HasGatesOf named.now builder.now cells.now outputs.items (data_of parts)) }
+{
+    let most = builder.variables();
+    let inputs = named.inputs().len() as u32;
+    Ok(Parts {
+        most,
+        inputs: literals_from(alloc, 1, inputs)?,
+        latches: latches_of(alloc, inputs + 1, cells)?,
+        outputs,
+        gates: gates_of(alloc, builder)?,
+        input_names: input_names(alloc, named)?,
+        latch_names: no_names(alloc, cells.len())?,
+        output_names: output_names(alloc, named)?,
+    })
+}
+
+/// The literals of `count` variables from variable `first` on.
+fn literals_from(alloc: Global, first: u32, count: u32) -> Result<Vec<Literal>, AllocError>
+    requires { first + count ≤ 2 ^ 31 }
+    ensures { IfOk result (λ literals. literals.items ≡ map (λ v. 2 * v) (range_with_len first count)) }
+{
+    let mut literals = Vec::new(alloc);
+    for place in 0..count {
+        literals.push(Literal::positive(first + place))?;
+    }
+    Ok(literals)
+}
+
+/// Latches with the variables from `first` on.
+fn latches_of(alloc: Global, first: u32, cells: &[Cell]) -> Result<Vec<Latch>, AllocError>
+    requires { first + length cells.now ≤ 2 ^ 31 }
+    ensures { IfOk result (λ latches. AreCells first cells.now latches.items) }
+{
+    let mut latches = Vec::new(alloc);
+    for (place, cell) in cells.iter().enumerate() {
+        latches.push(Latch {
+            literal: Literal::positive(first + place as u32),
+            next: cell.next,
+            reset: cell.reset,
+        })?;
+    }
+    Ok(latches)
+}
+
+/// The gates of a builder.
+fn gates_of(alloc: Global, builder: &Builder) -> Result<Vec<Gate>, AllocError>
+    ensures { IfOk result (λ gates. AreGates (builder.now.given + 1) builder.now.gates gates.items) }
+{
+    let first = builder.given() + 1;
+    let mut gates = Vec::new(alloc);
+    for (place, sides) in builder.gates().iter().enumerate() {
+        gates.push(Gate {
+            literal: Literal::positive(first + place as u32),
+            first: sides.first,
+            second: sides.second,
+        })?;
+    }
+    Ok(gates)
+}
+
+/// The names of a circuit's inputs.
+fn input_names(alloc: Global, named: &Circuit) -> Result<Vec<Option<Vec<u8>>>, AllocError>
+    ensures { IfOk result (λ names. map name_bytes names.items ≡ named.now.input_names) }
+{
+    let symbols = input_symbols(alloc, named)?;
+    copies(alloc, &symbols)
+}
+
+/// The names of a circuit's outputs.
+fn output_names(alloc: Global, named: &Circuit) -> Result<Vec<Option<Vec<u8>>>, AllocError>
+    ensures { IfOk result (λ names. map name_bytes names.items ≡ named.now.output_names) }
+{
+    let symbols = output_symbols(alloc, named)?;
+    copies(alloc, &symbols)
+}
+
+/// Copies of names.
+fn copies(alloc: Global, names: &[Option<&[u8]>]) -> Result<Vec<Option<Vec<u8>>>, AllocError>
+    ensures { IfOk result (λ copies. map name_bytes copies.items ≡ map option_copied names.now) }
+{
+    let mut copies = Vec::new(alloc);
+    for name in names {
+        copies.push(copy_of(alloc, *name)?)?;
+    }
+    Ok(copies)
+}
+
+/// A copy of a name, if there is one.
+fn copy_of(alloc: Global, name: Option<&[u8]>) -> Result<Option<Vec<u8>>, AllocError>
+    ensures { IfOk result (λ copy. name_bytes copy ≡ option_copied name.entry) }
+{
+    match name {
+        Some(bytes) => Ok(Some(bytes.to_vec(alloc)?)),
+        None => Ok(None),
+    }
+}
+
+/// A list of `count` entries `None`: the latches have no names.
+fn no_names(alloc: Global, count: usize) -> Result<Vec<Option<Vec<u8>>>, AllocError>
+    ensures many { IfOk result (λ names. length names.items ≡ count) }
+    ensures none { IfOk result (λ names. map name_bytes names.items ≡ replicate count None) }
+{
+    let mut names = Vec::new(alloc);
+    for _ in 0..count {
+        names.push(None)?;
+    }
+    Ok(names)
+}

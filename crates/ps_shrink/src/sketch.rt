@@ -1,0 +1,163 @@
+//! Circuits without names, in which each variable has a place (index): the constant has the place 0, and then come the
+//! inputs, the latches and the gates.
+
+use ps_circuit::{Builder, Circuit, Literal};
+use ps_simulate::{Places, Wire, output_wires};
+use std::alloc::{AllocError, Global};
+
+/// A variable by its place, negated or not.
+#[derive(Clone, Copy)]
+pub(crate) struct Signal {
+    /// The place of the variable.
+    pub place: usize,
+    /// Whether the variable is negated.
+    pub is_negated: bool,
+}
+
+impl Signal {
+    /// The signal that always has the given value.
+    pub fn constant(bit: bool) -> Self {
+        Signal {
+            place: 0,
+            is_negated: bit,
+        }
+    }
+
+    /// The variable with the given place.
+    pub fn positive(place: usize) -> Self {
+        Signal {
+            place,
+            is_negated: false,
+        }
+    }
+
+    /// The signal of a literal whose variable's number is its place.
+    pub fn of_literal(literal: Literal) -> Self {
+        Signal {
+            place: literal.variable() as usize,
+            is_negated: literal.is_negated(),
+        }
+    }
+
+    /// The signal of a wire.
+    pub fn of_wire(wire: Wire) -> Self {
+        Signal {
+            place: wire.place as usize,
+            is_negated: wire.is_negated,
+        }
+    }
+}
+
+/// A gate: its own place, and the two signals that it reads.
+#[derive(Clone, Copy)]
+pub(crate) struct Row {
+    /// The place of the gate.
+    pub place: usize,
+    /// The first signal that the gate reads.
+    pub first: Signal,
+    /// The second signal that the gate reads.
+    pub second: Signal,
+}
+
+/// A latch: its own place, its next value, and its first value.
+#[derive(Clone, Copy)]
+pub(crate) struct Memory {
+    /// The place of the latch.
+    pub place: usize,
+    /// The signal of the next value.
+    pub next: Signal,
+    /// The value in the first step.
+    pub reset: bool,
+}
+
+/// A circuit without names. Each gate comes after the gates that it reads.
+#[derive(Drop)]
+pub(crate) struct Sketch {
+    /// The number of inputs.
+    pub inputs: usize,
+    /// The latches.
+    pub latches: Vec<Memory>,
+    /// The gates.
+    pub gates: Vec<Row>,
+    /// The signals of the outputs.
+    pub outputs: Vec<Signal>,
+}
+
+impl Sketch {
+    /// The sketch of a circuit. Fails if out of memory.
+    pub fn of(alloc: Global, circuit: &Circuit) -> Result<Self, AllocError> {
+        let places = Places::new(alloc, circuit)?;
+        Ok(Sketch {
+            inputs: circuit.inputs().len(),
+            latches: latches_of(alloc, &places)?,
+            gates: gates_of(alloc, &places)?,
+            outputs: outputs_of(alloc, &places)?,
+        })
+    }
+
+    /// The number of sites that a change can replace: outputs, next values, latches and gates.
+    pub fn sites(&self) -> usize {
+        let latches = self.latches.len();
+        (latches + latches).saturating_add(self.outputs.len() + self.gates.len())
+    }
+
+    /// The number of places.
+    pub fn places(&self) -> usize {
+        (1 + self.latches.len() + self.gates.len()).saturating_add(self.inputs)
+    }
+}
+
+/// The latches of a circuit. Fails if out of memory.
+fn latches_of(alloc: Global, places: &Places) -> Result<Vec<Memory>, AllocError> {
+    let circuit = places.circuit();
+    let first = 1 + circuit.inputs().len();
+    let mut latches = Vec::new(alloc);
+    for (number, latch) in circuit.latches().iter().enumerate() {
+        latches.push(Memory {
+            place: first + number,
+            next: Signal::of_wire(places.wire(latch.next)),
+            reset: latch.reset,
+        })?;
+    }
+    Ok(latches)
+}
+
+/// The gates of a circuit, each after the gates that it reads. Fails if out of memory.
+fn gates_of(alloc: Global, places: &Places) -> Result<Vec<Row>, AllocError> {
+    let circuit = places.circuit();
+    let gates = circuit.gates();
+    let order = circuit.order();
+    let mut rows = Vec::new(alloc);
+    for &place in order {
+        let gate = gates[place];
+        rows.push(Row {
+            place: places.wire(gate.literal).place as usize,
+            first: Signal::of_wire(places.wire(gate.first)),
+            second: Signal::of_wire(places.wire(gate.second)),
+        })?;
+    }
+    Ok(rows)
+}
+
+/// The signals of a circuit's outputs. Fails if out of memory.
+fn outputs_of(alloc: Global, places: &Places) -> Result<Vec<Signal>, AllocError> {
+    let wires = output_wires(alloc, places)?;
+    wires
+        .iter()
+        .map(|wire| Signal::of_wire(*wire))
+        .collect(alloc)
+}
+
+/// The gates of a builder. Fails if out of memory.
+pub(crate) fn rows_of(alloc: Global, builder: &Builder) -> Result<Vec<Row>, AllocError> {
+    let first = builder.given() as usize + 1;
+    let mut rows = Vec::new(alloc);
+    for (number, sides) in builder.gates().iter().enumerate() {
+        rows.push(Row {
+            place: first + number,
+            first: Signal::of_literal(sides.first),
+            second: Signal::of_literal(sides.second),
+        })?;
+    }
+    Ok(rows)
+}
