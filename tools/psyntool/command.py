@@ -71,6 +71,7 @@ CIRCUIT = Flag("--circuit", "in the place of PREFIX any circuit that verify pass
 AUTO = Flag("--auto", "plays for me, what holds out longest, and prints the steps")
 REACH = Flag("--reach", "only what so many steps from the start reach (of a circuit: from the outputs back)", "N")
 DROP = Flag("--drop", "leave out the input of that name, which nothing may read (as the clock that yosys adds)", "NAME")
+ABC = Flag("--abc", "of the circuit that abc makes of it first, if that is smaller")
 CHECK = Flag("--check", "exit status 3 where the answer is loses, rejected, violated, or that the solution is wrong")
 SEED = Flag("--seed", "another random game for the same number", "N")
 EDGES = Flag("--edges", "so many different edges for each vertex of a random game", "N")

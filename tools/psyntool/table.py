@@ -4,8 +4,8 @@ The commands of the program come first, in the order of the program's own table.
 of the command's name in `commands`, or in `asking` if the command only hands the program's answer on.
 """
 from psyntool.command import (
-    AUTO, BY, CHECK, CIRCUIT, DROP, EDGES, ENV, FORCE, KEEP, MOORE, NAMES, OF_PARTS, PARTS, PICTURE, PRIORITIES, REACH, SEED, SET, STIMULUS, STRICT, TO_FILE, TO_FILES,
-    TO_TLSF, TRACE, WAVE, Command, of_the_program,
+    ABC, AUTO, BY, CHECK, CIRCUIT, DROP, EDGES, ENV, FORCE, KEEP, MOORE, NAMES, OF_PARTS, PARTS, PICTURE, PRIORITIES, REACH, SEED, SET, STIMULUS, STRICT, TO_FILE,
+    TO_FILES, TO_TLSF, TRACE, WAVE, Command, of_the_program,
 )  # fmt: skip
 from psyntool.kinds import Kind
 from psyntool.usages import USAGES
@@ -18,6 +18,7 @@ OF_THE_PROGRAM = (
     of_the_program("sim", "what a circuit does, letter by letter", own=(NAMES,)),
     of_the_program("lasso", "whether the automaton accepts what the circuit does; with --tlsf whether that satisfies the specification", own=(TRACE, CHECK)),
     of_the_program("verify", "wins if the automaton accepts all that the circuit does, else a stimulus on which it does not", own=(STIMULUS, WAVE, CHECK)),
+    of_the_program("shrink", "a circuit that wins too, and is not larger", own=(ABC,)),
     of_the_program("solve", "a certificate of a game", own=(BY, KEEP, PICTURE)),
     of_the_program("game", "the parity game of an automaton", module=ASKING),
     of_the_program("cert", "a certificate of that game", module=ASKING),
@@ -76,7 +77,6 @@ OF_THE_TOOL = (
         flags=(ENV, MOORE),
         least=1,
     ),
-    Command("shrink", "a circuit made smaller by abc, if the smaller one wins", (Kind.AUTOMATON, Kind.CIRCUIT), flags=(ENV, MOORE)),
     Command("solution", "a certificate's winners and moves as a solution (`paritysol`)", (Kind.GAME, Kind.CERTIFICATE)),
     Command("each", "COMMAND on each of several files, or on as many at a time as it reads; the first line of each answer", ("COMMAND", "FILE.."), runs_another=True),
     Command("games", "a parity game of a family, made by a rule: buchi, clique, jurdzinski, ladder, ladder2, loops, path, random, ring", ("FAMILY", "N"), own=(SEED, EDGES, PRIORITIES)),

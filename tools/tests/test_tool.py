@@ -34,7 +34,7 @@ class Commands(OnFiles):
         turned = self.tool("lasso", "--env", automaton, circuit, stimulus)
         self.assertEqual((turned.stdout, turned.returncode), (b"fault 72 Symbols\n", 1))
         self.assertIn(b"the symbols are those of a controller: ask without --env\n", turned.stderr)
-        self.assertIn(b"cause: for `lasso` and `verify`, the symbols", turned.stderr)
+        self.assertIn(b"cause: for `lasso`, `verify` and `shrink`, the symbols", turned.stderr)
 
     def test_where_a_circuit_loses_the_run_is_shown_and_the_stimulus_stored(self):
         judge = f"#!/bin/sh\nread line\ncase $line in verify*) cat > /dev/null; printf '%s' \"$SAID\" ;; *) (echo $line; cat) | '{program()}' ;; esac\n"

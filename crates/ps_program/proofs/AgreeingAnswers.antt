@@ -26,6 +26,7 @@ use Rattle.ps_program.specs.Lassos.{AnswersLasso}
 use Rattle.ps_program.specs.Outcomes.{printed}
 use Rattle.ps_program.specs.Program.{AnswersInput, AnswersLine}
 use Rattle.ps_program.specs.Replies.{Reply, text_reply}
+use Rattle.ps_program.specs.Shrinking.{AnswersShrink}
 use Rattle.ps_program.specs.Simulating.{AnswersSim}
 use Rattle.ps_program.specs.Solvers.{Solvers}
 use Rattle.ps_program.specs.Solving.{AnswersGame, AnswersSolve}
@@ -41,6 +42,7 @@ use Rattle.ps_program.proofs.OneCut.{cut_one, cut_three_one}
 use Rattle.ps_program.proofs.OneStage.{OneGame, OneFlaw, OneCircuit, OneStimulus, OneRefusal, OneOutcome, OneVerdict}
 use Rattle.ps_program.proofs.OneStage.{OneValues, automaton_one, makes_one, tells_one, game_accepted, RefusedOr}
 use Rattle.ps_program.proofs.OneStage.{report_refused}
+use Rattle.ps_program.proofs.ShrinkDetermined.{shrink_one_or}
 use Rattle.ps_program.proofs.VerifyDetermined.{NotBoth, verify_one_or}
 use Rattle.ps_program.proofs.OneLine.{is_line_one}
 use Rattle.ps_program.proofs.OneSatisfaction.{OneWord, lasso_tlsf_one}
@@ -141,6 +143,23 @@ module _ (games : OneGame) (certificates : OneCertificate) (flaws : OneFlaw) (ci
       by (inl same) = inl same
       by (inr (file, c, reads, agree)) =
           inr ((file, c, reads, (agree.one, agree.one_loses)), (file, c, reads, agree))
+
+  shrink_or_one : (order : Order) (role : Role) (texts : List ℕ) (x y : Result Reply (List ℕ)) →
+      AnswersShrink order role texts x → AnswersShrink order role texts y
+      → (x ≡ y) ⊎ (IsUndetermined (line.Shrink order role) texts ×
+      Agree (line.Shrink order role) texts (printed x) (printed y))
+  shrink_or_one order role texts x y h k =
+      by (shrink_one_or (automaton_one files refusals outcomes) circuit_one not_both
+      order role x y texts h k)
+    where
+      by : (x ≡ y) ⊎ Agree (line.Shrink order role) texts (printed x) (printed y) →
+          (x ≡ y) ⊎ (IsUndetermined (line.Shrink order role) texts ×
+          Agree (line.Shrink order role) texts (printed x) (printed y))
+      by (inl same) = inl same
+      by (inr (file, c, reads, inl small)) =
+          inr ((file, c, reads, inl small.wins), (file, c, reads, inl small))
+      by (inr (file, c, reads, inr agree)) =
+          inr ((file, c, reads, inr (agree.one, agree.one_loses)), (file, c, reads, inr agree))
 
   solve_one_or : (solver : SolverData) (compact : Bool) (text : List ℕ) (x y : Result Reply (List ℕ)) →
       AnswersSolve solver compact text x → AnswersSolve solver compact text y
@@ -260,6 +279,7 @@ module _ (games : OneGame) (certificates : OneCertificate) (flaws : OneFlaw) (ci
   line_one solvers (line.Lasso role) texts x y h k = inl (lasso_one role texts x y h k)
   line_one solvers (line.LassoTlsf role) texts x y h k = inl (lasso_tlsf_one circuits stimuli words role texts x y h k)
   line_one solvers (line.Verify order role) texts x y h k = verify_or_one order role texts x y h k
+  line_one solvers (line.Shrink order role) texts x y h k = shrink_or_one order role texts x y h k
   line_one solvers (line.Solve compact) texts x y h k = solve_one_or solvers.built_in compact texts x y h k
   line_one solvers (line.Game order) texts x y h k = inl (game_one order texts x y h k)
   line_one solvers (line.Cert order compact) texts x y h k = cert_one_or solvers.built_in order compact texts x y h k

@@ -38,5 +38,8 @@ pub mod TextLemmas
 pub mod TraceFromLetters
 pub mod TraceLemmas
 pub mod VerifiedCircuits
+pub mod ShrinkDetermined
+pub mod ShrinkLemmas
+pub mod SmallerVerified
 pub mod VerifyDetermined
 pub mod VerifyLemmas

@@ -13,6 +13,7 @@ use Rattle.ps_program.specs.CommandLine.{cert_flag, compact_flag, order_given, r
 use Rattle.ps_program.specs.Judging.{AnswersJudge, Judges, ReadsSolutionText, ReadsSolved}
 use Rattle.ps_program.specs.Lassos.{AnswersLasso, RunsCircuit}
 use Rattle.ps_machine.specs.declared.key.Order.{Order}
+use Rattle.ps_program.specs.Shrinking.{AnswersShrink, ShrinksText}
 use Rattle.ps_program.specs.Verifying.{AnswersVerify, VerifiesText}
 use Rattle.ps_program.specs.Simulating.{AnswersSim, PrintsTrace}
 use Rattle.ps_program.specs.Cut.{HasFewerSeparators}
@@ -127,6 +128,12 @@ verify_missing order role texts fewer = both_fail (CutsInTwo texts) (λ (parts :
     Then (ReadsAutomaton parts.0) (λ file. VerifiesText order role file parts.1)) missing_text
     (two_missing texts fewer)
 
+shrink_missing : (order : Order) (role : Role) (texts : List ℕ) → HasFewerSeparators 1 texts →
+    Fails (AnswersShrink order role texts) missing_text
+shrink_missing order role texts fewer = both_fail (CutsInTwo texts) (λ (parts : List ℕ × List ℕ).
+    Then (ReadsAutomaton parts.0) (λ file. ShrinksText order role file parts.1)) missing_text
+    (two_missing texts fewer)
+
 pub texts_needed : (solvers : Solvers) → NeedsItsTexts solvers
 texts_needed solvers = (
   λ given texts outcome fewer answers. tests_missing IsClosed (codes "closed") texts fewer outcome answers,
@@ -143,17 +150,21 @@ texts_needed solvers = (
             λ given texts outcome fewer answers. verify_missing (order_given given) (role_given given) texts fewer
                 outcome answers,
             (
-              λ given texts outcome fewer answers. absurd fewer,
+              λ given texts outcome fewer answers. shrink_missing (order_given given) (role_given given) texts fewer
+                  outcome answers,
               (
                 λ given texts outcome fewer answers. absurd fewer,
                 (
                   λ given texts outcome fewer answers. absurd fewer,
                   (
-                    λ given texts outcome fewer answers. synth_missing solvers (synth_given given) (given cert_flag)
-                        texts outcome
-                        (subst (λ (n : ℕ). HasFewerSeparators (n - 1) texts) (synth_counted (given cert_flag)) fewer)
-                        answers,
-                    (λ given texts outcome fewer answers. absurd fewer, tt),
+                    λ given texts outcome fewer answers. absurd fewer,
+                    (
+                      λ given texts outcome fewer answers. synth_missing solvers (synth_given given) (given cert_flag)
+                          texts outcome
+                          (subst (λ (n : ℕ). HasFewerSeparators (n - 1) texts) (synth_counted (given cert_flag)) fewer)
+                          answers,
+                      (λ given texts outcome fewer answers. absurd fewer, tt),
+                    ),
                   ),
                 ),
               ),

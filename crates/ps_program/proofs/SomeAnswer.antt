@@ -1,4 +1,4 @@
--- Each input has an answer if its command calls no solver and is not `verify`. An input with `solve`, `cert` or `synth`
+-- Each input has an answer if its command calls no solver and is neither `verify` nor `shrink`. An input with `solve`, `cert` or `synth`
 -- has an answer under the conditions that `specs/Answered.antt` states.
 use Rattle.std.proofs.Common.{ℕ, List, Ok, refl}
 use Rattle.std.specs.Prelude.{codes}
@@ -57,6 +57,7 @@ module _ (below : Below) where
   line_some solvers (line.Lasso role) texts plain = lasso_some below role texts
   line_some solvers (line.LassoTlsf role) texts plain = lasso_tlsf_some below role texts
   line_some solvers (line.Verify order role) texts plain = absurd plain
+  line_some solvers (line.Shrink order role) texts plain = absurd plain
   line_some solvers (line.Solve compact) texts plain = absurd plain
   line_some solvers (line.Game order) texts plain = game_some order texts
   line_some solvers (line.Cert order compact) texts plain = absurd plain
@@ -79,6 +80,7 @@ module _ (below : Below) where
   solved_line solvers may (line.Lasso role) texts solved = absurd solved
   solved_line solvers may (line.LassoTlsf role) texts solved = absurd solved
   solved_line solvers may (line.Verify order role) texts solved = absurd solved
+  solved_line solvers may (line.Shrink order role) texts solved = absurd solved
   solved_line solvers may (line.Solve compact) texts solved = solve_some below solvers.built_in compact texts may
   solved_line solvers may (line.Game order) texts solved = absurd solved
   solved_line solvers may (line.Cert order compact) texts solved =

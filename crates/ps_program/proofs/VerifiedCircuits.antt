@@ -30,7 +30,7 @@ abbrev pub WitnessWins : Type 0
 WitnessWins = (order : Order) (file : FileData) (player : ℕ) (c : CircuitData) → IsWitness order file player c →
     IsWinning order (role_of player) file c
 
-not_losing : (s : StimulusData) → wins_reply ≡ loses_reply s → ⊥
+pub not_losing : (s : StimulusData) → wins_reply ≡ loses_reply s → ⊥
 not_losing s same = omega (arith, ap (λ (reply : Reply). slice_index reply.text 0) same)
 
 module _ (automata : (text : List ℕ) → IsOne (ReadsAutomaton text)) (circuits : (text : List ℕ) →

@@ -29,7 +29,7 @@ module _ (order : Order) (role : Role) (file : FileData) (c : CircuitData) where
 
   -- no fault is reported for a circuit with the symbols of its role, if it moves second, or if in no step of a trace
   -- its outputs depend on the inputs of that step
-  no_fault : HasSymbols role file.names file.controllable c → IsInTimeWhereReached order role c → (line : List ℕ) →
+  pub no_fault : HasSymbols role file.names file.controllable c → IsInTimeWhereReached order role c → (line : List ℕ) →
       IsProductLine order role file c line → ⊥
   no_fault symbols in_time line (inl (none, e)) = none symbols
   no_fault symbols in_time line (inr (has, too_early, e)) = early in_time too_early
@@ -39,7 +39,7 @@ module _ (order : Order) (role : Role) (file : FileData) (c : CircuitData) where
   told_no_fault reply line (is_circuit, inl (wins, e)) fault = no_fault wins.symbols wins.in_time line fault
   told_no_fault reply line (is_circuit, inr (s, loses, e)) fault = no_fault loses.symbols loses.in_time line fault
 
-  one_line : (line other : List ℕ) → IsProductLine order role file c line → IsProductLine order role file c other →
+  pub one_line : (line other : List ℕ) → IsProductLine order role file c line → IsProductLine order role file c other →
       line ≡ other
   one_line line other (inl (none, e)) (inl (none', e')) = e ∙ sym e'
   one_line line other (inl (none, e)) (inr (has, too_early, e')) = absurd (none has)

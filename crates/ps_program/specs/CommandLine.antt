@@ -19,10 +19,11 @@ use Rattle.ps_simulate.specs.declared.role.Role.{Role}
 use Rattle.ps_simulate.specs.declared.role.Role.TheVariants.{Controller, Environment}
 use Rattle.ps_program.specs.declared.commands.Line.{Line}
 use Rattle.ps_program.specs.declared.commands.Line.TheVariants.{Refused, Help, Closed, Check, Judge, Sim, Lasso}
-use Rattle.ps_program.specs.declared.commands.Line.TheVariants.{LassoTlsf, Verify, Solve, Game, Cert, Synth}
+use Rattle.ps_program.specs.declared.commands.Line.TheVariants.{LassoTlsf, Verify, Shrink, Solve, Game, Cert, Synth}
 use Rattle.ps_program.specs.declared.commands.SynthLine.{SynthLine}
 use Rattle.ps_program.specs.declared.commands.TheConstants.{ON_CLOSED, ON_CHECK, ON_JUDGE, ON_SIM, ON_LASSO}
-use Rattle.ps_program.specs.declared.commands.TheConstants.{ON_VERIFY, ON_SOLVE, ON_GAME, ON_CERT, ON_SYNTH, ON_HELP}
+use Rattle.ps_program.specs.declared.commands.TheConstants.{ON_VERIFY, ON_SHRINK, ON_SOLVE, ON_GAME, ON_CERT}
+use Rattle.ps_program.specs.declared.commands.TheConstants.{ON_SYNTH, ON_HELP}
 use Rattle.ps_program.specs.declared.commands.TextKind.{TextKind}
 use Rattle.ps_program.specs.declared.commands.TextKind.TheVariants as kind
 
@@ -131,6 +132,14 @@ commands =
       replaced = [];
       line = λ given. Verify (order_given given) (role_given given);
       says = ON_VERIFY.now;
+    } ∷ record {
+      name = codes "shrink";
+      flags = env_flag ∷ moore_flag ∷ [];
+      texts = kind.Automaton ∷ kind.Circuit ∷ [];
+      added = [];
+      replaced = [];
+      line = λ given. Shrink (order_given given) (role_given given);
+      says = ON_SHRINK.now;
     } ∷ record {
       name = codes "solve";
       flags = compact_flag ∷ [];

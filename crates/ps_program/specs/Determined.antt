@@ -1,12 +1,13 @@
--- The program's answer is determined, with three exceptions: which cycle `judge` reports if a player loses, which
--- stimulus `verify` reports, and which certificate a solver chooses. Even in the exceptional cases, any two answers
--- have something in common.
+-- The program's answer is determined, with four exceptions: which cycle `judge` reports if a player loses, which
+-- stimulus `verify` and `shrink` report, which smaller circuit `shrink` prints, and which certificate a solver chooses.
+-- Even in the exceptional cases, any two answers have something in common.
 -- - `IsUndetermined line texts`: for these texts, the command in the line may have more than one correct answer
 -- - `IsReplaying solver`: the solver only returns the result of parsing the text that it was fed, unless memory runs
 --   out
 -- - `AgreeAsReports order full compact text a b`: both answers show the same winner of the automaton's game
 -- - `AgreeInWinners compact game a b`: the answers a and b print certificates of the game with the same winners
 -- - `AgreeAsLosing order role file c a b`: both answers show a stimulus on which the circuit loses
+-- - `AgreeAsSmaller order role file c a b`: both answers print a circuit that wins and is not larger than the circuit
 -- - `AgreeInLoser named given a b`: both answers report a cycle that the same player loses
 -- - `HasOneAnswer solvers`: any two answers to the same input are equal, or the command allows several answers; then
 --   the two agree as `Agree` states, or the command calls a solver and one of the two answers reports a fault
@@ -22,7 +23,7 @@ use Rattle.ps_game.specs.Games.{NamedGameData, IsGame, vertex_count}
 use Rattle.ps_circuit.specs.Circuits.{CircuitData}
 use Rattle.ps_simulate.specs.Stimuli.{StimulusData}
 use Rattle.ps_simulate.specs.declared.role.Role.{Role}
-use Rattle.ps_verify.specs.Judgements.{IsLosing}
+use Rattle.ps_verify.specs.Judgements.{IsLosing, IsWinning}
 use Rattle.ps_solution.specs.Solved.{SolutionData}
 use Rattle.ps_hoa.specs.Files.{FileData}
 use Rattle.ps_machine.specs.FileGames.{IsGameOfFile}
@@ -37,12 +38,13 @@ use Rattle.ps_program.specs.Games.{ReadsGameOf}
 use Rattle.ps_program.specs.Judging.{ReadsSolved, Loses, LosesCycle, cycle_text}
 use Rattle.ps_program.specs.Program.{AnswersLine, AnswersWhole}
 use Rattle.ps_program.specs.Replies.{Reply, fault_reply, text_reply}
+use Rattle.ps_program.specs.Shrinking.{IsSmallerReply}
 use Rattle.ps_program.specs.Solvers.{Solvers}
 use Rattle.ps_program.specs.Synthesis.{synthesis_reply}
 use Rattle.ps_program.specs.Verifying.{ReadsVerified, loses_reply}
 use Rattle.ps_program.specs.Texts.{CutsInTwo, ReadsGameText, missing_text}
 use Rattle.ps_program.specs.declared.commands.Line.{Line}
-use Rattle.ps_program.specs.declared.commands.Line.TheVariants.{Judge, Verify, Solve, Cert, Synth}
+use Rattle.ps_program.specs.declared.commands.Line.TheVariants.{Judge, Verify, Shrink, Solve, Cert, Synth}
 use Rattle.ps_program.specs.declared.commands.SynthLine.{SynthLine}
 
 abbrev pub HasAutomaton : List ℕ → Type 0
@@ -53,15 +55,19 @@ abbrev pub AsksFor : (cert : Bool) → List ℕ → List ℕ → Type 0
 AsksFor false texts text = texts ≡ text
 AsksFor true texts text = (certificate : List ℕ) × CutsInTwo texts (Ok (text, certificate))
 
--- A command allows several answers in three cases. If a solver is called for a game or an automaton, any winning moves
+-- A command allows several answers in four cases. If a solver is called for a game or an automaton, any winning moves
 -- may be printed. If a judged solution allows a cycle that makes a player lose, any cycle of this kind may be reported.
--- If a verified circuit loses, any stimulus on which it loses may be reported.
+-- If a verified circuit loses, any stimulus on which it loses may be reported; and so it is with a circuit that is to
+-- be made smaller. If it wins, any circuit that wins and is not larger may be printed.
 abbrev pub IsUndetermined : Line → List ℕ → Type 0
 IsUndetermined (Judge compact) texts =
     (named : NamedGameData) × (given : SolutionData) × ReadsSolved texts (Ok (named, given)) × LosesCycle named given
 IsUndetermined (Verify order role) texts =
     (file : FileData) × (c : CircuitData) × ReadsVerified texts file c ×
     ((s : StimulusData) × IsLosing order role file c s)
+IsUndetermined (Shrink order role) texts =
+    (file : FileData) × (c : CircuitData) × ReadsVerified texts file c ×
+    (IsWinning order role file c ⊎ ((s : StimulusData) × IsLosing order role file c s))
 IsUndetermined (Solve compact) text = (game : NamedGameData) × ReadsGameText text (Ok game)
 IsUndetermined (Cert order compact) text = HasAutomaton text
 IsUndetermined (Synth asked) texts = (text : List ℕ) × AsksFor asked.cert texts text × HasAutomaton text
@@ -103,6 +109,12 @@ pub record AgreeAsLosing (order : Order) (role : Role) (file : FileData) (c : Ci
   pub is_one : a ≡ loses_reply one
   pub is_other : b ≡ loses_reply other
 
+-- each of two answers prints a circuit that wins and is not larger than the circuit c
+pub record AgreeAsSmaller (order : Order) (role : Role) (file : FileData) (c : CircuitData) (a b : Reply) : Type 0 where
+  pub wins : IsWinning order role file c
+  pub one : IsSmallerReply order role file c a
+  pub other : IsSmallerReply order role file c b
+
 -- each of two answers reports a cycle of the solution that the same player loses
 pub record AgreeInLoser (named : NamedGameData) (given : SolutionData) (a b : Reply) : Type 0 where
   pub player : ℕ
@@ -121,6 +133,9 @@ Agree (Judge compact) texts a b =
     AgreeInLoser named given a b
 Agree (Verify order role) texts a b =
     (file : FileData) × (c : CircuitData) × ReadsVerified texts file c × AgreeAsLosing order role file c a b
+Agree (Shrink order role) texts a b =
+    (file : FileData) × (c : CircuitData) × ReadsVerified texts file c ×
+    (AgreeAsSmaller order role file c a b ⊎ AgreeAsLosing order role file c a b)
 Agree (Solve compact) text a b = (game : NamedGameData) × ReadsGameText text (Ok game) × AgreeInWinners compact game a b
 Agree (Cert order compact) text a b =
     (game : NamedGameData) × ReadsGameOf order text (Ok game) × AgreeInWinners compact game a b
@@ -135,6 +150,7 @@ IsFaultReply reply = (line : List ℕ) × (reply ≡ fault_reply line)
 abbrev pub AgreeOrFault : Line → List ℕ → Reply → Reply → Type 0
 AgreeOrFault (Judge compact) texts a b = Agree (Judge compact) texts a b
 AgreeOrFault (Verify order role) texts a b = Agree (Verify order role) texts a b
+AgreeOrFault (Shrink order role) texts a b = Agree (Shrink order role) texts a b
 AgreeOrFault line texts a b = IsFaultReply a ⊎ IsFaultReply b ⊎ Agree line texts a b
 
 -- Any two answers to the same input are equal, unless the input's command allows several answers (`IsUndetermined`).

@@ -4,6 +4,7 @@
 --   or `synth --full` prints
 -- - `role_that_wins realizable`: the role of the circuit that `synth` prints
 -- - `VerifiesCircuits solver`: `verify` answers `wins`, and nothing else, for each circuit that `synth` prints
+-- - `VerifiesSmaller`: `verify` answers `wins`, and nothing else, for each circuit that `shrink` prints
 use Rattle.std.specs.Prelude.{◌≡◌, ◌↔◌, ℕ, Bool, true, List, codes, length, Result, Ok, if◌then◌else◌}
 use Rattle.ps_certificate.specs.Certificates.{CertificateData}
 use Rattle.ps_certificate.specs.Written.{HasWords, text_in}
@@ -24,6 +25,8 @@ use Rattle.ps_program.specs.Checks.{AnswersCheck}
 use Rattle.ps_program.specs.Replies.{Reply, line_reply}
 use Rattle.ps_program.specs.Synthesis.{Synthesises, is_realizable}
 use Rattle.ps_program.specs.Texts.{CutsInTwo, ReadsGameText, ReadsStimulusText}
+use Rattle.ps_program.specs.Automata.{ReadsAutomaton}
+use Rattle.ps_program.specs.Shrinking.{IsSmallerReply}
 use Rattle.ps_program.specs.Verifying.{AnswersVerify, stimulus_text, wins_reply}
 
 abbrev pub ReadsLosing : Type 0
@@ -48,3 +51,10 @@ VerifiesCircuits solver = (order : Order) (text texts : List ℕ) (s : Synthesis
     Synthesises solver order text (Ok s) → PrintsCircuit (text_of s.circuit) s.circuit →
     CutsInTwo texts (Ok (text, text_of s.circuit)) →
     AnswersVerify order (role_that_wins (is_realizable s.certificate)) texts outcome ↔ (outcome ≡ Ok wins_reply)
+
+-- `texts` are the text of an automaton, and the smaller circuit that `shrink` prints for this automaton and a circuit
+abbrev pub VerifiesSmaller : Type 0
+VerifiesSmaller = (order : Order) (role : Role) (file : FileData) (c : CircuitData) (text texts : List ℕ)
+    (reply : Reply) (outcome : Result Reply (List ℕ)) → ReadsAutomaton text (Ok file) →
+    IsSmallerReply order role file c reply → CutsInTwo texts (Ok (text, reply.text)) →
+    AnswersVerify order role texts outcome ↔ (outcome ≡ Ok wins_reply)

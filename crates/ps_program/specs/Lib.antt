@@ -24,5 +24,6 @@ pub mod StageFaults
 pub mod Streams
 pub mod Synthesis
 pub mod Texts
+pub mod Shrinking
 pub mod Verifying
 pub mod Watched

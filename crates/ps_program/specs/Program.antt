@@ -3,7 +3,7 @@ use Rattle.std.specs.Prelude.{◌≡◌, ◌≤◌, ◌<◌, ◌⊎◌, ℕ, Boo
 use Rattle.std.specs.Io.KnownBytes.{Appends}
 use Rattle.ps_program.specs.declared.commands.Line.{Line}
 use Rattle.ps_program.specs.declared.commands.Line.TheVariants.{Refused, Help, Closed, Check, Judge, Sim, Lasso}
-use Rattle.ps_program.specs.declared.commands.Line.TheVariants.{LassoTlsf, Verify, Solve, Game, Cert, Synth}
+use Rattle.ps_program.specs.declared.commands.Line.TheVariants.{LassoTlsf, Verify, Shrink, Solve, Game, Cert, Synth}
 use Rattle.ps_program.specs.CommandLine.{IsLine}
 use Rattle.ps_program.specs.Checks.{AnswersClosed, AnswersCheck}
 use Rattle.ps_program.specs.Cut.{first_line, behind_line}
@@ -14,6 +14,7 @@ use Rattle.ps_program.specs.Lassos.{AnswersLasso}
 use Rattle.ps_program.specs.Outcomes.{printed}
 use Rattle.ps_program.specs.Replies.{Reply, usage, help, read_fault, out_of_memory}
 use Rattle.ps_program.specs.Satisfying.{AnswersLassoTlsf}
+use Rattle.ps_program.specs.Shrinking.{AnswersShrink}
 use Rattle.ps_program.specs.Simulating.{AnswersSim}
 use Rattle.ps_program.specs.Solvers.{Solvers}
 use Rattle.ps_program.specs.Solving.{AnswersSolve}
@@ -33,6 +34,7 @@ AnswersLine solvers Sim texts outcome = AnswersSim texts outcome
 AnswersLine solvers (Lasso role) texts outcome = AnswersLasso role texts outcome
 AnswersLine solvers (LassoTlsf role) texts outcome = AnswersLassoTlsf role texts outcome
 AnswersLine solvers (Verify order role) texts outcome = AnswersVerify order role texts outcome
+AnswersLine solvers (Shrink order role) texts outcome = AnswersShrink order role texts outcome
 AnswersLine solvers (Solve compact) texts outcome = AnswersSolve solvers.built_in compact texts outcome
 AnswersLine solvers (Game order) texts outcome = AnswersGameText order texts outcome
 AnswersLine solvers (Cert order compact) texts outcome = AnswersCert solvers.built_in order compact texts outcome

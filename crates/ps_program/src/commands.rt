@@ -16,6 +16,7 @@ pub mod game;
 pub mod judge;
 pub mod lasso;
 pub mod lasso_tlsf;
+pub mod shrink;
 pub mod sim;
 pub mod solve;
 pub mod synth;
@@ -56,6 +57,13 @@ pub enum Line {
     /// The input's first line asks whether an automaton accepts each lasso trace of a circuit that is a controller, or
     /// no lasso trace of a circuit that is an environment.
     Verify {
+        /// Who moves first.
+        order: Order,
+        /// The role of the circuit.
+        role: Role,
+    },
+    /// The input's first line asks for a circuit that wins as a given one does, and is not larger.
+    Shrink {
         /// Who moves first.
         order: Order,
         /// The role of the circuit.
@@ -181,6 +189,11 @@ pub const ON_VERIFY: &str = "\
          trace of the circuit, or with --env none; else `loses`, and a stimulus
          on which that is not so; --moore";
 
+/// What `help` says about `shrink`, after the kinds of the command's input texts.
+pub const ON_SHRINK: &str = "\
+: a circuit that wins too, and is not larger; or
+         `loses`, and what `verify` prints behind it; --env, --moore";
+
 /// What `help` says about `solve`, after the kinds of the command's input texts.
 pub const ON_SOLVE: &str = "\
 : a certificate that says who wins each vertex, by which moves;
@@ -266,6 +279,18 @@ const COMMANDS: &[Usage<'static>] = &[
         says: ON_VERIFY,
     },
     Usage {
+        name: "shrink",
+        flags: &[ENV_FLAG, MOORE_FLAG],
+        texts: &[TextKind::Automaton, TextKind::Circuit],
+        added: &[],
+        replaced: &[],
+        line: Line::Shrink {
+            order: Order::Mealy,
+            role: Role::Controller,
+        },
+        says: ON_SHRINK,
+    },
+    Usage {
         name: "solve",
         flags: &[COMPACT_FLAG],
         texts: &[TextKind::Game],
@@ -341,6 +366,10 @@ impl Line {
                 order: order_given(flags),
                 role: role_given(flags),
             },
+            Line::Shrink { .. } => Line::Shrink {
+                order: order_given(flags),
+                role: role_given(flags),
+            },
             Line::Solve { .. } => Line::Solve {
                 compact: is_given(flags, COMPACT_FLAG),
             },
@@ -387,6 +416,7 @@ pub(crate) fn answer_line<S: Solver, T: Solver>(
         Line::Lasso(role) => lasso::lasso(alloc, role, texts),
         Line::LassoTlsf(role) => lasso_tlsf::lasso_tlsf(alloc, role, texts),
         Line::Verify { order, role } => verify::verify(alloc, order, role, texts),
+        Line::Shrink { order, role } => shrink::shrink(alloc, order, role, texts),
         Line::Solve { compact } => solve::solve(alloc, texts, built_in, compact),
         Line::Game(order) => game::game(alloc, order, texts),
         Line::Cert { order, compact } => cert::cert(alloc, order, texts, built_in, compact),

@@ -6,7 +6,7 @@ ghost use Rattle.ps_machine.specs.Solving.{own_solver, replay_of};
 ghost use Rattle.ps_program.specs.Answered.{MayCertify, MayReplay};
 ghost use Rattle.ps_program.specs.Answered.{ArePrinted, HasSomeAnswer, HasSomeLine, HasSomeSolved, HasSomeSynthesis};
 ghost use Rattle.ps_program.specs.Determined.{HasOneAnswer, HasOneCertified, NeedsItsTexts};
-ghost use Rattle.ps_program.specs.Exchanged.{ChecksCertificates, ReadsLosing, VerifiesCircuits};
+ghost use Rattle.ps_program.specs.Exchanged.{ChecksCertificates, ReadsLosing, VerifiesCircuits, VerifiesSmaller};
 ghost use Rattle.ps_program.specs.Solvers.{Solvers, solvers_of};
 
 /// Data of two solvers. The laws of answers hold for any data, and need no solver: a type with an `impl` of this trait
@@ -23,12 +23,14 @@ impl KnownSolvers for OwnSolvers {
     ghost solvers = { solvers_of own_solver (replay_of []) };
 }
 
-/// Whatever the solvers, an input has at most one answer, unless its command is `judge`, `verify`, `solve`, `cert` or
-/// `synth`. If there is only one answer, each program that meets the definitions writes the same bytes and ends with
-/// the same exit status, unless it runs out of memory. Two answers to one of the five commands may differ, as follows.
+/// Whatever the solvers, an input has at most one answer, unless its command is `judge`, `verify`, `shrink`, `solve`,
+/// `cert` or `synth`. If there is only one answer, each program that meets the definitions writes the same bytes and
+/// ends with the same exit status, unless it runs out of memory. Two answers to one of the six commands may differ, as
+/// follows.
 /// If `judge` finds cycles that make a player lose, the law does not say which of them the answer names, but all of
-/// them are lost by the same player. If `verify` finds that the circuit loses, the law does not say which losing
-/// stimulus the answer shows. If `solve`, `cert` or `synth` accepts its text, any two answers that do not report a
+/// them are lost by the same player. If `verify` or `shrink` finds that the circuit loses, the law does not say which
+/// losing stimulus the answer shows. If `shrink` finds that the circuit wins, the answer is any circuit that wins and is
+/// not larger. If `solve`, `cert` or `synth` accepts its text, any two answers that do not report a
 /// fault agree on the winners. Two answers to `synth` without a fault have the same status, first line and game; two
 /// answers to `solve` or `cert` without a fault have the same regions. With `synth --cert`, the whole answer is
 /// determined if the second solver only returns the certificate whose text it was fed.
@@ -61,8 +63,8 @@ pub fn missing_text_is_told<S: KnownSolvers>()
     ensures { NeedsItsTexts S.solvers }
 {}
 
-/// Each first line has a meaning, and each input has an answer, except that the law says nothing about the command
-/// `verify`. Without the law `some_answer`, nobody would notice if the definition of an answer excluded everything that
+/// Each first line has a meaning, and each input has an answer, except that the law says nothing about the commands
+/// `verify` and `shrink`. Without the law `some_answer`, nobody would notice if the definition of an answer excluded everything that
 /// the program can print. The law states which answers are right, not what a call returns, so lack of memory is not one
 /// of the answers.
 ///
@@ -80,8 +82,8 @@ pub fn missing_text_is_told<S: KnownSolvers>()
 /// the certificate and the game, unless the game's text is longer than the parser accepts. The law
 /// `fitting_texts_are_printed` states when this condition is met.
 ///
-/// The command `verify` is left out, because a proof for it would have to decide, as the code does, whether an
-/// automaton accepts all lasso traces of a circuit.
+/// The commands `verify` and `shrink` are left out, because a proof for them would have to decide, as the code does,
+/// whether an automaton accepts all lasso traces of a circuit.
 pub fn some_answer<S: KnownSolvers>()
     ensures line { HasSomeLine }
     ensures answer { HasSomeAnswer S.solvers }
@@ -149,6 +151,18 @@ pub fn circuits_are_verified<S: KnownSolvers>()
     ps_hoa::one_answer();
     ps_verify::judgement_is_one();
     ps_verify::witness_wins();
+}
+
+/// `verify` answers `wins`, and nothing else, for each circuit that `shrink` prints in the place of a circuit that wins,
+/// if it is given the same automaton and the same flags.
+pub fn smaller_circuits_are_verified()
+    ensures { VerifiesSmaller }
+{
+    ps_automaton::refusal_is_one();
+    ps_circuit::one_answer();
+    ps_circuit::read_circuit_is_circuit();
+    ps_hoa::one_answer();
+    ps_verify::judgement_is_one();
 }
 
 /// `check` answers `valid`, and nothing else, for the text of each valid certificate, if the text of its game precedes

@@ -1,10 +1,11 @@
-"""`shrink`: lets abc make a circuit smaller, and prints the result only if `verify` finds that it wins."""
+"""`shrink`: the program's smaller circuit; with `--abc` of the circuit that abc makes of the given one first."""
 import os
 import shutil
 import tempfile
 from dataclasses import replace
 
 from psyntool import asking, children, console, files, program
+from psyntool.command import ABC
 from psyntool.ends import FAULT, Refused, Unwritten
 from psyntool.kinds import Kind
 from psyntool.texts import binary, circuit
@@ -15,27 +16,34 @@ SCRIPT = "read_aiger before.aig; zero; strash; scorr; scleanup; dc2; dc2; dc2; w
 
 
 def run(request):
-    abc = next((name for name in NAMES if shutil.which(name)), None)
-    if abc is None:
-        raise Refused(f"shrink needs abc: none of {', '.join(NAMES)} is installed")
-    texts = request.texts()
-    before = circuit.read(texts[1].string)
-    # a circuit with neither gates nor latches is not given to abc, which would refuse it
-    after = by_abc(abc, before) if size(before) > (0, 0) else before
-    chosen = after if size(after) < size(before) else before
-    judged = [texts[0], files.Text(Kind.CIRCUIT, f"the circuit of {abc}" if chosen is after else texts[1].name, chosen.text().encode("utf-8", "surrogateescape"))]
-    answer = program.ask(files.joined("verify", request.passed, judged))
+    given = request.texts()
+    texts = [given[0], of_abc(given[1])] if request.has(ABC) else given
+    answer = program.ask(files.joined("shrink", request.passed, texts))
     if not asking.is_had(answer):
         # only a circuit may go to standard output, so a fault goes to standard error
         console.tell(*([answer.text.rstrip("\n")] if answer.is_fault else []))
-        return asking.told(request, judged, answer)
-    if answer.bytes != b"wins\n":
-        console.tell(f"psyn: {judged[1].name} loses, so nothing is written; `verify` tells a counterexample of a circuit")
+        return asking.told(request, texts, answer)
+    if answer.bytes.startswith(b"loses\n"):
+        console.tell(f"psyn: {texts[1].name} loses, so nothing is written; `verify` tells a counterexample of a circuit")
         return FAULT
     if not request.quiet:
-        console.tell(f"gates: {len(before.gates)} before, {len(chosen.gates)} after; latches: {len(before.latches)} before, {len(chosen.latches)} after")
-    console.write(judged[1].bytes)
+        before, after = circuit.read(given[1].string), circuit.read(answer.text)
+        console.tell(f"gates: {len(before.gates)} before, {len(after.gates)} after; latches: {len(before.latches)} before, {len(after.latches)} after")
+    console.write(answer.bytes)
     return 0
+
+
+def of_abc(text):
+    """The circuit that abc makes of a circuit, if it is smaller."""
+    abc = next((name for name in NAMES if shutil.which(name)), None)
+    if abc is None:
+        raise Refused(f"shrink --abc needs abc: none of {', '.join(NAMES)} is installed")
+    before = circuit.read(text.string)
+    # a circuit with neither gates nor latches is not given to abc, which would refuse it
+    after = by_abc(abc, before) if size(before) > (0, 0) else before
+    if size(after) >= size(before):
+        return text
+    return files.Text(Kind.CIRCUIT, f"the circuit of {abc}", after.text().encode("utf-8", "surrogateescape"))
 
 
 def size(made):

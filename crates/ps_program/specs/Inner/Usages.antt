@@ -3,7 +3,8 @@ use Rattle.std.specs.Prelude.{Bool, map}
 use Rattle.clap.specs.Words.{Text}
 use Rattle.ps_program.specs.CommandLine.{Usage, compact_flag, lasso_given, order_given, role_given, synth_given}
 use Rattle.ps_program.specs.declared.commands.Line.{Line}
-use Rattle.ps_program.specs.declared.commands.Line.TheVariants.{Judge, Lasso, Verify, Solve, Game, Cert, Synth}
+use Rattle.ps_program.specs.declared.commands.Line.TheVariants.{Judge, Lasso, Verify, Shrink, Solve, Game}
+use Rattle.ps_program.specs.declared.commands.Line.TheVariants.{Cert, Synth}
 use Rattle.ps_program.specs.declared.commands.Usage.{Usage as Row}
 
 -- the `Line` that a command means if the given flags are added to it
@@ -11,6 +12,7 @@ abbrev pub with_flags : Line → (Text → Bool) → Line
 with_flags (Judge compact) given = Judge (given compact_flag)
 with_flags (Lasso role) given = lasso_given given
 with_flags (Verify order role) given = Verify (order_given given) (role_given given)
+with_flags (Shrink order role) given = Shrink (order_given given) (role_given given)
 with_flags (Solve compact) given = Solve (given compact_flag)
 with_flags (Game order) given = Game (order_given given)
 with_flags (Cert order compact) given = Cert (order_given given) (given compact_flag)

@@ -9,7 +9,8 @@ ghost use Rattle.ps_hoa.specs.Files.{FileData};
 ghost use Rattle.ps_simulate.specs.Stimuli.{letters_of};
 ghost use Rattle.ps_program.specs.Outcomes.{Gives};
 ghost use Rattle.ps_program.specs.Replies.{reply_of};
-ghost use Rattle.ps_program.specs.Verifying.{AnswersVerify, TellsJudgement, VerifiesText, letter_lines, losing_text};
+ghost use Rattle.ps_program.specs.Verifying as verifying;
+ghost use Rattle.ps_program.specs.Verifying.{AnswersVerify, TellsJudgement, VerifiesText, letter_lines};
 
 use crate::answer::{Answer, Refusal};
 use crate::automata::read_automaton;
@@ -70,7 +71,7 @@ fn tell(
 {
     match verified(alloc, circuit, automaton, order, role) {
         Ok(Judgement::Wins) => Ok(Answer::line(alloc, "wins")?),
-        Ok(Judgement::Loses(stimulus)) => Ok(Answer::text(text_of(alloc, &stimulus)?)),
+        Ok(Judgement::Loses(stimulus)) => Ok(Answer::text(losing_text(alloc, &stimulus)?)),
         Err(ProductFault::OutOfMemory) => Err(Refusal::OutOfMemory),
         Err(fault) => Err(Refusal::Fault(FaultLine {
             number: fault.number(),
@@ -81,8 +82,8 @@ fn tell(
 }
 
 /// The word `loses`, and the stimulus on which the circuit loses.
-fn text_of(alloc: Global, stimulus: &Stimulus) -> Result<Vec<u8>, AllocError>
-    ensures { IfOk result (λ text. text.items ≡ losing_text stimulus.now) }
+pub(crate) fn losing_text(alloc: Global, stimulus: &Stimulus) -> Result<Vec<u8>, AllocError>
+    ensures { IfOk result (λ text. text.items ≡ verifying.losing_text stimulus.now) }
 {
     let mut text = Vec::from_slice(alloc, b"loses\n")?;
     write_letters(&mut text, &stimulus.stem)?;
