@@ -3,6 +3,9 @@ from psyntool import console, files, program
 from psyntool.command import CHECK, TIME
 from psyntool.ends import FAULT, OTHER, WRONG_SOLUTIONS
 
+# The first line of an answer of `verify` or `shrink` about a circuit that loses; a stimulus follows.
+LOSES = b"loses\n"
+
 
 def run(request):
     """Runs a command of the program. With --quiet, the tool's process becomes the program (`exec`)."""
@@ -40,7 +43,7 @@ def told(request, texts, answer):
 def checked(request, answer):
     """The exit status with --check, which tells a verdict from the other one."""
     is_wrong = request.command.name == "judge" and answer.text[len("fault ") :][:2] in WRONG_SOLUTIONS and answer.is_fault
-    return OTHER if is_wrong or answer.bytes.startswith((b"loses\n", b"rejected ", b"violated ")) else answer.status
+    return OTHER if is_wrong or answer.bytes.startswith((LOSES, b"rejected ", b"violated ")) else answer.status
 
 
 def is_had(answer):

@@ -4,7 +4,7 @@ import time
 
 from psyntool import program
 from psyntool.command import MEMORY, TIME
-from psyntool.ends import Refused
+from psyntool.ends import Refused, Unwritten
 
 MEBIBYTE = 1 << 20
 
@@ -22,3 +22,20 @@ def begin(request):
 def end():
     """Takes the limits away."""
     program.most_memory = program.last_moment = None
+
+
+def tried(seconds, function, *values):
+    """The result of a function, or None if the programs that it starts have not ended within so many seconds. If the
+    flag --time leaves less, that limit stays."""
+    before, mine = program.last_moment, program.LastMoment(time.monotonic() + seconds, "")
+    if before and before.at <= mine.at:
+        return function(*values)
+    program.last_moment = mine
+    try:
+        return function(*values)
+    except Unwritten as error:
+        if str(error) != mine.message:
+            raise
+        return None
+    finally:
+        program.last_moment = before

@@ -1,10 +1,13 @@
-"""Remarks on a controller that is right, and yet perhaps not the one that was wanted: outputs that never change, and
-assumptions that a controller can make fail."""
+"""Remarks on an answer of `synth`: outputs of a controller that never change, inputs that it does not need, and assumptions
+that a controller can make fail, so that it may not be the one that was wanted; and a small environment, told in words."""
 from psyntool import program
 from psyntool.command import MOORE
 
 # Of a longer text, constant outputs are not looked for.
 LONGEST = 1 << 19
+# A larger environment is not told in words, and neither is one that takes longer to be made small.
+MOST_LATCHES, MOST_GATES, MOST_SECONDS = 4, 12, 20
+DEFEATED = "whatever the controller does, this defeats it:"
 # A play with more steps than this is not shown.
 MOST_STEPS = 40
 
@@ -12,16 +15,50 @@ MOST_STEPS = 40
 def constants(answer):
     """A line that names the outputs of an answer's circuit that never change, if the answer is a controller and has
     such outputs."""
+    made = controller_of(answer)
+    said = [f"{name} is {value}" for name, value in made.constants().items()] if made else []
+    return [f"in this controller some outputs never change: {', '.join(said)}"] if said else []
+
+
+def unread(answer):
+    """A line that names the inputs on which no output depends, if the answer is a controller and has such inputs."""
+    made = controller_of(answer)
+    needed = made.needed_variables if made else ()
+    said = [name for literal, name in zip(made.inputs, made.names("i")) if literal // 2 not in needed] if made else []
+    return [f"no output of this controller depends on {', '.join(said)}"] if said else []
+
+
+def controller_of(answer):
+    """The circuit of an answer that has a controller; None for another answer or a long one."""
     from psyntool.texts import Unreadable, circuit, report
 
     if answer.status != 10 or len(answer.bytes) > LONGEST:
-        return []
+        return None
     try:
-        made = circuit.read(report.read(answer.text).parts[0])
+        return circuit.read(report.read(answer.text).parts[0])
     except Unreadable:
+        return None
+
+
+def defeat(automaton, answer, passed):
+    """What an environment does that defeats every controller, if the answer is one and `shrink` makes it small enough
+    for words."""
+    from psyntool import limits, shrinking
+    from psyntool.texts import circuit
+
+    if answer.status != 20 or len(answer.bytes) > LONGEST:
         return []
-    said = [f"{name} is {value}" for name, value in made.constants().items()]
-    return [f"in this controller some outputs never change: {', '.join(said)}"] if said else []
+    found = limits.tried(MOST_SECONDS, shrinking.of_answer, automaton, answer, passed)
+    return words_of(circuit.read(found[0].text)) if found and shrinking.is_circuit(found[0]) else []
+
+
+def words_of(made):
+    """What the circuit of an environment does, if it is small enough for words."""
+    from psyntool.equations import telling
+
+    if len(made.latches) > MOST_LATCHES or len(made.gates) > MOST_GATES:
+        return []
+    return telling.lines(made, DEFEATED)
 
 
 def failing(composer, passed):

@@ -12,7 +12,7 @@ FIELDS = {
     "files": "the words behind it, in a list",
     "status": "the exit status",
     "verdict": "REALIZABLE, UNREALIZABLE, wins, loses, accepted, rejected, satisfied, violated, valid or closed, or of judge right or wrong",
-    "stem": "of lasso, and of verify where the circuit loses: the number of steps before the lap",
+    "stem": "of lasso, and of verify and shrink where the circuit loses: the number of steps before the lap",
     "lap": "the number of steps of the lap, which repeats for ever",
     "fault": "the number of the fault",
     "name": "the name of the fault",
@@ -59,6 +59,8 @@ def verdict_of(command, answer, number, message):
     """The verdict that an answer is, or None."""
     if command == "judge" and not message:
         return "wrong" if number in WRONG_SOLUTIONS else "right" if number is None and answer.startswith("psyncert") else None
+    if command == "shrink" and re.match(r"aag \d", answer):
+        return "wins"
     word = re.match(r"\w*", answer)[0]
     return word if word in VERDICTS else None
 

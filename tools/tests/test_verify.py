@@ -3,11 +3,9 @@ counterexample."""
 import itertools
 import os
 import random
-import shutil
 import sys
 import unittest
 
-from psyntool.commands.shrink import NAMES
 from psyntool.program import path as program
 from tests import changes, products
 from tests.tool import AUTOMATON, OnFiles
@@ -107,7 +105,6 @@ class Verify(unittest.TestCase):
 
 
 NEVER = b"aag 1 1 0 1 0\n2\n0\ni0 r\no0 g\n"
-WITHOUT_NAMES = b"HOA: v1 Start: 0 AP: 0 controllable-AP: Acceptance: 0 t --BODY-- State: 0 [t] 0 --END--\n"
 
 
 class OfTheTool(OnFiles):
@@ -259,42 +256,6 @@ class OfParts(OnFiles):
         strict = self.tool("verify", self.file("strict", self.tool("compose", "--strict", *words).stdout), never).stderr.decode()
         self.assertEqual(strict, BROKEN.replace("!free !r !g\n", "!free !r !g  no edge\nthere is no edge: the run ends\n"))
         self.assertEqual(self.tool("lasso", "--trace", spec, never, "-", given=b"00\n-\n01\n").stdout.decode(), UNMET)
-
-
-class Shrink(OnFiles):
-    def test_a_circuit_is_made_smaller_only_if_it_still_wins(self, *flags):
-        spec, copy = self.file("spec", AUTOMATON), b"aag 1 1 0 1 0\n2\n2\ni0 r\no0 g\n"
-        small = (copy, copy.replace(b"2\n2\n", b"2\n1\n"))
-        more = {
-            "gates": (b"aag 3 1 0 1 2\n2\n6\n4 2 2\n6 4 2\ni0 r\no0 g\n", b"gates: 2 before, 0 after; latches: 0 before, 0 after\n"),
-            "latches": (b"aag 2 1 1 1 0\n2\n4 4\n2\ni0 r\no0 g\n", b"gates: 0 before, 0 after; latches: 1 before, 0 after\n"),
-            "nothing": (copy, b"gates: 0 before, 0 after; latches: 0 before, 0 after\n"),
-        }
-        for name, (text, said) in more.items():
-            done = self.tool("shrink", *flags, spec, self.file(name, text))
-            self.assertEqual((done.stdout in small, done.stderr), (True, said))
-        never = self.tool("shrink", *flags, spec, self.file("never", NEVER))
-        self.assertEqual((never.stdout, never.returncode), (b"", 1))
-        self.assertIn(b"loses, so nothing is written", never.stderr)
-
-    @unittest.skipUnless(any(map(shutil.which, NAMES)), "abc is not installed")
-    def test_abc_makes_it_smaller_first(self):
-        self.test_a_circuit_is_made_smaller_only_if_it_still_wins("--abc")
-
-    def test_what_is_no_circuit_of_the_automaton(self):
-        spec = self.file("spec", AUTOMATON)
-        other = self.tool("shrink", spec, self.file("other", b"aag 1 1 0 1 0\n2\n2\ni0 clk\no0 g\n"))
-        self.assertEqual((other.stdout, other.returncode), (b"", 1))
-        self.assertTrue(other.stderr.startswith(b"fault 72 Symbols\namong the circuit's inputs: missing r; too many clk\n"))
-        twice = self.tool("shrink", spec, spec).stderr
-        self.assertIn(f"\n{spec} is an automaton; shrink wants AUTOMATON CIRCUIT\n".encode(), twice)
-        empty = self.tool("shrink", self.file("all", WITHOUT_NAMES), self.file("empty", b"aag 0 0 0 0 0\n"))
-        self.assertEqual((empty.stdout, empty.returncode), (b"aag 0 0 0 0 0\n", 0))
-
-    def test_without_abc(self):
-        done = self.tool("shrink", "--abc", self.file("spec", AUTOMATON), "-", environment={"PATH": os.path.join(self.room, "none")})
-        self.assertEqual((done.stdout, done.returncode), (b"", 2))
-        self.assertIn(b"shrink --abc needs abc", done.stderr)
 
 
 if __name__ == "__main__":

@@ -7,7 +7,7 @@ import subprocess
 import unittest
 from collections import Counter
 
-from psyntool.equations import terms
+from psyntool.equations import telling, terms
 from psyntool.equations.reading import Names, equations
 from psyntool.program import path as program
 from psyntool.texts import circuit, verilog
@@ -84,6 +84,23 @@ def simulated(psyn, made, letters):
     return [[int(digit) for digit in row.split("|")[2]] for row in answer.splitlines()]
 
 
+def by_words(phrase, rows):
+    """The values that words say of an output, where each row has the values of inputs and outputs by name."""
+    found = re.fullmatch(r"(the opposite of )?(?:(.+) of the same step|what (.+) was (?:one step|(\d+) steps) before \(([01 ]+) in the first .*\))", phrase)
+    if found:
+        opposite, same, name, count, first = found.groups()
+        steps = 0 if same else int(count or 1)
+        begin = [int(digit) for digit in (first or "").split()]
+        values = [row[same or name] ^ bool(opposite) for row in rows]
+        return [*(begin if len(begin) == steps else begin * steps), *values][: len(rows)]
+    found = re.fullmatch(r"(?:([01 ]+) in the first (?:step|(\d+) steps), then )?(?:always ([01])|([01]) and ([01]) in turn, [01] first|([01 ]+) again and again)", phrase)
+    stem, count, constant, one, other, lap = found.groups()
+    begin = [int(digit) for digit in (stem or "").split()]
+    begin = begin if len(begin) == int(count or 1) else begin * int(count or 1)
+    lap = [int(digit) for digit in (lap or constant or f"{one} {other}").split()]
+    return [*begin, *lap * len(rows)][: len(rows)]
+
+
 def letters_of(chance, made):
     return [[chance.randrange(2) for _ in made.inputs] for _ in range(STEPS)]
 
@@ -100,6 +117,20 @@ class Equations(unittest.TestCase):
             with self.subTest(number=number):
                 self.assertEqual(by_equations(said, named, letters), simulated(psyn, made, letters))
         self.assertTrue(all(seen[kind] > 10 for kind in (terms.Not, terms.And, terms.Or, terms.Xor, terms.Choice)), seen)
+
+    def test_words_for_random_circuits_are_right(self):
+        chance, psyn, kinds = random.Random("words"), program(), Counter()
+        for number in range(400):
+            made = drawn(chance)
+            named = telling.names_of(made)
+            letters, phrases = letters_of(chance, made), telling.phrases(made, equations(made, named))
+            if phrases:
+                rows = [dict(zip([*named.inputs, *named.outputs], [*letter, *row])) for letter, row in zip(letters, simulated(psyn, made, letters))]
+            for name, phrase in phrases.items():
+                kinds[re.sub(r"[01 ]+(?= again| in the first)|(what )?\S+ (?=was|of the same)", "", phrase)[:14]] += 1
+                with self.subTest(number=number, phrase=phrase):
+                    self.assertEqual(by_words(phrase, rows), [row[name] for row in rows])
+        self.assertGreater(len(kinds), 8, kinds)
 
     def test_choices_and_differences_are_seen(self):
         for text, said in (
@@ -305,6 +336,12 @@ class Tool(OnFiles):
         self.assertEqual(self.refused(made, self.file("empty", b"")), f"{self.room}/empty is empty; SPEC is an automaton or a list of parts")
         self.assertEqual(self.refused("-", "-"), "standard input can be one of the files only")
         self.assertEqual(self.refused(), "verilog reads CIRCUIT [SPEC], and got 0 words")
+
+    def test_latches_without_a_use_are_left_out(self):
+        for more, said in ((b"6 1\n", b"l1, which is"), (b"6 8\n8 6\n", b"l1, l2, which are")):
+            rows = more.count(b"\n")
+            text = b"aag %d 1 %d 1 0\n2\n4 2\n%s4\n" % (2 + rows, 1 + rows, more)
+            self.assertIn(b"// No output depends on " + said + b" left out.\n", self.tool("verilog", "-", given=text).stdout)
 
     def test_an_empty_circuit(self):
         done = self.tool("verilog", "-", given=b"aag 0 0 0 0 0\n")

@@ -1,7 +1,8 @@
 """`core`: if a specification in parts has no controller, the guarantees that conflict; otherwise the assumptions that a
 controller needs."""
-from psyntool import console, outputs, remarks
+from psyntool import console, files, outputs, program, remarks
 from psyntool.command import TO_FILE
+from psyntool.kinds import Kind
 from psyntool.parts import cores, specification
 from psyntool.parts.composing import Composer
 
@@ -20,9 +21,15 @@ def run(request):
     if paths:
         outputs.write_all({paths[0]: Composer(found.specification).composed().text()})
     console.write_text("\n".join([WORD[found.has_controller], head(found), *rows(found.parts), ""]))
-    if found.has_controller and not request.quiet:
-        console.tell(*remarks.failing(asking.composer, request.passed))
+    if not request.quiet:
+        console.tell(*(remarks.failing(asking.composer, request.passed) if found.has_controller else defeat(found.specification, request.passed)))
     return STATUS[found.has_controller]
+
+
+def defeat(specification, passed):
+    """What defeats every controller of a specification that has none, if words can tell it."""
+    whole = files.Text(Kind.AUTOMATON, "the automaton of these parts", Composer(specification).composed().text().encode("utf-8", "surrogateescape"))
+    return remarks.defeat(whole, program.ask(files.joined("synth", passed, [whole])), passed)
 
 
 def head(found):

@@ -50,6 +50,10 @@ Does this automaton accept what that circuit does on this stem and this lap, and
 The same for a specification in temporal logic: does what the circuit does satisfy it?
   {name} lasso --tlsf spec.tlsf circuit.aag lasso.stim
 
+A smaller circuit that wins too, from the circuit or from the specification:
+  {name} shrink arbiter.hoa arbiter.aag > small.aag
+  {name} synth --small arbiter.hoa
+
 This circuit as Verilog, if it wins; of a list of parts with the sentences that mention each output:
   {name} verilog lift.aag lift.parts > lift.v
 

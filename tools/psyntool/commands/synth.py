@@ -1,7 +1,8 @@
 """`synth`: a circuit for an automaton, or for a specification in parts. With -o, the circuit, the game and the
-certificate go to separate files; with --by, another solver solves the game."""
+certificate go to separate files; with --small, the circuit is made smaller; with --by, another solver solves the
+game."""
 from psyntool import asking, console, files, outputs, program
-from psyntool.command import BY, CERT, FULL, KEEP, MOORE, OF_PARTS, PARTS, PICTURE, TO_FILES
+from psyntool.command import BY, CERT, FULL, KEEP, MOORE, OF_PARTS, PARTS, PICTURE, SMALL, TO_FILES
 from psyntool.ends import FAULT, Refused
 from psyntool.kinds import Kind
 from psyntool.texts import Unreadable, report
@@ -51,21 +52,35 @@ def run_on_parts(request):
 
 
 def hand_on(request, texts, flags=None):
-    """Prints the program's answer, and names outputs that never change. With --quiet, the tool becomes the program."""
+    """Prints the program's answer, and remarks on it. With --quiet, the tool becomes the program."""
     given = files.joined("synth", request.passed if flags is None else flags, texts)
-    if asking.may_become(request) and flags is None:
+    if asking.may_become(request) and flags is None and not request.has(SMALL):
         program.become(given)
-    answer = program.ask(given)
+    answer = smaller(request, texts, program.ask(given))
     status = asking.hand_on(request, texts, answer)
-    remark(request, answer)
+    remark(request, texts, answer)
     return status
 
 
-def remark(request, answer):
-    if not request.quiet and asking.is_had(answer):
-        from psyntool import remarks
+def smaller(request, texts, answer):
+    """The answer with a smaller circuit if the request asks for it."""
+    if not request.has(SMALL):
+        return answer
+    from psyntool import shrinking
 
-        console.tell(*remarks.constants(answer))
+    return shrinking.in_answer(request, texts[0], answer)
+
+
+def remark(request, texts, answer):
+    """Names outputs of a controller that never change, and inputs that a smaller one does not need; of parts, tells what
+    an environment does."""
+    if request.quiet or not asking.is_had(answer):
+        return
+    from psyntool import remarks
+
+    is_of_parts = any(request.has(flag) for flag in (PARTS, *OF_PARTS))
+    console.tell(*remarks.constants(answer), *(remarks.unread(answer) if request.has(SMALL) else []))
+    console.tell(*(remarks.defeat(texts[0], answer, request.passed) if is_of_parts else []))
 
 
 class Solving:
@@ -107,13 +122,13 @@ def to_files(request, texts, paths, others, passed=()):
     """Writes the circuit, the game, the certificate and other given texts to files, and then prints the first line of
     the answer."""
     flags = list(dict.fromkeys([*(passed or request.passed), FULL.name]))
-    answer = program.ask(files.joined("synth", flags, texts))
+    answer = smaller(request, texts, program.ask(files.joined("synth", flags, texts)))
     if answer.is_fault:
         return asking.hand_on(request, texts, answer)
     if answer.died:
         return asking.told(request, texts, answer)
     status = stored(answer, paths, others)
-    remark(request, answer)
+    remark(request, texts, answer)
     return status
 
 

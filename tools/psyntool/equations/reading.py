@@ -21,6 +21,22 @@ class Names:
     of_gate: Callable
 
 
+class Scope:
+    """Names that are all different."""
+
+    def __init__(self):
+        self.taken = set()
+
+    def new(self, wanted):
+        """The wanted name or, if it is taken, that name with a number."""
+        name, number = wanted, 1
+        while name in self.taken:
+            number += 1
+            name = f"{wanted}_{number}"
+        self.taken.add(name)
+        return name
+
+
 @dataclass(frozen=True)
 class Register:
     """A latch that an output depends on: its name, its first value, and the term of its next value."""

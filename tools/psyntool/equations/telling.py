@@ -1,11 +1,58 @@
-"""What outputs of a circuit do, in words: those that are constant, that change by themselves, or that repeat an input."""
+"""What outputs of a circuit do, in words: those that are constant, that change by themselves, or that repeat an input.
+Others are told by equations."""
+from psyntool.equations.reading import Names, Scope, equations
 from psyntool.equations.terms import Constant, Name, Not
+from psyntool.equations.writing import PLAIN, written
 from psyntool.texts.circuit import at
 
 # For an output that needs no input so many steps are computed, and fewer where they would be of more gates in all.
 MOST_STEPS, MOST_GATES = 64, 200_000
 # A longer sequence of values is not told.
 MOST_VALUES = 16
+
+
+def lines(made, head):
+    """What a circuit does: one sentence behind the head if there are words for each output; else equations below it."""
+    said = equations(made, names_of(made))
+    found = phrases(made, said)
+    if len(found) == len(said.outputs):
+        return [f"{head} {together(found) or 'nothing, since it has nothing to say'}"]
+    told = [f"{name} = {written(term, PLAIN)}" for name, term in said.wires]
+    for name, term in said.outputs:
+        told += [f"{name} is {found[name]}"] if name in found else [] if term == Name(name) else [f"{name} = {written(term, PLAIN)}"]
+    return [head, *(f"  {line}" for line in [*told, *registers_told(said, found)])]
+
+
+def names_of(made):
+    """Names that are all different. A latch that is an output has the name of that output."""
+    scope = Scope()
+    inputs, outputs = (tuple(map(scope.new, made.names(kind))) for kind in "io")
+    shown = dict(reversed([*zip(made.outputs, outputs)]))
+    latches = tuple(shown.get(latch.literal) or scope.new(name) for latch, name in zip(made.latches, made.names("l")))
+    wires = {gate.literal // 2: scope.new(f"n{gate.literal // 2}") for gate in made.gates}
+    return Names(inputs, latches, outputs, wires.__getitem__)
+
+
+def registers_told(said, found):
+    """A line for each register that is not told as an output: what it repeats, or the term of its next value."""
+    registers, wires = {it.name: it for it in said.registers}, dict(said.wires)
+    told = []
+    for it in said.registers:
+        general = f"{it.first} in the first step, and then what this was one step before: {written(it.next, PLAIN)}"
+        told += [] if it.name in found else [f"{it.name} is {of_signal(Name(it.name), registers, wires) or general}"]
+    return told
+
+
+def together(found):
+    """One sentence on outputs, of which those with the same words stand together, and those that are always 0 last."""
+    names = {}
+    for name, phrase in sorted(found.items(), key=lambda one: one[1] == "always 0"):
+        names.setdefault(phrase, []).append(name)
+    return ", ".join(f"{listed(these)} {'is' if len(these) == 1 else 'are'} {phrase}" for phrase, these in names.items())
+
+
+def listed(names):
+    return " and ".join(filter(None, [", ".join(names[:-1]), names[-1]]))
 
 
 def phrases(made, said):

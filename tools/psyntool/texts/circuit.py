@@ -49,6 +49,18 @@ class Circuit:
         sides = [side for gate in self.gates for side in gate.sides]
         return {literal // 2 for literal in [*(latch.next for latch in self.latches), *self.outputs, *sides]}
 
+    @property
+    def needed_variables(self):
+        """The variables on which the outputs depend, by gates and latches."""
+        sides = {gate.literal // 2: gate.sides for gate in self.gates} | {latch.literal // 2: (latch.next,) for latch in self.latches}
+        found, waiting = set(), [literal // 2 for literal in self.outputs]
+        while waiting:
+            one = waiting.pop()
+            if one not in found:
+                found.add(one)
+                waiting += [side // 2 for side in sides.get(one, ())]
+        return found
+
     def without_input(self, name):
         """The circuit without the input of the given name, which must be unread; the inputs after it move up by one."""
         dropped = next((number for number in range(len(self.inputs)) if self.symbols.get(("i", number)) == name), None)

@@ -2,7 +2,7 @@
 import re
 
 from psyntool.equations import telling
-from psyntool.equations.reading import Names, equations
+from psyntool.equations.reading import Names, Scope, equations
 from psyntool.equations.terms import And, Or, Xor
 from psyntool.equations.writing import Signs, written
 
@@ -42,21 +42,15 @@ def identifier(name):
 SIGNS = Signs(identifier, ("1'b0", "1'b1"), "~", {And: " & ", Or: " | ", Xor: " ^ "}, "{} ? {} : {}")
 
 
-class Scope:
-    """The names of a module, all different, as they are without the backslash and the blank."""
+class Ports(Scope):
+    """The names of a module, as they are without the backslash and the blank."""
 
     def __init__(self):
-        self.taken, self.changed = set(), []
+        super().__init__()
+        self.changed = []
 
     def new(self, wanted):
-        """A name that is not taken, as near as possible to the wanted one."""
-        base = NEVER.sub("_", wanted) or "_"
-        name, number = base, 1
-        while name in self.taken:
-            number += 1
-            name = f"{base}_{number}"
-        self.taken.add(name)
-        return name
+        return super().new(NEVER.sub("_", wanted) or "_")
 
     def port(self, kind, wanted):
         """The name of an input or output; if it is not the wanted one, a comment will say so."""
@@ -76,7 +70,7 @@ def module(made, title, about=(), remarks=None):
 
     `about` has lines for the comment above it, and `remarks` has further lines for an output, by its name.
     """
-    scope = Scope()
+    scope = Ports()
     inputs, outputs = (tuple(scope.port(kind, name) for name in made.names(kind[0])) for kind in ("input", "output"))
     clocks = (scope.new(CLOCK), scope.new(RESET))
     latches = tuple(scope.new(name) for name in made.names("l"))
@@ -109,7 +103,7 @@ def timing(clocks):
 def left_out(latches, registers):
     kept = {register.name for register in registers}
     names = [name for name in latches if name not in kept]
-    return [f"Left out, since no output depends on it: {', '.join(names)}."] if names else []
+    return [f"No output depends on {', '.join(names)}, which {'is' if len(names) == 1 else 'are'} left out."] if names else []
 
 
 def heading(name, ports):
