@@ -18,10 +18,10 @@ from psyntool.command import Request
 from psyntool.ends import Refused
 from psyntool.pages import clauses, contents, drawing, writing
 from psyntool.parts import part
-from psyntool.plays import reading, telling
+from psyntool.plays import opponents, reading, telling
 from psyntool.plays.board import Board, Play
 from psyntool.table import COMMANDS
-from psyntool.texts import report
+from psyntool.texts import circuit, report
 from tests.test_gallery import GALLERY
 from tests.test_plays import boards
 from tests.tool import AUTOMATON, OnFiles
@@ -136,19 +136,36 @@ class Rules(unittest.TestCase):
         return steps
 
     def test_circuits_that_psyn_did_not_print(self):
-        """The rules try where a letter leads. The gates of a circuit may stand in any order."""
-        drawn, free = list(boards(random.Random(SEED + 1), 12)), []
-        for *_, board in drawn:
+        """If the user moves first, the rules try where a letter leads. The gates of a circuit may stand in any order, and
+        it may be a smaller one."""
+        cases, kinds = [], set()
+        for text, printed, board in boards(random.Random(SEED + 1), 12):
             made = dataclasses.replace(board.circuit, gates=board.circuit.gates[::-1])
-            free.append(Board(board.automaton, board.game, board.certificate, made, board.specification, is_printed=False))
-        said, kinds = self.played([(contents.of(board), [[], ["1" * len(board.mine)] * 3]) for board in free]), set()
-        for (text, printed, _), board, these in zip(drawn, free, said):
+            small = program.ask(" ".join(["shrink", *opponents.flags_of(board)]).encode() + f"\n{text}%%\n{printed}".encode()).text
+            for said, read, known_by in ((printed, made, "verify"), (small, circuit.read(small), "shrink")):
+                cases.append((text, said, Board(board.automaton, board.game, board.certificate, read, board.specification, known_by)))
+        said = self.played([(contents.of(board), [[], ["1" * len(board.mine)] * 3]) for *_, board in cases])
+        for (text, printed, board), these in zip(cases, said):
             for play in these:
                 self.look_at(board, play)
                 self.assertEqual(play["steps"], self.simulated(board, printed, play))
                 self.assertRegex(self.verdict(board, text, printed, play), self.wanted(play))
+            if not board.am_first:
+                longest = Play(board, printed.encode())
+                longest.hold_out()
+                self.assertEqual((these[0]["text"], these[0]["stimulus"]), (shown(longest), longest.stimulus()))
             kinds.add((board.winner, board.am_first))
         self.assertEqual(len(kinds), 4)
+
+    def test_a_play_beyond_the_places_that_are_known(self):
+        """Where nothing is known before the play, the rules try where letters lead, and find the same choices."""
+        board = next(board for *_, board in boards(random.Random(SEED + 2), 40) if not board.am_first and board.winner)
+        whole = Board(board.automaton, board.game, board.certificate, board.circuit, board.specification, known_by="shrink")
+        with unittest.mock.patch("psyntool.pages.contents.MOST_PLACES", 1):
+            few = contents.of(whole)
+        self.assertEqual(len(few["choices"]), 1)
+        said = self.played([(given, [[]]) for given in (few, contents.of(whole))])
+        self.assertEqual([play["wrong"] for [play] in said], [0, 0])
 
     def test_boards_by_hand(self):
         """A play closes a loop when a state recurs with the same latches; a latch may start at 1, and a letter may have
@@ -247,6 +264,20 @@ class Pages(OnFiles):
         self.solved("copy", AUTOMATON, "--force")
         self.file("copy.aag", NEVER.replace(b"\n0\n", b"\n1\n"))
         self.assertTrue("psyn did not print this circuit" in self.page("copy", spec))
+
+    def test_a_smaller_environment_is_shown_with_its_words(self):
+        path = os.path.join(GALLERY, "handshake.parts")
+        self.tool("synth", "--parts", "-o", "handshake", path)
+        for words in (("--parts", path), ("handshake", path)):
+            page = self.page(*words)
+            self.assertRegex(page, '<p class="words">Whatever the controller does, this defeats it: .* always 1')
+            self.assertTrue("<code>shrink</code> made this circuit of a larger one; it is proved of <code>shrink</code> that" in page)
+            data = re.search(r'<a download="handshake.aag" href="data:text/plain;base64,([^"]*)">', page)[1]
+            self.assertRegex(base64.b64decode(data), rb"\Aaag \d+ \d+ 0 \d+ 0\n")
+            self.file("small.aag", base64.b64decode(data))
+            self.assertEqual(self.tool("verify", "--env", "handshake.hoa", "small.aag").stdout, b"wins\n")
+        controller = self.page("--parts", os.path.join(GALLERY, "pump.parts"))
+        self.assertEqual(("<code>shrink</code>" in controller, 'class="words"' in controller), (False, False))
 
     def test_names_are_escaped(self):
         page = self.page("odd", self.solved("odd", ODD))

@@ -10,10 +10,11 @@ import unittest
 
 from psyntool import program
 from psyntool.commands import play as command
+from psyntool.pages import contents
 from psyntool.parts import part
 from psyntool.parts.composing import Composer
 from psyntool.parts.specification import Specification
-from psyntool.plays import telling
+from psyntool.plays import opponents, telling
 from psyntool.plays.board import Board, Play
 from psyntool.texts import automaton, certificate, circuit, game, report
 from tests.test_cores import CONFLICT
@@ -23,13 +24,13 @@ from tests.tool import AUTOMATON, TOOL, OnFiles
 AUTO = """\
 step  state                                           environment  controller  priority
 0     no r1 waits; g0 is next; no r0 before           r1           -           2
-1     r1 waits for 1 step; g0 is next; no r0 before   -            -           2
-2     r1 waits for 2 steps; g0 is next; no r0 before  -            -           2
-3     r1 waits for 3 steps; g0 is next; no r0 before  -            -           no edge
+1     r1 waits for 1 step; g0 is next; no r0 before   r1           -           2
+2     r1 waits for 2 steps; g0 is next; no r0 before  r1           -           2
+3     r1 waits for 3 steps; g0 is next; no r0 before  r1           -           no edge
 at step 3 there is no edge: the automaton rejects, whatever follows
 step 3 breaks the guarantee answered-within-3(r1,g1)
   behind each r1 comes g1, at most 3 steps later
-few.stim has these letters of the controller; lasso: rejected stem 4 lap 1
+few.stim has these letters of the controller; lasso: rejected stem 3 lap 1
 """
 BEGIN = """\
 You are the controller, and the environment has a circuit that wins.
@@ -50,7 +51,7 @@ step  state                                  environment  controller  priority
 at step 0 there is no edge: the automaton rejects, whatever follows
 step 0 breaks the guarantee at-most-one-step-after(r0,g0)
   g0 is true only with r0 or one step after r0
-few.stim has these letters of the controller; lasso: rejected stem 1 lap 1
+few.stim has these letters of the controller; lasso: rejected stem 0 lap 1
 """
 ENVIRONMENT = """\
 You are the environment, and the controller has a circuit that wins.
@@ -73,6 +74,8 @@ step 0 comes again and again; the greatest priority there is 2, even: the automa
 out.stim has these letters of the environment; lasso: accepted stem 0 lap 1
 """
 LAMP = b'HOA: v1 Start: 0 AP: 2 "r" "g" controllable-AP: 1 Acceptance: 0 t --BODY-- State: 0 "dark" [!1] 0 [1] 1 State: 1 "light" [!1] 0 [1] 1 --END--\n'
+# What an environment does, in words.
+DEFEATED = r"\Awhatever the controller does, this defeats it: .* always 1.*\n"
 LEFT = "the play is left; no stimulus is written\n"
 
 
@@ -87,7 +90,7 @@ class Commands(OnFiles):
 
     def played(self, *words, given=""):
         done = self.tool("play", *words, given=given.encode())
-        self.assertEqual((done.returncode, done.stderr), (0, b""))
+        self.assertEqual((done.returncode, re.sub(DEFEATED, "", done.stderr.decode())), (0, ""))
         return done.stdout.decode()
 
     def test_the_longest_play(self):
@@ -143,6 +146,23 @@ class Commands(OnFiles):
         parts = self.file("it.parts", CONFLICT.encode())
         self.tool("synth", "-o", "all", self.file("all.hoa", self.tool("compose", parts).stdout))
         self.assertEqual(self.played("--auto", "all", parts), self.played("--auto", "all", "all.hoa"))
+
+    def test_a_small_circuit_and_one_that_loses(self):
+        """A controller that moves first need not be the one that was printed with the game."""
+        turns = b'HOA: v1 Start: 0 AP: 2 "r" "g" controllable-AP: 1 Acceptance: 1 Inf(0) --BODY-- State: 0 [!1] 0 {0} [1] 1 {0} State: 1 [!1] 0 {0} --END--\n'
+        self.tool("synth", "--moore", "-o", "out", self.file("it.hoa", turns))
+        for literal, latch, lasso in (("0", "0", "accepted stem 0 lap 1"), ("4", "5", "accepted stem 1 lap 2"), ("1", "0", "")):
+            self.file("out.aag", f"aag 2 1 1 1 0\n2\n4 {latch}\n{literal}\ni0 r\no0 g\n".encode())
+            done = self.tool("play", "--auto", "--force", "out", "it.hoa")
+            if lasso:
+                self.assertIn(f"; lasso: {lasso}\n", done.stdout.decode(), done.stderr)
+            else:
+                said = b"psyn: out.aag loses, so there is no play against it: `verify` tells a counterexample\n"
+                self.assertEqual((done.returncode, done.stdout, done.stderr), (2, b"", said))
+        self.conflict()
+        small = self.played("--auto", "few", "few.hoa")
+        self.tool("synth", "--small", "-o", "few", "few.hoa")
+        self.assertEqual(self.played("--auto", "few", "few.hoa"), small)
 
     def test_files_that_do_not_fit(self):
         self.conflict()
@@ -206,6 +226,22 @@ class Drawn(unittest.TestCase):
                 self.look_at(play, told)
                 ends[board.winner, play.loop is None] = ends.get((board.winner, play.loop is None), 0) + 1
         self.assertEqual(set(ends), {(0, False), (1, False), (1, True)})
+
+    def test_smaller_circuits(self):
+        """The same against what `shrink` makes of the circuit."""
+        draw, ends = random.Random(8), {}
+        for text, printed, board in boards(draw, 40):
+            answer = program.ask(" ".join(["shrink", *opponents.flags_of(board)]).encode() + f"\n{text}%%\n{printed}".encode())
+            small = Board(board.automaton, board.game, board.certificate, circuit.read(answer.text), board.specification, known_by="shrink")
+            for is_longest in (True, False):
+                play = Play(small, answer.bytes)
+                while not play.is_over and play.loop is None:
+                    play.take((play.longest if is_longest else draw.choice)(play.choices()).letter)
+                command.judged(play, text)
+                self.look_at(play, telling.ended(play))
+                ends[small.winner, small.am_first] = ends.get((small.winner, small.am_first), 0) + 1
+            self.assertTrue(contents.of(small)["names"])
+        self.assertEqual(len(ends), 4)
 
     def look_at(self, play, told):
         """The lines about violated parts, which `play` prints at the end, agree with the winner. If the environment

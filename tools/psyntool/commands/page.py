@@ -10,7 +10,7 @@ from psyntool.kinds import Kind
 from psyntool.pages import writing
 from psyntool.parts import specification
 from psyntool.parts.composing import Composer
-from psyntool.plays import reading
+from psyntool.plays import opponents, reading
 from psyntool.texts import report
 
 # Of an automaton with more states than this, standard error says at once that it is not drawn. A smaller one may be too
@@ -27,17 +27,21 @@ def run(request):
     request.refuse_without(MOORE, PARTS)
     given = reading.given(request)
     tell_what_is_not_drawn(request, len(given.board.automaton.states))
-    board = judged(given)
+    given = opponents.smaller(judged(given))
     prefix = os.path.basename(request.words[0])
-    titles = [kind.title for kind in reading.KINDS]
-    texts = [(title, prefix + ending, text.bytes) for title, ending, text in zip(titles, reading.ENDINGS, given.printed)]
+    texts = texts_of(given, prefix)
     kind = given.specification.looks_like
     name = f"{prefix}.{kind.endings[0]}" if request.words[1] == "-" else os.path.basename(request.words[1])
     texts.append(("specification", name, given.specification.bytes))
     if kind is Kind.LIST:
         texts.append(("automaton of its parts", f"{prefix}.hoa", given.automaton.encode("utf-8", "surrogateescape")))
-    console.write_text(writing.page(prefix, board, texts))
+    console.write_text(writing.page(prefix, given.board, texts))
     return 0
+
+
+def texts_of(given, prefix):
+    """The circuit, the game and the certificate, as the page has links to them."""
+    return [(kind.title, prefix + ending, text.bytes) for kind, ending, text in zip(reading.KINDS, reading.ENDINGS, given.printed)]
 
 
 def tell_what_is_not_drawn(request, count):
@@ -59,9 +63,9 @@ def of_parts(request):
     printed = report.read(answer.bytes.decode("utf-8", "surrogateescape")).parts
     name = "parts" if request.words[0] == "-" else os.path.splitext(os.path.basename(request.words[0]))[0]
     stored = (printed[0] + outputs.CIRCUIT_ENDING, *printed[1:])
-    texts = [(kind.title, name + ending, part.encode("utf-8", "surrogateescape")) for kind, ending, part in zip(reading.KINDS, reading.ENDINGS, stored)]
-    texts.append(("specification", f"{name}.hoa", whole.bytes))
-    console.write_text(writing.page(name, reading.board_of(text, *printed), texts))
+    texts = tuple(files.Text(kind, kind.title, part.encode("utf-8", "surrogateescape")) for kind, part in zip(reading.KINDS, stored))
+    given = opponents.smaller(reading.Given(text, texts, whole, reading.board_of(text, *printed)))
+    console.write_text(writing.page(name, given.board, [*texts_of(given, name), ("specification", f"{name}.hoa", whole.bytes)]))
     if answer.status == 10 and not request.quiet:
         console.tell(*remarks.constants(answer), *remarks.failing(composer, request.passed))
     return 0
@@ -82,7 +86,7 @@ def of_circuit(request):
             console.write(answer.bytes)
             return asking.told(request, [whole], answer)
         printed.append(answer.text)
-    board = reading.board_of(text, *printed, name=spec.name, is_printed=False)
+    board = reading.board_of(text, *printed, name=spec.name, known_by="verify")
     refuse_losing(board, whole, made)
     name = os.path.splitext(os.path.basename(request.value(CIRCUIT)))[0]
     texts = [(kind.title, name + ending, part.encode("utf-8", "surrogateescape")) for kind, ending, part in zip(reading.KINDS, reading.ENDINGS, printed)]
@@ -104,7 +108,7 @@ def refuse_losing(board, whole, made):
 
 
 def judged(given):
-    """The board for a page of given files. A game that the program does not print for the given certificate is refused,
+    """Given files, as a page shows them. A game that the program does not print for the given certificate is refused,
     since nothing is proved of it; another circuit is judged by `verify`."""
     flags = ["--cert", "--full", *([] if given.board.game.vertices[0].owner else ["--moore"])]
     specified = files.Text(Kind.AUTOMATON, given.specification.name, given.automaton.encode("utf-8", "surrogateescape"))
@@ -117,7 +121,7 @@ def judged(given):
     if given.printed[1].string != said[1]:
         raise Refused(f"{given.printed[1].name} is not what psyn prints for this certificate, so nothing is proved of it")
     if given.printed[0].string.removesuffix(outputs.CIRCUIT_ENDING) == said[0]:
-        return given.board
-    board = reading.board_of(given.automaton, *(text.string for text in given.printed), name=given.specification.name, is_printed=False)
-    refuse_losing(board, specified, given.printed[0])
-    return board
+        return given
+    given = opponents.with_circuit(given, given.printed[0], "verify")
+    refuse_losing(given.board, specified, given.printed[0])
+    return given

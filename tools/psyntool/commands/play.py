@@ -1,9 +1,9 @@
 """`play`: the user plays against the circuit that psyn printed, and sees why it wins, with the names of states and
 propositions."""
-from psyntool import console, outputs, program
+from psyntool import console, outputs, program, remarks
 from psyntool.command import AUTO, ENV, JSON
 from psyntool.ends import Refused, Unwritten
-from psyntool.plays import reading, telling
+from psyntool.plays import opponents, reading, telling
 from psyntool.plays.board import Play
 
 HELP = (
@@ -17,10 +17,12 @@ def run(request):
     if request.has(JSON) and not request.has(AUTO):
         raise Refused(f"{request.command.name} {JSON.name} wants {AUTO.shown}, since nobody would see what can be chosen")
     prefix = request.words[0]
-    given = reading.given(request)
+    given = opponents.known(reading.given(request))
     play = Play(given.board, given.printed[0].bytes)
     paths = outputs.own(request, [f"{prefix}.stim"], "play", prefix)
     outputs.refuse_read(request, paths)
+    if play.board.winner and not request.quiet:
+        console.tell(*remarks.words_of(play.board.circuit))
     is_whole = play.hold_out() if request.has(AUTO) else asked(play)
     if not is_whole:
         console.write_text("the play is left; no stimulus is written\n")

@@ -41,11 +41,18 @@ GAME = (
     "moves of the certificate ({both_hold}).",
     "No strategy wins from the other vertices, whatever its memory ({none_wins_outside}).",
 )
-# A sentence on a circuit that psyn did not print, in the place of the first of the following ones.
-OF_ANOTHER = (
-    "psyn did not print this circuit; but it is proved of `verify`, which says that the automaton accepts each lasso trace of this circuit.",
-    "psyn did not print this circuit; but it is proved of `verify`, which says that the automaton accepts no lasso trace of this circuit.",
-)
+# A sentence on a circuit that was not printed with the game, in the place of the first of the following ones, by the command
+# that judged it and by the player.
+OF_ANOTHER = {
+    "verify": (
+        "psyn did not print this circuit; but it is proved of `verify`, which says that the automaton accepts each lasso trace of this circuit.",
+        "psyn did not print this circuit; but it is proved of `verify`, which says that the automaton accepts no lasso trace of this circuit.",
+    ),
+    "shrink": (
+        "`shrink` made this circuit of a larger one; it is proved of `shrink` that the automaton accepts each lasso trace of this circuit.",
+        "`shrink` made this circuit of a larger one; it is proved of `shrink` that the automaton accepts no lasso trace of this circuit.",
+    ),
+}
 # Two lists of sentences: the first is about a controller's circuit, and the second about an environment's circuit.
 SENTENCES = (
     ("The automaton accepts each lasso trace of this circuit ({accepted}), and each input that repeats goes on in such a trace ({goes_on}).", *GAME),

@@ -25,7 +25,7 @@ function show(message = "") {
   const choices = choicesOf(board, play);
   byId("standing").replaceChildren(...standing(choices, message).map(([text, kind]) => made("p", text, { class: kind })));
   byId("choices").replaceChildren(...choices.map(choiceItem));
-  for (const id of ["auto", "whole"]) byId(id).disabled = over || Boolean(board.letters);
+  for (const id of ["auto", "whole"]) byId(id).disabled = !choices.some((choice) => choice.isLongest);
   for (const id of ["back", "again"]) byId(id).disabled = !play.steps.length;
   byId("letter").hidden = over;
   byId("trace").tBodies[0].replaceChildren(...traceRows());

@@ -66,12 +66,15 @@ function vertexOf(board, play) {
 
 /** What can be chosen: { said, digits, after, broken }; the first of those that hold out longest has `isLongest`. */
 function choicesOf(board, play) {
-  if (board.letters) return isOver(play) ? [] : choicesTried(board, play);
-  const { longest, choices } = isOver(play) ? { choices: [] } : board.choices[vertexOf(board, play)];
+  if (isOver(play)) return [];
+  const vertex = vertexOf(board, play);
+  const known = board.choices[board.letters ? `${vertex}/${play.latches.join("")}` : vertex];
+  if (!known) return choicesTried(board, play);
+  const { longest, choices } = known;
   return choices.map(([said, digits, after, broken], place) => ({ said, digits, after, broken, isLongest: place === longest }));
 }
 
-/** What can be chosen against a circuit that was not printed with the game: where it leads is tried; none is known to hold out longest. */
+/** The same where nothing is known before the play, of a circuit that was not printed with the game: where a letter leads is tried. */
 function choicesTried(board, play) {
   const letters = board.amFirst ? board.letters[vertexOf(board, play)] : lettersApart(board, play);
   const tried = letters.map(([said, digits]) => {

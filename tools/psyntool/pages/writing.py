@@ -6,7 +6,7 @@ import html
 import json
 import re
 
-from psyntool import places, releases
+from psyntool import places, releases, remarks
 from psyntool.ends import Refused
 from psyntool.pages import contents, drawing
 from psyntool.pages.clauses import CLAUSES, OF_ANOTHER, SENTENCES
@@ -35,6 +35,7 @@ def page(title, board, texts):
         file=escaped(title),
         word=WORDS[board.winner],
         verdict=VERDICTS[board.winner],
+        words=words_of(board),
         order=order_of(board),
         me=board.me,
         other=board.other,
@@ -84,6 +85,12 @@ def order_of(board):
     return f"The environment says {escaped(environment)}; the controller says {escaped(controller)}. In each step the {first} moves first."
 
 
+def words_of(board):
+    """What an environment does, if it is small enough for words, as a paragraph."""
+    said = "\n".join(remarks.words_of(board.circuit)) if board.winner else ""
+    return said and f'<p class="words">{escaped(said[0].upper() + said[1:])}</p>'
+
+
 def specification_of(board):
     """The sentences of the specification's parts or, without parts, the automaton's acceptance."""
     of = board.specification
@@ -120,9 +127,10 @@ def proved_of(board):
     links = {name: f'<a href="#clause-{name}"><code>{name}</code></a>' for name in CLAUSES}
     release, printed = releases.here(), "this game and this circuit for this certificate"
     if not board.is_printed:
-        printed = "this game and this certificate for this automaton, and <code>wins</code> for this circuit"
+        answered = "<code>wins</code> for this circuit" if board.known_by == "verify" else "this circuit as the answer of <code>shrink</code>"
+        printed = f"this game and this certificate for this automaton, and {answered}"
     said = [
-        " ".join(sentences_of(board)).format(**links).replace("`verify`", "<code>verify</code>"),
+        re.sub(r"`(\w+)`", r"<code>\1</code>", " ".join(sentences_of(board)).format(**links)),
         f"This is proved with {escaped(release.kit)} of all that psyn prints. When this page was made, by psyn {escaped(release.version)}, the "
         f"program printed {printed}. The page itself is tested, and not proved.",
     ]
@@ -131,7 +139,7 @@ def proved_of(board):
 
 def sentences_of(board):
     first, *others = SENTENCES[board.winner]
-    return (first if board.is_printed else OF_ANOTHER[board.winner], *others)
+    return (first if board.is_printed else OF_ANOTHER[board.known_by][board.winner], *others)
 
 
 def clause_entry(name):

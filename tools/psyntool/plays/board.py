@@ -56,10 +56,12 @@ class Step:
 
 
 class Board:
-    """The data that stay the same during a play: the automaton, the game, the certificate and the circuit."""
+    """The data that stay the same during a play: the automaton, the game, the certificate and the circuit; and the
+    program's command by which the circuit is known to win. By `synth`, it was printed with the game and the
+    certificate."""
 
-    def __init__(self, read, game, certificate, circuit, specification=None, is_printed=True):
-        self.automaton, self.game, self.certificate, self.circuit, self.is_printed = read, game, certificate, circuit, is_printed
+    def __init__(self, read, game, certificate, circuit, specification=None, known_by="synth"):
+        self.automaton, self.game, self.certificate, self.circuit, self.known_by = read, game, certificate, circuit, known_by
         if set(certificate.entries) != set(game.by_identity):
             raise Unreadable(OTHER_GAME)
         begin = game.vertices[0]
@@ -69,13 +71,18 @@ class Board:
         self.mine, self.theirs = owned[self.winner], owned[1 - self.winner]
         self.am_first = begin.owner != self.winner
         if sorted(circuit.names("i")) != sorted(name for _, name in self.mine) or sorted(circuit.names("o")) != sorted(name for _, name in self.theirs):
-            raise Unreadable(OTHER_CIRCUIT if is_printed else OTHER_NAMES.format(PLAYERS[1 - self.winner]))
+            raise Unreadable(OTHER_CIRCUIT if self.is_printed else OTHER_NAMES.format(PLAYERS[1 - self.winner]))
         self.places = {(key.state, key.priority): identity for identity, key in self.names.keys.items() if key.letter is None}
         self.diagrams, self.known_sets, self.known_ends, self.known_choices_at = Diagrams(read.names), {}, {}, {}
         numbers = {name: number for number, name in enumerate(read.names)}
         self.specification = specification
         sides = (specification.assumptions, specification.guarantees) if specification else ((), ())
         self.assumed, self.guaranteed = ([Moves(part, numbers, self.diagrams) for part in parts] for parts in sides)
+
+    @property
+    def is_printed(self):
+        """Whether the circuit was printed with the game and the certificate."""
+        return self.known_by == "synth"
 
     @property
     def me(self):
@@ -117,12 +124,9 @@ class Board:
             yield Choice(one, letter, self.letter_text(letter), after.state, after.priority, self.counts(one))
 
     def answers(self, vertex, theirs, states):
-        between = self.certificate.entries[vertex].move
         state = self.names.keys[vertex].state
-        if self.names.keys[between].letter != theirs:
-            raise Unreadable(OTHER_CIRCUIT)
         ends, breaking = (self.diagrams.fixed(one, theirs, {}) for one in (self.ends(state), self.breaking(states)))
-        for one in self.game.by_identity[between].successors:
+        for one in self.behind(vertex, theirs, ends):
             after = self.names.keys[one]
             there = self.diagrams.mapped(ends, lambda it, after=after: it == (after.state, after.priority), {})
             parted = self.diagrams.joined(there, breaking, broken_there if after.state is None else one_there, {})
@@ -131,6 +135,16 @@ class Board:
                     found = self.diagrams.letter(parted, lambda value, broken=broken: value == broken)
                     letter = {number: found.get(number, False) for number, _ in self.mine}
                     yield Choice(one, letter, self.set_text(said, letter), after.state, after.priority, self.counts(one), broken)
+
+    def behind(self, vertex, theirs, ends):
+        """The vertices to which the user's letters lead behind a letter of the circuit; `ends` are the ends of these
+        letters. A circuit that was printed with the game says what the certificate says."""
+        between = self.certificate.entries[vertex].move
+        if between is not None and self.names.keys[between].letter == theirs:
+            return self.game.by_identity[between].successors
+        if self.is_printed:
+            raise Unreadable(OTHER_CIRCUIT)
+        return [self.places[end] for end in self.diagrams.values(ends)]
 
     def ends(self, state):
         """A decision diagram that gives, for each letter, the state and the priority to which the letter leads from the
@@ -242,13 +256,21 @@ class Circuit:
         numbers = {name: number for number, name in enumerate(board.automaton.names)}
         self.inputs, self.outputs = ([numbers[name] for name in board.circuit.names(kind)] for kind in "io")
 
+    def values(self, latches, letter):
+        """The values of the circuit's variables at given latches and at a letter of the user."""
+        bits = {latch.literal // 2: int(bit) for latch, bit in zip(self.made.latches, latches)}
+        bits.update((literal // 2, int(letter[number])) for literal, number in zip(self.made.inputs, self.inputs))
+        return self.made.known_values(bits)
+
     def answer(self, latches, letter):
         """The circuit's output letter at given latches and at a letter of the user."""
-        made = self.made
-        bits = {latch.literal // 2: int(bit) for latch, bit in zip(made.latches, latches)}
-        bits.update((literal // 2, int(letter[number])) for literal, number in zip(made.inputs, self.inputs))
-        values = made.known_values(bits)
-        return {number: bool(at(values, literal)) for number, literal in zip(self.outputs, made.outputs)}
+        values = self.values(latches, letter)
+        return {number: bool(at(values, literal)) for number, literal in zip(self.outputs, self.made.outputs)}
+
+    def behind(self, latches, letter):
+        """The latches after a step."""
+        values = self.values(latches, letter)
+        return "".join(str(at(values, latch.next)) for latch in self.made.latches)
 
     def digits(self, letter):
         """The user's letter as a line of a stimulus."""

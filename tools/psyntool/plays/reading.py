@@ -34,14 +34,14 @@ def given(request):
     return Given(text, tuple(printed), spec, board_of(text, *(it.string for it in printed), name=spec.name))
 
 
-def board_of(text, *printed, name="", is_printed=True):
+def board_of(text, *printed, name="", known_by="synth"):
     """The `Board` of an interactive play, made of the texts of an automaton, a circuit, a game and a certificate. The
-    automaton's name is put before the message of a specification that can't be parsed. The circuit was printed with the
-    game and the certificate, or is another one."""
+    automaton's name is put before the message of a specification that can't be parsed. The circuit is known to win by a
+    command of the program."""
     read = automaton.read(text)
     these = game.read(printed[1]), certificate.read(printed[2]), circuit.read(printed[0])
     try:
-        return Board(read, *these, specification.kept(read), is_printed)
+        return Board(read, *these, specification.kept(read), known_by)
     except specification.NotComposed as error:
         raise Unreadable(f"{name}: {error}") from None
 
