@@ -9,7 +9,7 @@ pub mod StepsOf
 pub mod RoleLemmas
 pub mod GroupLemmas
 pub mod TruthNodes
-pub mod WordLemmas
+pub mod WordNumbers
 pub mod VertexNumbers
 pub mod EdgeLemmas
 pub mod ExploringLemmas

@@ -12,7 +12,7 @@ use Rattle.ps_diagram.proofs.KnownLemmas.{keeps_trans}
 use Rattle.ps_circuit.specs.Values.{AreValues}
 use Rattle.ps_product.specs.Inner.Knowing.{IsReady, IsSite, IsTruthAt, Knows, Learns}
 use Rattle.ps_product.specs.Inner.Nets.{value_at}
-use Rattle.ps_product.specs.Truths.{IsTruth, IsVarying, bits_at, signed, truth_at}
+use Rattle.ps_product.specs.Truths.{IsTruth, IsVarying, bits_at, with_sign, truth_at}
 use Rattle.ps_product.specs.declared.site.Site.{Site}
 use Rattle.ps_product.specs.declared.truth.Truth.{Truth}
 use Rattle.ps_product.specs.declared.truth.Truth.TheVariants.{Never, Always, Sometimes}
@@ -38,7 +38,7 @@ pub truth_same : {t u : Table} → Keeps t u → (truth : Truth) → IsTruth t t
     truth_at u truth letter ≡ truth_at t truth letter
 truth_same k Never h letter = refl
 truth_same k Always h letter = refl
-truth_same k (Sometimes n node) h letter = ap (λ o. signed n (is_some o)) (leaf_kept letter k h.held)
+truth_same k (Sometimes n node) h letter = ap (λ o. with_sign n (is_some o)) (leaf_kept letter k h.held)
 
 pub some_where : (b : Bool) → is_some (one_where b) ≡ b
 some_where true = refl
@@ -48,7 +48,7 @@ pub chosen_leaf : (x y z : Option ℕ) → IsOneOrNone y → IsOneOrNone z → I
 chosen_leaf None y z hy hz = hz
 chosen_leaf (Some k) y z hy hz = hy
 
-pub signed_same : (n a b : Bool) → signed n a ≡ signed n b → a ≡ b
+pub signed_same : (n a b : Bool) → with_sign n a ≡ with_sign n b → a ≡ b
 signed_same true true true e = refl
 signed_same true false false e = refl
 signed_same true true false e = absurd (cc)
@@ -58,8 +58,8 @@ signed_same false a b e = e
 -- the conjunction of the bits of x and y, y with a sign: at a letter where x has no leaf, a diagram with the leaf of
 -- `one_where n` there, and with the sign n, is false
 pub both_chosen : (x y : Option ℕ) (m n : Bool) →
-    signed n (is_some (chosen x (if m then one_where n else y) (if m then y else one_where n))) ≡
-    (signed m (is_some x) && signed n (is_some y))
+    with_sign n (is_some (chosen x (if m then one_where n else y) (if m then y else one_where n))) ≡
+    (with_sign m (is_some x) && with_sign n (is_some y))
 both_chosen None y true n = refl
 both_chosen None y false true = refl
 both_chosen None y false false = refl

@@ -1,6 +1,6 @@
 -- Boolean functions of letters (truths), stored as decision diagrams.
 -- - `truth_at t truth letter`: the value of the function `truth` at the letter
--- - `signed is_negated b`: the bit b, negated if the flag is set
+-- - `with_sign is_negated b`: the bit b, negated if the flag is set
 -- - `IsTruth t truth`: `truth` is `Never`, `Always`, or has a node that is true at some but not all letters
 -- - `bits_at propositions letter`: the bits of these propositions at a letter
 -- - `MakesTruth old new result bit`: a call that changed the table from `old` to `new` kept all nodes, and returned the
@@ -19,13 +19,13 @@ use Rattle.ps_product.specs.declared.truth.Truth.{Truth}
 use Rattle.ps_product.specs.declared.truth.Truth.TheVariants.{Never, Always, Sometimes}
 use Rattle.ps_simulate.specs.declared.plan.Wire.{Wire}
 
-abbrev pub signed : Bool → Bool → Bool
-signed is_negated b = if is_negated then not b else b
+abbrev pub with_sign : Bool → Bool → Bool
+with_sign is_negated b = if is_negated then not b else b
 
 abbrev pub truth_at : Table → Truth → ℕ → Bool
 truth_at t Never letter = false
 truth_at t Always letter = true
-truth_at t (Sometimes is_negated node) letter = signed is_negated (is_some (leaf_of t node letter))
+truth_at t (Sometimes is_negated node) letter = with_sign is_negated (is_some (leaf_of t node letter))
 
 -- the diagram of a function that is not constant: each leaf is 1; some letter has a leaf, and some letter has none
 pub record IsVarying (t : Table) (node : ℕ) : Type 0 where
@@ -40,7 +40,7 @@ IsTruth t (Sometimes is_negated node) = IsVarying t node
 
 -- the bit of a literal, given the bit of its variable
 abbrev pub bit_by_wire : Wire → Bool → Bool
-bit_by_wire w b = signed w.is_negated b
+bit_by_wire w b = with_sign w.is_negated b
 
 -- The result of a call is the Boolean function `bit`, or the call has failed. All earlier nodes of the table remain,
 -- also if memory runs out.

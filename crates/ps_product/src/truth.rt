@@ -4,7 +4,7 @@ ghost use Rattle.std.specs.Prelude.{◌≡◌, ℕ, ◌^◌, ◌<◌, ◌≤◌,
 ghost use Rattle.ps_label.specs.Truth.{is_in};
 ghost use Rattle.ps_diagram.specs.Labels.{IsOneOrNone};
 ghost use Rattle.ps_diagram.specs.Table.{IsNode, Table, leaf_of};
-ghost use Rattle.ps_product.specs.Truths.{IsTruth, IsVarying, MakesTruth, bit_by_wire, signed, truth_at};
+ghost use Rattle.ps_product.specs.Truths.{IsTruth, IsVarying, MakesTruth, bit_by_wire, with_sign, truth_at};
 
 use ps_diagram::{Node, Store};
 use ps_simulate::Wire;
@@ -144,8 +144,8 @@ impl Truths {
         requires one { IsVarying self.old one }
         requires other { IsVarying self.old other }
         ensures { MakesTruth self.old self.new result
-            (λ letter. signed one_negated (is_some (leaf_of self.old one letter)) &&
-            signed other_negated (is_some (leaf_of self.old other letter))) }
+            (λ letter. with_sign one_negated (is_some (leaf_of self.old one letter)) &&
+            with_sign other_negated (is_some (leaf_of self.old other letter))) }
     {
         // where `one` is false, so is the conjunction, and `rest` has the leaf of a function whose diagram is negated
         // as `other` is
@@ -166,7 +166,7 @@ impl Truths {
         requires leaves { (letter : ℕ) → IsOneOrNone (leaf_of self.now node letter) }
         ensures is_truth { IsTruth self.now result }
         ensures truth { (letter : ℕ) → letter < 2 ^ self.now.propositions →
-            truth_at self.now result letter ≡ signed is_negated (is_some (leaf_of self.now node letter)) }
+            truth_at self.now result letter ≡ with_sign is_negated (is_some (leaf_of self.now node letter)) }
     {
         if self.store.same(node, self.none) {
             return Truth::constant(is_negated);

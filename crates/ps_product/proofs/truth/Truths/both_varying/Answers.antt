@@ -3,7 +3,7 @@ use Rattle.std.specs.Prelude.{if◌then◌else◌, is_some}
 use Rattle.ps_diagram.specs.Labels.{one_where}
 use Rattle.ps_diagram.specs.Leaves.{chosen}
 use Rattle.ps_diagram.specs.Table.{leaf_of}
-use Rattle.ps_product.specs.Truths.{IsVarying, signed}
+use Rattle.ps_product.specs.Truths.{IsVarying, with_sign}
 use Rattle.ps_product.proofs.TruthLemmas.{both_chosen, chosen_one}
 use Rattle.ps_product.proofs.truth.Truths.both_varying.Goals as goal
 use Rattle.ps_product.proofs.truth.Truths.both_varying.Goals.{In_ok-node, then-other_negated, else-other_negated}
@@ -40,7 +40,8 @@ returns c = rw (← c.self.view_is) (record {
   truth = λ letter lt.
       let low : letter < 2 ^ c.choose.new.self.propositions = rw (← c.choose.ensures.keeps.propositions) at lt in
       c.truth_of.ensures.truth letter low
-      ∙ ap (λ (o : Option ℕ). signed c.args.other_negated (is_some o)) (node_leaf (goal.at.returns c).In_ok-node letter)
+      ∙ ap (λ (o : Option ℕ). with_sign c.args.other_negated (is_some o))
+      (node_leaf (goal.at.returns c).In_ok-node letter)
       ∙ both_chosen (leaf_of c.self.inside.store c.args.one letter) (leaf_of c.self.inside.store c.args.other letter)
       c.args.one_negated c.args.other_negated;
 })
