@@ -6,7 +6,7 @@
 Times are processor times of whole processes, the least of N (3) runs. There are three parts:
     texts     specifications of 16 MiB, each beside `check` of a game of 16 MiB (with a certificate that `solve` made)
     growth    one formula with twice as many nodes, and a lasso with twice as many letters, beside the one before it
-    nested    250 nested `<->` in parentheses, beside 500 nodes without parentheses, on a lasso of 100,000 letters
+    nested    250 nested `<->` in parentheses, beside 500 nodes of `X` and `!`, on a lasso of 100,000 letters
 A line has the seconds of both processes and their ratio, and the first line of the first process's answer. An answer
 that is a fault ends the script.
 """
@@ -135,7 +135,7 @@ def measure(bench):
         bench.beside(f"2,000 nodes, {2 * count} letters", one, other)
     word = letters(100_000, len(names))
     chain = "(" * 250 + "p0" + "".join(f" <-> p{(number * 5 + 1) % 8})" for number in range(250))
-    flat = " && ".join(names[number * 5 % 8] for number in range(493))
+    flat = " && ".join("X ! " * 125 + name for name in names[:2])
     bench.beside("250 nested <->, 500 nodes", formula_input(chain, names, word), formula_input(flat, names, word))
 
 
