@@ -76,7 +76,8 @@ edge_kept {old} {new} {e} grows is = record {
 guard_kept : {old new : Board} {e : Edge} → Grows old new → IsEdgeOf old e →
     (cover_of new e).guard ≡ (cover_of old e).guard
 guard_kept {old} {new} {e} grows is =
-    ap {B = ℕ → Bool} (λ (t : Tree) (letter : ℕ). is_some (leaf_at t (assignment letter))) (grows.guards.same e.guard is.guard)
+    ap {B = ℕ → Bool} (λ (t : Tree) (letter : ℕ). is_some (leaf_at t (assignment letter)))
+    (grows.guards.same e.guard is.guard)
 
 abbrev made_of : (ℕ → Bool) → List NormalFormula → List NormalFormula → Cover
 made_of guard next postponed = record { guard = guard; next = next; postponed = postponed }

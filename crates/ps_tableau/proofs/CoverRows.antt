@@ -19,7 +19,8 @@ use Rattle.ps_tableau.specs.declared.edge.Edge.{Edge}
 
 -- ## Guards
 
-pub kept_leaf : (s t : Table) (node letter : ℕ) → Keeps s t → IsNode s node → leaf_of t node letter ≡ leaf_of s node letter
+pub kept_leaf : (s t : Table) (node letter : ℕ) → Keeps s t → IsNode s node →
+    leaf_of t node letter ≡ leaf_of s node letter
 kept_leaf s t node letter keeps held = ap (λ (u : Tree). leaf_at u (assignment letter)) (keeps.same node held)
 
 pub guard_both : (s t u : Table) (a b none guard : ℕ) → Keeps s t → IsNode s a → IsNode s b →
@@ -82,11 +83,13 @@ row_more {old} {mid} {new} {edge} {other} {others} {joins} {more} {most} here th
       products =
           subst (λ (cs : List Cover). AreProducts (cover_of old edge ∷ []) cs (covers_of new rows))
           (sym (map-append (cover_of old) others (other ∷ [])))
-          (subst (λ (cs : List Cover). AreProducts (cover_of old edge ∷ []) (covers_of old others ++ cover_of old other ∷ []) cs)
+          (subst (λ (cs : List Cover). AreProducts
+          (cover_of old edge ∷ []) (covers_of old others ++ cover_of old other ∷ []) cs)
           (sym (map-append (cover_of new) row.row last.row)) both);
     }
 
-pub rows_more : {old mid new : Board} {edge : Edge} (first : List Edge) {second joins more : List Edge} → IsEdgeOf old edge →
+pub rows_more : {old mid new : Board} {edge : Edge} (first : List Edge) {second joins more : List Edge} →
+    IsEdgeOf old edge →
     All (IsEdgeOf old) second → Grows old mid → Grows mid new →
     MakesEdges mid (AreProducts (covers_of old first) (covers_of old second)) joins →
     AddsRow mid new edge second joins more →
@@ -109,7 +112,8 @@ rows_more {old} {mid} {new} {edge} first {second} {joins} {more} here all before
           (All-append (IsEdgeOf new) joins row.row (edges_kept after joins made.held) row.held);
       right = subst (λ (cs : List Cover). AreProducts (covers_of old (first ++ edge ∷ [])) (covers_of old second) cs)
           (sym whole)
-          (subst (λ (cs : List Cover). AreProducts cs (covers_of old second) (covers_of new joins ++ covers_of new row.row))
+          (subst (λ (cs : List Cover). AreProducts cs (covers_of old second)
+          (covers_of new joins ++ covers_of new row.row))
           (sym (map-append (cover_of old) first (edge ∷ []))) both);
     }
 

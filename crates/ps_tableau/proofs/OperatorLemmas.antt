@@ -46,5 +46,6 @@ module _ {f g : NormalFormula} {xs ys : List Cover} (first : AreCoversOf (f ∷ 
 pub covers_of_all : {some others : List NormalFormula} {xs ys zs : List Cover} → AreCoversOf some xs →
     AreCoversOf others ys → AreJoined xs ys zs → AreCoversOf (some ++ others) zs
 covers_of_all {some} {others} {xs} {ys} {zs} first second joined =
-    pruned_covers (some ++ others) joined.products zs (of_more some others xs ys joined.products first second joined.each)
+    pruned_covers (some ++ others) joined.products zs
+    (of_more some others xs ys joined.products first second joined.each)
     joined.pruned

@@ -64,9 +64,11 @@ settle_more first kept {added} start {edge} {left} other before now =
       | inl l ↦ Contains-append_left (first ++ other ∷ []) (start ∷ []) c (Contains-append_left first (other ∷ []) c l)
       | inr r ↦ Contains-append_right (first ++ other ∷ []) (start ∷ []) c r
     ] in
-    let other_in : Contains olds other = Contains-append_left (first ++ other ∷ []) (start ∷ []) other (in_end first other)
+    let other_in : Contains olds other =
+    Contains-append_left (first ++ other ∷ []) (start ∷ []) other (in_end first other)
     in
-    let new_in : (c : Cover) → Contains (left ∷ added) c → Contains news c = λ c there. elim (in_more left added c there) [
+    let new_in : (c : Cover) → Contains (left ∷ added) c → Contains news c =
+    λ c there. elim (in_more left added c there) [
       | inl is ↦ subst (λ (d : Cover). Contains news d) is (in_end (kept ++ added) left)
       | inr more ↦ Contains-append_left (kept ++ added) (left ∷ []) c (Contains-append_right kept added c more)
     ] in
@@ -122,7 +124,8 @@ settle_more first kept {added} start {edge} {left} other before now =
     }
 
 -- the cover that is left is added at the end
-pub pruned_last : {xs : List Cover} (ys : List Cover) {zs : List Cover} (c : Cover) → ArePruned xs (ys ++ c ∷ []) → ArePruned (c ∷ []) zs →
+pub pruned_last : {xs : List Cover} (ys : List Cover) {zs : List Cover} (c : Cover) → ArePruned xs (ys ++ c ∷ []) →
+    ArePruned (c ∷ []) zs →
     ArePruned xs (ys ++ zs)
 pruned_last {xs} ys {zs} c first second = record {
   sound = λ d letter there serves. elim (Contains-append_cases ys zs d there) [
@@ -160,8 +163,11 @@ pub pruned_two : (a b c : Cover) → AsksLess b a → AsksLess c a → AsksLess 
 pruned_two a b c less same back inside outside = record {
   sound = λ d letter there serves. elim (in_more c (b ∷ []) d there) [
     | inl is ↦
-        let on = subst (λ (e : Cover). IsTrue (e.guard letter)) (sym is) serves in
-        (a, first_in a (b ∷ []), subst (λ (e : Cover). IsBetter a e letter) is (better_by letter back (inside letter on)))
+        let on = subst (λ (e : Cover). IsTrue (e.guard letter)) (sym is) serves in (
+          a,
+          first_in a (b ∷ []),
+          subst (λ (e : Cover). IsBetter a e letter) is (better_by letter back (inside letter on)),
+        )
     | inr is ↦ (d, later_in a (b ∷ []) d is, better_refl d letter serves)
   ];
   complete = λ d letter there serves. elim (in_more a (b ∷ []) d there) [

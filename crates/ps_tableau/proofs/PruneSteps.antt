@@ -13,23 +13,29 @@ use Rattle.ps_tableau.specs.Operators.{ArePruned}
 use Rattle.ps_tableau.specs.declared.board.Board.{Board}
 use Rattle.ps_tableau.specs.declared.edge.Edge.{Edge}
 
-pub covers_more : {old new : Board} (kept added : List Edge) {more : List Edge} → Grows old new → All (IsEdgeOf old) kept →
+pub covers_more : {old new : Board} (kept added : List Edge) {more : List Edge} → Grows old new →
+    All (IsEdgeOf old) kept →
     more ≡ kept ++ added → covers_of new more ≡ covers_of old kept ++ covers_of new added
 covers_more {old} {new} kept added {more} grows held is =
     ap (covers_of new) is ∙ map-append (cover_of new) kept added
     ∙ ap (λ (cs : List Cover). cs ++ covers_of new added) (covers_kept grows kept held)
 
-pub settled_more : {old mid new : Board} (start : Edge) {left rest other : Edge} (edges : List Edge) {kept more : List Edge} →
+pub settled_more : {old mid new : Board} (start : Edge) {left rest other : Edge}
+    (edges : List Edge) {kept more : List Edge} →
     Grows old mid → Grows mid new → All (IsEdgeOf mid) kept → IsEdgeOf old other →
     ArePruned (covers_of old edges ++ cover_of old start ∷ []) (covers_of mid kept ++ cover_of mid left ∷ []) →
     Settles mid new left other kept more rest →
-    ArePruned (covers_of old (edges ++ other ∷ []) ++ cover_of old start ∷ []) (covers_of new more ++ cover_of new rest ∷ [])
+    ArePruned
+    (covers_of old (edges ++ other ∷ []) ++ cover_of old start ∷ []) (covers_of new more ++ cover_of new rest ∷ [])
 settled_more {old} {mid} {new} start {left} {rest} {other} edges {kept} {more} before after held here pruned settles =
-    let now : ArePruned (cover_of mid left ∷ cover_of old other ∷ []) (cover_of new rest ∷ covers_of new settles.added) =
+    let now : ArePruned (cover_of mid left ∷ cover_of old other ∷ []) (cover_of new rest ∷ covers_of new settles.added)
+    =
     subst (λ (c : Cover). ArePruned (cover_of mid left ∷ c ∷ []) (cover_of new rest ∷ covers_of new settles.added))
     (cover_kept before here) settles.pruned in
-    let all = settle_more (covers_of old edges) (covers_of mid kept) (cover_of old start) (cover_of old other) pruned now in
-    subst (λ (cs : List Cover). ArePruned (cs ++ cover_of old start ∷ []) (covers_of new more ++ cover_of new rest ∷ []))
+    let all =
+    settle_more (covers_of old edges) (covers_of mid kept) (cover_of old start) (cover_of old other) pruned now in
+    subst
+    (λ (cs : List Cover). ArePruned (cs ++ cover_of old start ∷ []) (covers_of new more ++ cover_of new rest ∷ []))
     (sym (map-append (cover_of old) edges (other ∷ [])))
     (subst (λ (cs : List Cover). ArePruned ((covers_of old edges ++ cover_of old other ∷ []) ++ cover_of old start ∷ [])
     (cs ++ cover_of new rest ∷ [])) (sym (covers_more kept settles.added after held settles.is)) all)

@@ -1,5 +1,6 @@
 -- What the formulas of a set bring back.
-use Rattle.std.proofs.Common.{◌≡◌, ◌∙◌, inl, inr, ℕ, ◌+◌, ◌<◌, List, [], ◌∷◌, ◌++◌, ap, arith, drop, get_or, length, Some}
+use Rattle.std.proofs.Common.{◌≡◌, ◌∙◌, inl, inr, ℕ, ◌+◌, ◌<◌, List, [], ◌∷◌, ◌++◌, ap, arith, drop, get_or, length}
+use Rattle.std.proofs.Common.{Some}
 use Rattle.std.proofs.Common.{length-drop, subst, sym, take}
 use Rattle.std.proofs.lemmas.List.Elements.{All-contains, All-contains_itself, All-drop, All-take}
 use Rattle.std.proofs.lemmas.List.Elements.{Contains-append_cases, Contains-append_left, Contains-append_right}
@@ -43,7 +44,8 @@ step_up b P k f g board at brings = subst (λ (h : NormalFormula). Brings P h)
 
 -- ## Lists of formulas
 
-pub from_one : (b : Board) (known : List ℕ) (k : ℕ) (f : NormalFormula) → Contains known k → Brings (IsFormulaAt b k) f →
+pub from_one : (b : Board) (known : List ℕ) (k : ℕ) (f : NormalFormula) → Contains known k →
+    Brings (IsFormulaAt b k) f →
     Brings (IsOneOf b known) f
 from_one b known k f there brings =
     brought_more (IsFormulaAt b k) (IsOneOf b known) (λ g is. of_known (k, there, is)) brings

@@ -1,6 +1,8 @@
 -- Sets as numbers: a set's formulas are those of its pair, and stay if the table of sets grows.
-use Rattle.std.proofs.Common.{◌≡◌, ◌⊎◌, ℕ, zero, suc, ◌+◌, ◌-◌, ◌<◌, ◌≤◌, Bool, true, false, eqb, List, [], ◌∷◌, ◌++◌, Some, ap, arith}
-use Rattle.std.proofs.Common.{◌↔◌, drop, drop-cons, get_or, inl, inr, length, max, length-append, length-drop, refl, subst, sym, ◌∙◌}
+use Rattle.std.proofs.Common.{◌≡◌, ◌⊎◌, ℕ, zero, suc, ◌+◌, ◌-◌, ◌<◌, ◌≤◌, Bool, true, false, eqb, List, [], ◌∷◌, ◌++◌}
+use Rattle.std.proofs.Common.{Some, ap, arith}
+use Rattle.std.proofs.Common.{◌↔◌, drop, drop-cons, get_or, inl, inr, length, max, length-append, length-drop, refl}
+use Rattle.std.proofs.Common.{subst, sym, ◌∙◌}
 use Rattle.std.proofs.Math.Numerals.{add-one}
 use Rattle.std.proofs.lemmas.List.{get_or_append_left}
 use Rattle.std.proofs.lemmas.Option.{slice_get-get_or, slice_get_within}
@@ -18,7 +20,8 @@ use Rattle.ps_tableau.specs.Sets.{AreSets, KeepsSets, IsSet, indices_in, set_at,
 abbrev IsOver : ℕ → ℕ × ℕ → Type 0
 IsOver k pair = pair.1 ≤ k
 
-set_at-front : (known more : List (List ℕ)) (set : ℕ) → set ≤ length known → set_at (known ++ more) set ≡ set_at known set
+set_at-front : (known more : List (List ℕ)) (set : ℕ) → set ≤ length known →
+    set_at (known ++ more) set ≡ set_at known set
 set_at-front known more zero within = refl
 set_at-front known more (suc k) within = get_or_append_left known more [] k (omega arith)
 
@@ -119,7 +122,8 @@ module _ {pairs : List (ℕ × ℕ)} where
   parts_cases {set} {parts} h k = (
     λ there. in_more parts.greatest (indices_in pairs parts.others) k (subst (λ (s : List ℕ). Contains s k) h.is there),
     λ cases. subst (λ (s : List ℕ). Contains s k) (sym h.is) (elim cases [
-      | inl here ↦ subst (λ j. Contains (parts.greatest ∷ indices_in pairs parts.others) j) here (first_in parts.greatest (indices_in pairs parts.others))
+      | inl here ↦ subst (λ j. Contains (parts.greatest ∷ indices_in pairs parts.others) j) here
+          (first_in parts.greatest (indices_in pairs parts.others))
       | inr rest ↦ later_in parts.greatest (indices_in pairs parts.others) k rest
     ]),
   )
@@ -248,7 +252,8 @@ pub merged_rest : (pairs : List (ℕ × ℕ)) {A B T : Type 0} (first second res
     ((A ⊎ B) ↔ (T ⊎ (Contains (indices_in pairs first) k ⊎ Contains (indices_in pairs second) k))) →
     (A ⊎ B) ↔ (T ⊎ Contains (indices_in pairs rest) k)
 merged_rest pairs first second rest none cases k both =
-    let is : (Contains (indices_in pairs first) k ⊎ Contains (indices_in pairs second) k) ↔ Contains (indices_in pairs rest) k =
+    let is : (Contains (indices_in pairs first) k ⊎ Contains (indices_in pairs second) k) ↔ Contains
+    (indices_in pairs rest) k =
     elim cases [
       | inl empty ↦ rw (empty.0, empty.1) (λ there. elim there [ inl l ↦ in_none k l | inr r ↦ r ], λ there. inr there)
       | inr some ↦ elim none [

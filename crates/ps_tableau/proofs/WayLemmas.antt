@@ -1,5 +1,6 @@
 -- Boards with the covers of their formulas, as they grow; and formulas whose trees are equal.
-use Rattle.std.proofs.Common.{◌≡◌, ◌∙◌, ℕ, zero, suc, ◌<◌, ◌≤◌, ◌↔◌, inl, inr, Bool, List, [], ◌∷◌, ◌++◌, Some, true, ap, arith}
+use Rattle.std.proofs.Common.{◌≡◌, ◌∙◌, ℕ, zero, suc, ◌<◌, ◌≤◌, ◌↔◌, inl, inr, Bool, List, [], ◌∷◌, ◌++◌, Some, true}
+use Rattle.std.proofs.Common.{ap, arith}
 use Rattle.std.proofs.Common.{get_or, length, subst, sym, Vec}
 use Rattle.std.proofs.lemmas.Option.{slice_get-get_or}
 use Rattle.std.proofs.lemmas.Bool.{false≢true}
@@ -42,7 +43,8 @@ pub ways_kept : {old new : Board} {ways : List (Vec Edge Global)} → Grows old 
 ways_kept {old} {new} {ways} grows have = record {
   each = λ k covers at need.
       let was : IsNeeded old.needed.items k = rw (← grows.needed) need in
-      let made = makes_kept {P = AreCoversOf (normal_formula_at old.formulas k ∷ [])} grows (have.each k covers at was) in
+      let made =
+      makes_kept {P = AreCoversOf (normal_formula_at old.formulas k ∷ [])} grows (have.each k covers at was) in
       subst (λ (nodes : List NormalNode). HasCovers new (normal_formula_at nodes k ∷ []) covers.items)
       (sym grows.formulas) made;
 }
@@ -138,7 +140,8 @@ distinct_below nodes table (suc n) few j k low within e =
     λ i l less inside same. distinct_below nodes table n (omega arith) i l (omega arith) inside same in
     let same = same_nodes nodes j below x y (table.earlier j x at_j)
     (over_more y k (length nodes) (omega arith) (table.earlier k y at_k))
-    (sym (normal_formula_at-node nodes j x table.earlier at_j) ∙ e ∙ normal_formula_at-node nodes k y table.earlier at_k) in
+    (sym (normal_formula_at-node nodes j x table.earlier at_j) ∙ e
+    ∙ normal_formula_at-node nodes k y table.earlier at_k) in
     table.once j k x at_j (at_k ∙ ap Some (sym same))
 
 pub one_index : (nodes : List NormalNode) → IsNormalTable nodes → (j k : ℕ) → j < length nodes → k < length nodes →
@@ -150,7 +153,8 @@ pub formula_in : (b : Board) → IsBoard b → (set until : ℕ) → IsSetOf (Co
     Contains b.untils.items until → Contains (formulas_in b set) (normal_formula_at b.formulas until) →
     Contains (indices_in b.sets set) until
 formula_in b board set until all here there =
-    let x = from_map (normal_formula_at b.formulas) (indices_in b.sets set) (normal_formula_at b.formulas until) there in
+    let x =
+    from_map (normal_formula_at b.formulas) (indices_in b.sets set) (normal_formula_at b.formulas until) there in
     let same = one_index b.formulas board.table x.0 until (board.untils.within x.0 (all.each x.0 x.1))
     (board.untils.within until here) x.2 in
     subst (λ k. Contains (indices_in b.sets set) k) same x.1

@@ -1,5 +1,5 @@
--- Sets of formulas as numbers. A table of sets is a list of pairs. The set 0 is empty; the set k + 1 has the formula whose
--- index is the first part of the pair at k, and the formulas of the set that is the pair's second part.
+-- Sets of formulas as numbers. A table of sets is a list of pairs. The set 0 is empty; the set k + 1 has the formula
+-- whose index is the first part of the pair at k, and the formulas of the set that is the pair's second part.
 use Rattle.std.specs.Prelude.{◌≡◌, ℕ, zero, suc, ◌≤◌, List, [], ◌∷◌, length, slice_get, slice_index_or, Some}
 use Rattle.ps_formula.specs.Formulas.{trees_behind}
 

@@ -1,11 +1,10 @@
 //! The covers of formulas by sets and diagrams, and how covers are made from others.
 
-ghost use Rattle.std.specs.Prelude.{◌≡◌, ◌<◌, ℕ, Bool, Contains, IfOk, List, true};
+ghost use Rattle.std.specs.Prelude.{◌<◌, Contains, IfOk, true};
 ghost use Rattle.ps_formula.specs.NormalForms.{normal_formula_at};
 ghost use Rattle.ps_tableau.specs.Boards.{Grows, IsBoard, IsSetOf, IsState, formulas_in};
 ghost use Rattle.ps_tableau.specs.Inner.Joins.{MakesEdge};
 ghost use Rattle.ps_tableau.specs.Needs.{IsNeeded};
-ghost use Rattle.ps_tableau.specs.Covers.{Cover};
 ghost use Rattle.ps_tableau.specs.Operators.{free_cover, literal_cover, next_cover, postponing_cover};
 
 use crate::edge::Edge;

@@ -2,7 +2,7 @@
 
 ghost use Rattle.std.specs.Prelude.{◌≡◌, ◌++◌, ◌∷◌, [], All, IfOk, OnOk};
 ghost use Rattle.ps_diagram.specs.Table.{IsNode};
-ghost use Rattle.ps_tableau.specs.Boards.{Grows, IsBoard, IsEdgeOf, MakesEdges, cover_of, covers_of};
+ghost use Rattle.ps_tableau.specs.Boards.{Grows, IsBoard, IsEdgeOf, MakesEdges, covers_of};
 ghost use Rattle.ps_tableau.specs.Inner.Joins.{AddsRow, AreJoined, AsksForBoth};
 ghost use Rattle.ps_tableau.specs.Operators.{AreProducts, ArePruned};
 

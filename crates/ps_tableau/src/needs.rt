@@ -8,8 +8,8 @@ ghost use Rattle.ps_tableau.specs.Needs.{AreUntils, IsNeeded, NeedsAll, NeedsOpe
 use ps_formula::NormalNode;
 use std::alloc::{AllocError, Global};
 
-/// Whether each formula of a table is needed: the formula with the given index is, and so are the operands of each formula
-/// that is needed. Fails if out of memory.
+/// Whether each formula of a table is needed: the formula with the given index is, and so are the operands of each
+/// formula that is needed. Fails if out of memory.
 pub(crate) fn needs_of(
     alloc: Global,
     nodes: &[NormalNode],

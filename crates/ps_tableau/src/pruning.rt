@@ -25,8 +25,7 @@ impl Board {
         Ok(kept)
     }
 
-    /// The covers of a list and one more, of which each loses the letters for which the other asks for no more. Fails if
-    /// out of memory.
+    /// The covers of a list and one more, without the letters for which others ask for no more. Fails if out of memory.
     pub(crate) fn with_edge(&mut self, edges: &[Edge], edge: &Edge) -> Result<Vec<Edge>, AllocError>
         requires board { IsBoard self.old }
         requires edges { All (IsEdgeOf self.old) edges.now }
@@ -44,7 +43,7 @@ impl Board {
         Ok(kept)
     }
 
-    /// What is left of a cover beside another; what is left of the other one is added to a list. Fails if out of memory.
+    /// What is left of a cover beside another; what is left of the other is added to a list. Fails if out of memory.
     fn settle(&mut self, edge: Edge, other: Edge, kept: &mut Vec<Edge>) -> Result<Edge, AllocError>
         requires board { IsBoard self.old }
         requires edge { IsEdgeOf self.old edge }

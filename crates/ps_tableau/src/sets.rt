@@ -11,8 +11,8 @@ use std::alloc::{AllocError, Global};
 use std::marker::Model;
 
 /// A table of sets of formulas, which are numbered from 0. A formula is given by its index in a table of formulas. The
-/// set 0 is empty; the set k + 1 is given by the pair with the index k, which has the greatest index of a formula of the
-/// set, and the set of its other formulas. So equal sets are one number.
+/// set 0 is empty; the set k + 1 is given by the pair with the index k, which has the greatest index of a formula of
+/// the set, and the set of its other formulas. So equal sets have one number.
 #[derive(Debug, Drop)]
 pub(crate) struct Sets {
     pairs: KeyList<(u32, Set)>,

@@ -1,9 +1,9 @@
 //! The tableau of a formula.
 
-ghost use Rattle.std.specs.Prelude.{◌≡◌, ◌↔◌, ◌<◌, Bool, Contains, IfOk, IsTrue, cond, length};
+ghost use Rattle.std.specs.Prelude.{◌≡◌, ◌↔◌, ◌<◌, Contains, IfOk, IsTrue, cond, length};
 ghost use Rattle.ps_formula.specs.Formulas.{formula_at, not_of};
 ghost use Rattle.ps_formula.specs.NormalForms.{normal_formula_at};
-ghost use Rattle.ps_tableau.specs.Boards.{AreEdgesOf, Grows, HaveWays, IsBoard, IsEdgeOf, IsSetOf, IsState};
+ghost use Rattle.ps_tableau.specs.Boards.{AreEdgesOf, Grows, IsBoard, IsEdgeOf, IsState};
 ghost use Rattle.ps_tableau.specs.Boards.{IsTableauOf, formulas_in};
 
 use crate::board::Board;

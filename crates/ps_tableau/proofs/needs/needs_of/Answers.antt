@@ -31,7 +31,8 @@ loop-index-preserved-then-index c =
             let is : slice_index_or nodes k (Constant false) ≡ node =
             subst (λ i. slice_index_or nodes i (Constant false) ≡ node) (sym same)
             (get_or_from_slice_get nodes j node (Constant false) there) in
-            subst (λ (n : NormalNode). NeedsOperands c.need_operands.new.needed.items n) is c.need_operands.ensures.operands
+            subst (λ (n : NormalNode). NeedsOperands c.need_operands.new.needed.items n) is
+            c.need_operands.ensures.operands
         | inr later ↦
             let was : IsNeeded c.loop-index.needed.items j = rw (← keeps.same j low) need in
             needs_more node _ _ keeps.kept (c.loop-index.invariant.operands j node (omega arith) there was)

@@ -28,7 +28,8 @@ returns-then-eq-clause-join c =
           (sym (guard_both s t u a b none guard c.none.ensures.keeps c.requires.a.guard c.requires.b.guard
           c.in_ok-none.ensures.leaf c.in_ok-guard.ensures.leaf letter)
           ∙ subst (λ n. leaf_of u n letter ≡ None) (sym same)
-          (kept_leaf t u none letter c.choose.ensures.keeps c.in_ok-none.ensures.held ∙ c.in_ok-none.ensures.leaf letter))
+          (kept_leaf t u none letter c.choose.ensures.keeps c.in_ok-none.ensures.held
+          ∙ c.in_ok-none.ensures.leaf letter))
           first second);
     }
 

@@ -22,7 +22,8 @@ loop-index-preserved c =
     c.in_ok-covers.ensures.ways in
     record {
       grows = grows_trans c.loop-index.invariant.grows c.next_ways.ensures.grows;
-      ways = rw c.in_ok-push.ensures.items (ways_more covers c.next_ways.ensures.grows c.loop-index.invariant.ways last);
+      ways =
+          rw c.in_ok-push.ensures.items (ways_more covers c.next_ways.ensures.grows c.loop-index.invariant.ways last);
       count = ap length c.in_ok-push.ensures.items ∙ length-append c.loop-index.ways.items (covers ∷ [])
           ∙ ap (λ n. n + 1) count;
     }

@@ -46,7 +46,8 @@ loop-parts-preserved c =
       grows = grows_trans v.grows c.joined_with.ensures.grows;
       rest = (others_of {P = IsNeeded b.needed.items} {b = b} parts v.rest).1;
       done = v.done ++ f ∷ [];
-      covers = subst (λ (h : NormalFormula). HasCovers c.joined_with.new.self (v.done ++ h ∷ []) c.in_ok-edges-2.edges.items)
+      covers =
+          subst (λ (h : NormalFormula). HasCovers c.joined_with.new.self (v.done ++ h ∷ []) c.in_ok-edges-2.edges.items)
           same (c.in_ok-edges-2.ensures.covers v.done
           (subst (λ (es : List Edge). HasCovers c.loop-parts.self v.done es) (sym c.deref.ensures.value) v.covers));
       split = append_assoc v.done (f ∷ []) others
@@ -65,7 +66,8 @@ returns-clause-edges c = IfOk-weaker c.reduced.result _ _ (λ out made.
     let whole : v.done ≡ state = sym (append-nil v.done)
     ∙ subst (λ s. v.done ++ formulas_in b s ≡ state) c.in_default.ensures.parts v.split in
     let exact = subst (λ (fs : List NormalFormula). AreCoversOf fs covers) whole v.covers.right in
-    let pruned = subst (λ (es : List Edge). ArePruned (covers_of mid es) (covers_of new out.items)) c.deref-2.ensures.value
+    let pruned =
+    subst (λ (es : List Edge). ArePruned (covers_of mid es) (covers_of new out.items)) c.deref-2.ensures.value
     made.right in
     record { held = made.held; right = pruned_covers state covers (covers_of new out.items) exact pruned })
     c.reduced.ensures.pruned

@@ -30,6 +30,7 @@ loop-edge-preserved c =
     c.deref.ensures.value c.in_ok-kept.ensures.pruned in
     record {
       grows = grows_trans v.grows c.with_edge.ensures.grows;
-      pruned = subst (λ (es : List Edge). MakesEdges c.with_edge.new.self (ArePruned (covers_of b es)) c.in_ok-kept.kept.items)
+      pruned = subst
+          (λ (es : List Edge). MakesEdges c.with_edge.new.self (ArePruned (covers_of b es)) c.in_ok-kept.kept.items)
           (sym longer) (pushed_edge (take i edges) v.grows held v.pruned last);
     }

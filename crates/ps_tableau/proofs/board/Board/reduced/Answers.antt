@@ -42,6 +42,7 @@ loop-edge-preserved c =
     c.deref.ensures.value c.in_ok-kept.ensures.pruned in
     record {
       grows = grows_trans (grows_trans v.grows c.reduced_edge.ensures.grows) c.with_edge.ensures.grows;
-      pruned = subst (λ (es : List Edge). MakesEdges c.with_edge.new.self (ArePruned (covers_of b es)) c.in_ok-kept.kept.items)
+      pruned = subst
+          (λ (es : List Edge). MakesEdges c.with_edge.new.self (ArePruned (covers_of b es)) c.in_ok-kept.kept.items)
           (sym longer) (reduced_edge_more (take i edges) v.grows c.reduced_edge.ensures.grows held v.pruned one last);
     }

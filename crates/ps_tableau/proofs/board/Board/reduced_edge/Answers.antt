@@ -13,7 +13,8 @@ returns-clause-pruned c =
     let held = c.requires.edge in
     let grows = c.reduced_set.ensures.grows in
     let reduced = c.in_ok-next.ensures.reduced in
-    let leaf = λ (letter : ℕ). kept_leaf b.guards c.reduced_set.new.self.guards edge.guard letter grows.guards held.guard in
+    let leaf =
+    λ (letter : ℕ). kept_leaf b.guards c.reduced_set.new.self.guards edge.guard letter grows.guards held.guard in
     record {
       held = record {
         guard = grows.guards.held edge.guard held.guard;

@@ -1,4 +1,5 @@
-use Rattle.std.proofs.Common.{◌≡◌, ◌∙◌, ℕ, ◌+◌, ◌-◌, ◌<◌, List, ap, arith, drop, inl, inr, length, length-drop, refl, subst}
+use Rattle.std.proofs.Common.{◌≡◌, ◌∙◌, ℕ, ◌+◌, ◌-◌, ◌<◌, List, ap, arith, drop, inl, inr, length, length-drop, refl}
+use Rattle.std.proofs.Common.{subst}
 use Rattle.std.proofs.Common.{sym, take}
 use Rattle.std.proofs.lemmas.List.{take_all}
 use Rattle.std.proofs.lemmas.Result.{IfOk-weaker}
@@ -15,7 +16,8 @@ use Rattle.ps_tableau.proofs.board.Board.reduced_set.Goals as goal
 pub loop-place-init : goal.loop-place-init
 loop-place-init c = record {
   fewer = λ k there. in_none k (subst (λ (s : List ℕ). Contains s k) c.new-kept.ensures.items there);
-  brings = λ k there. of_known (k, inr (subst (λ (s : List ℕ). Contains s k) (sym c.in_ok-members.ensures) there), refl);
+  brings =
+      λ k there. of_known (k, inr (subst (λ (s : List ℕ). Contains s k) (sym c.in_ok-members.ensures) there), refl);
 }
 
 pub keep-requires-clause-kept : goal.keep-requires-clause-kept
@@ -27,7 +29,8 @@ keep-requires-clause-rest c k there =
     let d = c.deref.result.now in
     let next = c.loop-place.place + 1 in
     in_table c.requires.board c.requires.set k (subst (λ (s : List ℕ). Contains s k)
-    (c.deref.ensures.value ∙ c.in_ok-members.ensures) (in_drop next d k (in_take (length d - next) (drop next d) k there)))
+    (c.deref.ensures.value ∙ c.in_ok-members.ensures)
+    (in_drop next d k (in_take (length d - next) (drop next d) k there)))
 
 pub keep-requires-clause-index : goal.keep-requires-clause-index
 keep-requires-clause-index c =
@@ -58,7 +61,8 @@ loop-place-preserved c =
         | inl old ↦ c.loop-place.invariant.fewer k old
         | inr is ↦ subst (λ j. Contains (indices_in b.sets c.args.set) j) is here
       ];
-      brings = λ k there. brings_more b kept c.keep.new.kept.items members place index (normal_formula_at b.formulas k) low
+      brings =
+          λ k there. brings_more b kept c.keep.new.kept.items members place index (normal_formula_at b.formulas k) low
           c.index.ensures step (c.loop-place.invariant.brings k there);
     }
 
@@ -72,5 +76,6 @@ returns-clause-reduced c = IfOk-weaker c.with_all.result _ _ (λ set made.
     omega (arith, c.len-place-end.ensures, c.in_ok-members.members.ok.0) in
     let all = subst (λ (ks : List ℕ). AreSetsWith b.sets ks 0 c.with_all.new.self set) c.deref-2.ensures.value made in
     reduced_by kept members refl refl c.requires.set v.fewer (λ k there.
-    subst (λ n. Brings (IsOneOfBoth b kept (drop n members)) (normal_formula_at b.formulas k)) end (v.brings k there)) all)
+    subst (λ n. Brings (IsOneOfBoth b kept (drop n members)) (normal_formula_at b.formulas k)) end (v.brings k there))
+    all)
     c.with_all.ensures.set

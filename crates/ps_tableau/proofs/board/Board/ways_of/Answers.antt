@@ -9,10 +9,12 @@ use Rattle.ps_tableau.specs.Boards.{HasCovers}
 use Rattle.ps_tableau.proofs.board.Board.ways_of.Goals as goal
 
 pub ways_of_literal-requires-clause-p : goal.ways_of_literal-requires-clause-p
-ways_of_literal-requires-clause-p c = rw c.in-Proposition.is at (c.requires.board.table.earlier c.args.index c.args.node c.requires.node)
+ways_of_literal-requires-clause-p c =
+    rw c.in-Proposition.is at (c.requires.board.table.earlier c.args.index c.args.node c.requires.node)
 
 pub ways_of_literal-requires-in-Negated-clause-p : goal.ways_of_literal-requires-in-Negated-clause-p
-ways_of_literal-requires-in-Negated-clause-p c = rw c.in-Negated.is at (c.requires.board.table.earlier c.args.index c.args.node c.requires.node)
+ways_of_literal-requires-in-Negated-clause-p c =
+    rw c.in-Negated.is at (c.requires.board.table.earlier c.args.index c.args.node c.requires.node)
 
 pub ways_of_next-requires-clause-needed : goal.ways_of_next-requires-clause-needed
 ways_of_next-requires-clause-needed c =
@@ -26,7 +28,8 @@ ways_at-first-requires-clause-within c =
 
 pub ways_at-first-requires-clause-needed : goal.ways_at-first-requires-clause-needed
 ways_at-first-requires-clause-needed c =
-    let needs = rw c.in-And.is at (c.requires.board.needs.operands c.args.index c.args.node c.requires.node c.requires.needed) in
+    let needs = rw c.in-And.is at
+    (c.requires.board.needs.operands c.args.index c.args.node c.requires.node c.requires.needed) in
     needs.0
 
 pub ways_at-second-requires-clause-within : goal.ways_at-second-requires-clause-within
@@ -37,7 +40,8 @@ ways_at-second-requires-clause-within c =
 
 pub ways_at-second-requires-clause-needed : goal.ways_at-second-requires-clause-needed
 ways_at-second-requires-clause-needed c =
-    let needs = rw c.in-And.is at (c.requires.board.needs.operands c.args.index c.args.node c.requires.node c.requires.needed) in
+    let needs = rw c.in-And.is at
+    (c.requires.board.needs.operands c.args.index c.args.node c.requires.node c.requires.needed) in
     needs.1
 
 pub ways_at-first-requires-in-Or-clause-within : goal.ways_at-first-requires-in-Or-clause-within
@@ -48,7 +52,8 @@ ways_at-first-requires-in-Or-clause-within c =
 
 pub ways_at-first-requires-in-Or-clause-needed : goal.ways_at-first-requires-in-Or-clause-needed
 ways_at-first-requires-in-Or-clause-needed c =
-    let needs = rw c.in-Or.is at (c.requires.board.needs.operands c.args.index c.args.node c.requires.node c.requires.needed) in
+    let needs =
+    rw c.in-Or.is at (c.requires.board.needs.operands c.args.index c.args.node c.requires.node c.requires.needed) in
     needs.0
 
 pub ways_at-second-requires-in-Or-clause-within : goal.ways_at-second-requires-in-Or-clause-within
@@ -59,7 +64,8 @@ ways_at-second-requires-in-Or-clause-within c =
 
 pub ways_at-second-requires-in-Or-clause-needed : goal.ways_at-second-requires-in-Or-clause-needed
 ways_at-second-requires-in-Or-clause-needed c =
-    let needs = rw c.in-Or.is at (c.requires.board.needs.operands c.args.index c.args.node c.requires.node c.requires.needed) in
+    let needs =
+    rw c.in-Or.is at (c.requires.board.needs.operands c.args.index c.args.node c.requires.node c.requires.needed) in
     needs.1
 
 pub ways_at-first-requires-in-Until-clause-within : goal.ways_at-first-requires-in-Until-clause-within
@@ -70,7 +76,8 @@ ways_at-first-requires-in-Until-clause-within c =
 
 pub ways_at-first-requires-in-Until-clause-needed : goal.ways_at-first-requires-in-Until-clause-needed
 ways_at-first-requires-in-Until-clause-needed c =
-    let needs = rw c.in-Until.is at (c.requires.board.needs.operands c.args.index c.args.node c.requires.node c.requires.needed) in
+    let needs = rw c.in-Until.is at
+    (c.requires.board.needs.operands c.args.index c.args.node c.requires.node c.requires.needed) in
     needs.0
 
 pub ways_at-second-requires-in-Until-clause-within : goal.ways_at-second-requires-in-Until-clause-within
@@ -81,7 +88,8 @@ ways_at-second-requires-in-Until-clause-within c =
 
 pub ways_at-second-requires-in-Until-clause-needed : goal.ways_at-second-requires-in-Until-clause-needed
 ways_at-second-requires-in-Until-clause-needed c =
-    let needs = rw c.in-Until.is at (c.requires.board.needs.operands c.args.index c.args.node c.requires.node c.requires.needed) in
+    let needs = rw c.in-Until.is at
+    (c.requires.board.needs.operands c.args.index c.args.node c.requires.node c.requires.needed) in
     needs.1
 
 pub ways_at-first-requires-in-Release-clause-within : goal.ways_at-first-requires-in-Release-clause-within
@@ -92,7 +100,8 @@ ways_at-first-requires-in-Release-clause-within c =
 
 pub ways_at-first-requires-in-Release-clause-needed : goal.ways_at-first-requires-in-Release-clause-needed
 ways_at-first-requires-in-Release-clause-needed c =
-    let needs = rw c.in-Release.is at (c.requires.board.needs.operands c.args.index c.args.node c.requires.node c.requires.needed) in
+    let needs = rw c.in-Release.is at
+    (c.requires.board.needs.operands c.args.index c.args.node c.requires.node c.requires.needed) in
     needs.0
 
 pub ways_at-second-requires-in-Release-clause-within : goal.ways_at-second-requires-in-Release-clause-within
@@ -103,7 +112,8 @@ ways_at-second-requires-in-Release-clause-within c =
 
 pub ways_at-second-requires-in-Release-clause-needed : goal.ways_at-second-requires-in-Release-clause-needed
 ways_at-second-requires-in-Release-clause-needed c =
-    let needs = rw c.in-Release.is at (c.requires.board.needs.operands c.args.index c.args.node c.requires.node c.requires.needed) in
+    let needs = rw c.in-Release.is at
+    (c.requires.board.needs.operands c.args.index c.args.node c.requires.node c.requires.needed) in
     needs.1
 
 pub returns-in-Constant-clause-ways : goal.returns-in-Constant-clause-ways
@@ -111,28 +121,32 @@ returns-in-Constant-clause-ways c =
     let is = formula_node c.args.self.now.formulas c.args.index c.args.node (Constant c.in-Constant.value)
     c.requires.board.table c.requires.node c.in-Constant.is in
     IfOk-weaker c.ways_of_constant.result _ _ (λ out made.
-    subst (λ (h : NormalFormula). HasCovers c.ways_of_constant.new.self (h ∷ []) out.items) (sym is) made) c.ways_of_constant.ensures.ways
+    subst (λ (h : NormalFormula). HasCovers c.ways_of_constant.new.self (h ∷ []) out.items) (sym is) made)
+    c.ways_of_constant.ensures.ways
 
 pub returns-in-Proposition-clause-ways : goal.returns-in-Proposition-clause-ways
 returns-in-Proposition-clause-ways c =
     let is = formula_node c.args.self.now.formulas c.args.index c.args.node (Proposition c.in-Proposition.p)
     c.requires.board.table c.requires.node c.in-Proposition.is in
     IfOk-weaker c.ways_of_literal.result _ _ (λ out made.
-    subst (λ (h : NormalFormula). HasCovers c.ways_of_literal.new.self (h ∷ []) out.items) (sym is) made) c.ways_of_literal.ensures.ways
+    subst (λ (h : NormalFormula). HasCovers c.ways_of_literal.new.self (h ∷ []) out.items) (sym is) made)
+    c.ways_of_literal.ensures.ways
 
 pub returns-in-Negated-clause-ways : goal.returns-in-Negated-clause-ways
 returns-in-Negated-clause-ways c =
     let is = formula_node c.args.self.now.formulas c.args.index c.args.node (Negated c.in-Negated.p)
     c.requires.board.table c.requires.node c.in-Negated.is in
     IfOk-weaker c.ways_of_literal-in-Negated.result _ _ (λ out made.
-    subst (λ (h : NormalFormula). HasCovers c.ways_of_literal-in-Negated.new.self (h ∷ []) out.items) (sym is) made) c.ways_of_literal-in-Negated.ensures.ways
+    subst (λ (h : NormalFormula). HasCovers c.ways_of_literal-in-Negated.new.self (h ∷ []) out.items) (sym is) made)
+    c.ways_of_literal-in-Negated.ensures.ways
 
 pub returns-in-Next-clause-ways : goal.returns-in-Next-clause-ways
 returns-in-Next-clause-ways c =
     let is = formula_node c.args.self.now.formulas c.args.index c.args.node (Next c.in-Next.f)
     c.requires.board.table c.requires.node c.in-Next.is in
     IfOk-weaker c.ways_of_next.result _ _ (λ out made.
-    subst (λ (h : NormalFormula). HasCovers c.ways_of_next.new.self (h ∷ []) out.items) (sym is) made) c.ways_of_next.ensures.ways
+    subst (λ (h : NormalFormula). HasCovers c.ways_of_next.new.self (h ∷ []) out.items) (sym is) made)
+    c.ways_of_next.ensures.ways
 
 pub returns-in-And-clause-ways : goal.returns-in-And-clause-ways
 returns-in-And-clause-ways c =

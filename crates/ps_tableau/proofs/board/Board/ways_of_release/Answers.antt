@@ -36,6 +36,7 @@ returns-clause-ways c f g is first second = IfOk-weaker c.joined.result _ _ (λ 
       held = made.held;
       right = covers_of_release (makes_kept {P = AreCoversOf (f ∷ [])} c.next.ensures.grows first).right
           (makes_kept {P = AreCoversOf (g ∷ [])} c.next.ensures.grows second).right
-          (subst (λ (cs : List Cover). AreJoined (covers_of b c.args.second.now) cs (covers_of c.joined.new.self out.items))
+          (subst (λ (cs : List Cover). AreJoined (covers_of b c.args.second.now) cs
+          (covers_of c.joined.new.self out.items))
           whole made.right);
     }) c.joined.ensures.joined

@@ -25,7 +25,8 @@ loop-other-init c =
 
 pub settle-requires-clause-other : goal.settle-requires-clause-other
 settle-requires-clause-other c = edge_kept c.loop-other.invariant.grows (item_held (IsEdgeOf c.args.self.now)
-    c.args.edges.now c.loop-other.other-index c.other-item.result c.requires.edges c.loop-other-test.true c.other-item.is)
+    c.args.edges.now c.loop-other.other-index c.other-item.result c.requires.edges c.loop-other-test.true
+    c.other-item.is)
 
 pub returns-in_err-left-clause-grows : goal.returns-in_err-left-clause-grows
 returns-in_err-left-clause-grows c = grows_trans c.loop-other.invariant.grows c.settle.ensures.grows
@@ -47,7 +48,8 @@ loop-other-preserved c =
       left = settles.rest;
       pruned = subst (λ (es : List Edge). ArePruned (covers_of b es ++ cover_of b c.args.edge.now ∷ [])
           (covers_of c.settle.new.self c.settle.new.kept.items ++ cover_of c.settle.new.self c.in_ok-left.left ∷ []))
-          (sym longer) (settled_more c.args.edge.now (take i edges) v.grows c.settle.ensures.grows v.held held v.pruned settles);
+          (sym longer)
+          (settled_more c.args.edge.now (take i edges) v.grows c.settle.ensures.grows v.held held v.pruned settles);
     }
 
 pub returns-in_err-add_edge-clause-grows : goal.returns-in_err-add_edge-clause-grows

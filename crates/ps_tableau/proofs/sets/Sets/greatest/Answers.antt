@@ -4,7 +4,8 @@ use Rattle.ps_tableau.proofs.sets.Sets.greatest.Goals as goal
 use Rattle.ps_tableau.proofs.sets.Sets.greatest.Goals.{then-i-j, else-i-j, then-j-i, else-j-i}
 
 pub returns : goal.returns
-returns c = greatest_of c.max.result c.if-i-j.result c.if-j-i.result c.requires.a c.requires.b c.in_ok-left.ensures.parts
+returns c =
+    greatest_of c.max.result c.if-i-j.result c.if-j-i.result c.requires.a c.requires.b c.in_ok-left.ensures.parts
     c.in_ok-right.ensures.parts c.max.ensures
     (elim c.if-i-j.branch [
       | then-i-j w ↦ inl (w.if-i-j.true, w.result-is)

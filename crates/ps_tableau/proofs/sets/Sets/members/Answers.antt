@@ -17,5 +17,6 @@ pub returns : goal.returns
 returns c =
     let had = c.loop-parts.members.items in
     sym (append-nil had)
-    ∙ subst (λ s. had ++ indices_in c.args.self.now s ≡ indices_in c.args.self.now c.args.set) c.in_default.ensures.parts
+    ∙ subst (λ s. had ++ indices_in c.args.self.now s ≡ indices_in c.args.self.now c.args.set)
+    c.in_default.ensures.parts
     c.loop-parts.invariant.split

@@ -7,7 +7,8 @@ use Rattle.ps_tableau.proofs.sets.Sets.with.Goals as goal
 same_pair : (x y : ℕ × ℕ) → (nat_eq x.0 y.0 && nat_eq x.1 y.1) ≡ true → x ≡ y
 same_pair (x, y) (a, b) e = search (rules, and_both, eqb-true)
 
-added : (c : goal.After-len) → IsWithPair c.args.self.now (c.args.index, c.args.rest) c.place_of.new.self c.in_ok-place.place
+added : (c : goal.After-len) →
+    IsWithPair c.args.self.now (c.args.index, c.args.rest) c.place_of.new.self c.in_ok-place.place
 added c =
     let below : c.args.rest ≤ length c.self.inside.pairs = rw c.self.view_is c.requires in
     rw (← c.self.view_is) (with_pair _ same_pair c.self.invariant below c.in_ok-place.ensures.0)
