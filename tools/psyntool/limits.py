@@ -1,10 +1,10 @@
 """The limits that the flags --time and --memory set for the programs that a run starts: on the seconds of all of them
-together with the tool's own work, and on the memory of each."""
+together with the tool's own work, and on the memory of each. The tool itself limits the processor time of some."""
 import time
 
 from psyntool import program
 from psyntool.command import MEMORY, TIME
-from psyntool.ends import Refused, Unwritten
+from psyntool.ends import Refused
 
 MEBIBYTE = 1 << 20
 
@@ -24,18 +24,11 @@ def end():
     program.most_memory = program.last_moment = None
 
 
-def tried(seconds, function, *values):
-    """The result of a function, or None if the programs that it starts have not ended within so many seconds. If the
-    flag --time leaves less, that limit stays."""
-    before, mine = program.last_moment, program.LastMoment(time.monotonic() + seconds, "")
-    if before and before.at <= mine.at:
-        return function(*values)
-    program.last_moment = mine
+def briefly(seconds, function, *values):
+    """The result of a function. A program that it starts is killed after so many seconds of processor time, which do not
+    depend on what else the machine does; the answer then says what ended it."""
+    program.most_processor = seconds
     try:
         return function(*values)
-    except Unwritten as error:
-        if str(error) != mine.message:
-            raise
-        return None
     finally:
-        program.last_moment = before
+        program.most_processor = None

@@ -13,8 +13,9 @@ PR_SET_PDEATHSIG = 1
 MOST_BYTES = 67_108_864
 STATUSES = {0: b"", 10: b"REALIZABLE\n", 20: b"UNREALIZABLE\n", 1: b"fault ", 2: b"fault "}
 CLOCK_FROM = 2
-# The most bytes of memory of each program that is started, or None; and the last moment of the run, or None.
-most_memory = last_moment = None
+# The most bytes of memory of each program that is started, or None; the most seconds of processor time of each, or None;
+# and the last moment of the run, or None.
+most_memory = most_processor = last_moment = None
 
 
 @dataclass(frozen=True)
@@ -67,6 +68,7 @@ def before_it_runs():
         signals.give_back()
         signals.let_go()
         limit_memory()
+        limit_processor()
         if control:
             control(PR_SET_PDEATHSIG, signal.SIGKILL)
         if os.getppid() != tool:
@@ -83,6 +85,16 @@ def limit_memory():
         hard = resource.getrlimit(resource.RLIMIT_AS)[1]
         most = most_memory if hard == resource.RLIM_INFINITY else min(most_memory, hard)
         resource.setrlimit(resource.RLIMIT_AS, (most, most))
+
+
+def limit_processor():
+    """Limits the processor time of this process, which is killed at the limit."""
+    if most_processor is not None:
+        import resource
+
+        hard = resource.getrlimit(resource.RLIMIT_CPU)[1]
+        most = most_processor if hard == resource.RLIM_INFINITY else min(most_processor, hard)
+        resource.setrlimit(resource.RLIMIT_CPU, (most, most))
 
 
 def control_of_processes():

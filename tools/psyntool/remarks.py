@@ -48,8 +48,8 @@ def defeat(automaton, answer, passed):
 
     if answer.status != 20 or len(answer.bytes) > LONGEST:
         return []
-    found = limits.tried(MOST_SECONDS, shrinking.of_answer, automaton, answer, passed)
-    return words_of(circuit.read(found[0].text)) if found and shrinking.is_circuit(found[0]) else []
+    found = limits.briefly(MOST_SECONDS, shrinking.of_answer, automaton, answer, passed)[0]
+    return words_of(circuit.read(found.text)) if shrinking.is_circuit(found) else []
 
 
 def words_of(made):

@@ -18,12 +18,12 @@ NEVER = b"aag 1 1 0 1 0\n2\n0\ni0 r\no0 g\n"
 LATE = b"aag 6 1 2 1 3\n2\n4 2\n6 4\n12\n8 3 5\n10 8 7\n12 11 11\ni0 r\no0 g\n"
 WORDS = "whatever the controller does, this defeats it: "
 CONFLICT_TOLD = f"{WORDS}r1 is always 1, r0 is always 0\n"
-# A program that answers `shrink` with what the variable SAID has, or not at all, and passes other commands on.
+# A program that answers `shrink` with what the variable SAID has, or is at work for ever, and passes other commands on.
 ANOTHER = """\
 #!/bin/bash
 read -r line
 case $line in
-  shrink*) cat > /dev/null; [ -n "$SAID" ] || exec sleep 60; printf '%b' "$SAID"; exit "$STATUS" ;;
+  shrink*) cat > /dev/null; while [ -z "$SAID" ]; do :; done; printf '%b' "$SAID"; exit "$STATUS" ;;
   *) (echo "$line"; cat) | 'PROGRAM' ;;
 esac
 """
@@ -174,17 +174,16 @@ class Told(OnCircuits):
     def test_a_search_that_takes_long_is_left(self):
         before, os.environ["PSYN"] = os.environ.get("PSYN"), self.another("")["PSYN"]
         try:
-            began = time.monotonic()
-            self.assertIsNone(limits.tried(1, program.ask, b"shrink\n"))
-            self.assertLess(time.monotonic() - began, 30)
-            self.assertEqual(limits.tried(60, program.ask, b"sim\naag 0 0 0 0 0\n%%\n").status, 0)
+            self.assertIn("was ended by", limits.briefly(1, program.ask, b"shrink\n").died)
+            self.assertEqual(limits.briefly(60, program.ask, b"sim\naag 0 0 0 0 0\n%%\n").died, "")
             program.last_moment = program.LastMoment(time.monotonic() + 0.5, "late")
             with self.assertRaisesRegex(Unwritten, "late"):
-                limits.tried(60, program.ask, b"shrink\n")
+                limits.briefly(60, program.ask, b"shrink\n")
         finally:
             program.last_moment = None
             os.environ.pop("PSYN")
             os.environ.update({"PSYN": before} if before else {})
+        self.assertIsNone(program.most_processor)
 
     def test_sentences_and_equations(self):
         for text, lines in (

@@ -8,7 +8,7 @@ from psyntool.ends import Refused
 from psyntool.kinds import Kind
 from psyntool.plays import reading
 
-# If it takes longer to make the circuit smaller, it stays as it is.
+# If it takes more processor time to make the circuit smaller, it stays as it is.
 MOST_SECONDS = 20
 
 
@@ -26,8 +26,8 @@ def smaller(given):
     if given.board.winner == 0:
         return given
     asked = files.joined("shrink", flags_of(given.board), [specified(given), given.printed[0]])
-    answer = limits.tried(MOST_SECONDS, program.ask, asked)
-    if answer is None or not asking.is_had(answer):
+    answer = limits.briefly(MOST_SECONDS, program.ask, asked)
+    if not asking.is_had(answer):
         return given
     refuse_losing(given, answer)
     if not shrinking.is_circuit(answer):
