@@ -69,6 +69,19 @@ class Names(unittest.TestCase):
         self.assertTrue(calls)
         self.assertEqual([call for call in calls if call[1] not in known | flags], [])
 
+    def test_calls_that_the_heads_of_libraries_list_are_there(self):
+        found = 0
+        for path in sorted(glob.glob(os.path.join(TOP, "crates", "*", "src", "lib.rt"))):
+            inside = os.path.dirname(path)
+            files = [documents.read(os.path.relpath(it, TOP)) for it in glob.glob(os.path.join(inside, "**", "*.rt"), recursive=True)]
+            known = {*re.findall(r"\b(?:fn|mod|struct|trait|enum|const|type)\s+(\w+)", "\n".join("\n".join(lines) for lines in files))}
+            head = [re.sub(r"\([^`]*", "", line[4:]) for line in documents.read(os.path.relpath(path, TOP)) if line.startswith("//! ")]
+            calls = documents.calls_of(head)
+            found += len(calls)
+            with self.subTest(crate=os.path.relpath(inside, TOP)):
+                self.assertEqual([name for _, name in calls if name not in known], [])
+        self.assertGreater(found, 200)
+
     def test_definitions_are_where_they_are_said_to_be(self):
         text = documents.sources("specs")
         known = set(re.findall(r"(?m)^\s*(?:\w+ )*pub (?:\w+ )*(\w+)", text))
