@@ -2,8 +2,8 @@
 its crate, and is in the right folder.
 
 The gate tries the edits in crates/*/must-fail, which are the wrong bodies listed in NAMED. Edits that the gate does not
-try are in crates/*/more-edits. Each edit in crates/*/more-edits has a row in docs/EDITS.tsv, in which `tools/try-edits`
-records the verdict.
+try are in crates/*/more-edits. Each of these has a row in tools/upkeep/EDITS.tsv, in which `tools/try-edits` records the
+verdict.
 """
 import glob
 import importlib.machinery
@@ -101,7 +101,7 @@ class Edits(unittest.TestCase):
         self.assertLessEqual(len({crate for crate, _ in tried}), MOST_CRATES)
 
     def test_each_other_one_has_one_row(self):
-        with open(os.path.join(TOP, "docs", "EDITS.tsv"), encoding="utf-8") as file:
+        with open(os.path.join(TOP, "tools", "upkeep", "EDITS.tsv"), encoding="utf-8") as file:
             head, *rows = (line.split("\t") for line in file.read().splitlines())
         self.assertEqual(head, ["crate", "edit", "commit", "verdict"])
         self.assertEqual([tuple(row[:2]) for row in rows], sorted(edits_in("more-edits")))
@@ -113,7 +113,7 @@ class Edits(unittest.TestCase):
         asked = {"cwd": TOP, "capture_output": True, "text": True}
         if subprocess.run(["git", "rev-parse", "--is-shallow-repository"], **asked).stdout.strip() != "false":
             self.skipTest("the whole history is not here")
-        with open(os.path.join(TOP, "docs", "EDITS.tsv"), encoding="utf-8") as file:
+        with open(os.path.join(TOP, "tools", "upkeep", "EDITS.tsv"), encoding="utf-8") as file:
             names = {line.split("\t")[2].rstrip("+") for line in file.read().splitlines()[1:]} - {"-"}
         history = subprocess.run(["git", "rev-list", "HEAD"], **asked).stdout.split()
         self.assertEqual([name for name in sorted(names) if not any(it.startswith(name) for it in history)], [])
