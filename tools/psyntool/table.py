@@ -34,10 +34,10 @@ OF_THE_PROGRAM = (
     ),
 )
 OF_THE_TOOL = (
-    Command("compose", "the automaton of parts: its words are those in which all assumptions imply all guarantees", (Kind.LIST,), own=OF_PARTS, least=0),
+    Command("compose", "one automaton of all parts: it accepts a word if some assumption fails on it, or no guarantee does", (Kind.LIST,), own=OF_PARTS, least=0),
     Command(
         "core",
-        "of parts without a controller guarantees that conflict, with one the assumptions that it needs; none can be left out",
+        "if there is no controller: guarantees that conflict; if there is one: the assumptions that it needs; none can be left out",
         (Kind.LIST,),
         flags=(MOORE,),
         own=(*OF_PARTS, TO_FILE, FORCE),
@@ -45,14 +45,14 @@ OF_THE_TOOL = (
     ),
     Command(
         "play",
-        "a play against the circuit, the game and the certificate in files PREFIX..; my letters go to PREFIX.stim",
+        "a play against the circuit in files PREFIX..: you type the other player's letters, which go to PREFIX.stim",
         ("PREFIX", "SPEC"),
         own=(AUTO, FORCE),
     ),
     Command(
         "page",
-        "a page for a browser, in one file: a play by buttons against the circuit in files PREFIX.., with pictures and what is proved; with "
-        "--parts, of psyn's answer to a list of parts",
+        "a page for a browser, on which you play against the circuit in files PREFIX.., with pictures and what is proved; with --parts "
+        "against psyn's answer to a list of parts",
         ("PREFIX", "SPEC"),
         flags=(MOORE,),
         own=(PARTS, STRICT, CIRCUIT),
@@ -60,7 +60,7 @@ OF_THE_TOOL = (
     ),
     Command(
         "show",
-        "a picture of a game, with its certificate or solution and its automaton, of an automaton or of a circuit, as Graphviz DOT",
+        "a picture, as Graphviz DOT: of a game (with its certificate or solution and its automaton), an automaton or a circuit",
         (Kind.FILE, Kind.FILE, Kind.FILE),
         own=(REACH,),
         least=1,
@@ -75,14 +75,14 @@ OF_THE_TOOL = (
     Command("convert", "a circuit in the other form of AIGER: `aag` to `aig`, and back", (Kind.CIRCUIT,), own=(DROP,)),
     Command(
         "verilog",
-        "a circuit as a module of Verilog, with a clock and a reset if it has latches, and a comment for each output; with an automaton or a list of "
-        "parts only if the circuit wins",
+        "a circuit as a module of Verilog, with a comment for each output; if an automaton or a list of parts is given, only if the "
+        "circuit wins",
         (Kind.CIRCUIT, "SPEC"),
         flags=(ENV, MOORE),
         least=1,
     ),
     Command("solution", "a certificate's winners and moves as a solution (`paritysol`)", (Kind.GAME, Kind.CERTIFICATE)),
-    Command("each", "COMMAND on each of several files, or on as many at a time as it reads; the first line of each answer", ("COMMAND", "FILE.."), runs_another=True),
+    Command("each", "runs COMMAND on each of several files, or on as many at a time as it reads, and prints the first line of each answer", ("COMMAND", "FILE.."), runs_another=True),
     Command("games", "a parity game of a family, made by a rule: buchi, clique, jurdzinski, ladder, ladder2, loops, path, random, ring", ("FAMILY", "N"), own=(SEED, EDGES, PRIORITIES)),
     Command("help", "what the tool can do, or how a command is used", ("COMMAND",), least=0),
     Command("version", "which psyn this is", ()),

@@ -8,11 +8,11 @@ from psyntool.table import COMMANDS
 
 ABOUT = """\
 psyn turns a deterministic parity automaton into a sequential circuit: a controller, or an environment that defeats every
-finite-state controller. It also makes, solves and checks parity games, and runs circuits. Every answer of the program is proved
-right: it is written in Rattle, whose functions have contracts that a prover checks.
+finite-state controller. It also makes, solves and checks parity games, and runs and judges circuits. Every answer of the program
+is proved right.
 PP
-`psyn` is the tool that takes files by their names (`-` is standard input) and explains faults. It runs a program that takes no
-arguments. That program reads from standard input: the command, a newline, and the input texts, separated by lines %%.
+`psyn` takes files by their names (`-` is standard input) and explains faults. It runs the program, which takes no arguments, but
+reads the command, a newline, and the texts, with a line %% between two of them, from standard input.
 """
 FORMATS = {
     "automaton": "Hanoi Omega-Automata format, version v1, with `controllable-AP:`, which lists the numbers of the controller's propositions. "
@@ -59,6 +59,13 @@ def entry(head, body):
     return f".TP\n\\fB{plain(head)}\\fR\n{plain(body)}\n"
 
 
+def first_sentence(text):
+    """The first sentence of a text; a point in code ends none."""
+    bare = re.sub(r"`[^`]*`", lambda found: "X" * len(found[0]), text)
+    end = re.search(r"\.(?= [A-Z])", bare)
+    return text[: end.end()] if end else text
+
+
 def page():
     parts = ['.TH PSYN 1 "" psyn "User Commands"\n']
 
@@ -74,7 +81,7 @@ def page():
     section("JSON", plain(JSON), *(entry(name, f"{says}.") for name, says in reporting.FIELDS.items()))
     section("FORMATS", *(entry(name, says) for name, says in FORMATS.items()))
     section("EXIT STATUS", *(entry(status, says + ".") for status, says in STATUSES.items()))
-    told = [(f"{fault.number or ''} {fault.name}".strip(), fault.entries["Cause"]) for fault in faults.read_document()]
-    section("FAULTS", "A fault is one line in place of the answer: `fault`, a number and a name, and its place.\n".replace("`", ""), *(entry(*it) for it in told))
+    told = [(f"{fault.number or ''} {fault.name}".strip(), first_sentence(fault.entries["Cause"])) for fault in faults.read_document()]
+    section("FAULTS", "A fault is one line in place of the answer: fault, a number and a name, and its place. FAULTS.md says more.\n", *(entry(*it) for it in told))
     section("ENVIRONMENT", entry("PSYN", "the program, if it is not the one that was installed or built."))
     return "".join(parts)
