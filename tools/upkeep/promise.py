@@ -27,6 +27,8 @@ ENDS = {
     "ps_certificate/specs/Written.antt: text_in": "the text that is written for a certificate",
     "ps_circuit/specs/Texts.antt: ReadsCircuit": "what an AIGER text means, or its first error",
     "ps_circuit/specs/Written.antt: text_of": "the text that is written for a circuit",
+    "ps_automaton/specs/Chains.antt: chain_of": "the chain that an acceptance condition is, if it is one: its links in order, and its base",
+    "ps_automaton/specs/Chains.antt: has_complement": "whether an acceptance condition names a complemented set",
     "ps_synthesis/specs/Reports.antt: IsWinnersCircuit": "the circuit is that of the winner's machine, gate by gate",
     "ps_synthesis/specs/SynthFaults.antt: IsTooLarge": "the winner's machine needs more variables than AIGER numbers",
     "ps_machine/specs/KeyNames.antt: AreNamed": "vertex v has the id v, and a name that tells its state and its letter or priority",
@@ -63,7 +65,7 @@ HEAD = """# The promise, with all that it says
 
 This page is made by `tools/promise-page` from the files in `specs/`, which the prover reads. It is for readers who want
 to know what is promised without trusting a retelling. First comes the contract, then each definition that it needs,
-file by file: a file cites only files before it, but for those of ps_synthesis, which come first. The [index](#index)
+file by file: a file cites only files before it, but for those of @TOPS@, which come first. The [index](#index)
 tells by number in which file a name is defined. [definitions.md](definitions.md) says the same in prose.
 
 - A clause `ensures name { .. }` holds of each call that returns. There `result` is what is returned, `x.now` the value
@@ -236,7 +238,7 @@ def contract_of(path, function):
 
 
 def root_of(path, name):
-    return contract_of(path, name) if path.endswith(".rt") else module_at(path.removesuffix(".antt")).by_name[name]
+    return contract_of(path, name) if path.endswith(".rt") else module_at(path.removesuffix(".antt").replace("/", ".")).by_name[name]
 
 
 def ordered(things, below):
@@ -268,18 +270,25 @@ def files_of(items):
     return [(path, sorted(by_path[path], key=place.get)) for path in ordered(sorted(by_path), lambda path: sorted(cites[path]))]
 
 
-def chapters_of(files):
-    """The files in chapters, each with the names of its crates. A crate follows those that it uses, but the crate of
-    the roots comes first; small crates share a chapter."""
+def tops_of(files):
+    """The crates whose definitions no definition of another crate on the page cites."""
+    crates = dict.fromkeys(path.split("/")[0] for path, _ in files)
+    cited = {(path.split("/")[0], other.split(".")[0]) for path, items in files for item in items for other, _ in cited_by(item)}
+    return [crate for crate in crates if not any(below == crate != above for above, below in cited)]
+
+
+def chapters_of(files, first):
+    """The files in chapters, each with the names of its crates. A crate follows those that it uses, but the crates
+    `first` come first; small crates share a chapter."""
     uses, by_crate = {}, {}
     for line in read("crates.txt"):
         crate, _, listed = line.partition("#")[0].partition(":")
         uses[crate.strip()] = listed.split()
     for path, items in files:
         by_crate.setdefault(path.split("/")[0], []).append((path, items))
-    order = [crate for crate in ordered(sorted(uses), lambda crate: uses.get(crate, [])) if crate in by_crate]
+    order = [crate for crate in ordered(sorted(uses), lambda crate: uses.get(crate, [])) if crate in by_crate and crate not in first]
     chapters = [([], [])]
-    for crate in [order[-1], *order[:-1]]:
+    for crate in [*first, *order]:
         if len(chapters[-1][1]) >= FILES:
             chapters.append(([], []))
         chapters[-1][0].append(crate)
@@ -311,13 +320,15 @@ def page(roots=None, ends=None):
     first = [root_of(path, name) for path, name in roots or ROOTS]
     found = Gathered(first, ENDS if ends is None else ends)
     contracts = [item for item in found.items if item.module.path.endswith(".rt")]
-    out = [*HEAD.split("\n"), "", "## The contract", ""]
+    files = files_of([item for item in found.items if item not in contracts])
+    tops = tops_of(files)
+    out = [*HEAD.replace("@TOPS@", " and ".join(tops)).split("\n"), "", "## The contract", ""]
     for item in contracts:
         out += ["```text", f"// {item.module.path}", *item.comment, *item.lines, "```", ""]
     index, number = {}, 0
-    for crates, files in chapters_of(files_of([item for item in found.items if item not in contracts])):
+    for crates, inside in chapters_of(files, tops):
         out += [f"## {', '.join(crates)}", "", "```text"]
-        for path, items in files:
+        for path, items in inside:
             number += 1
             out.append(f"---- {number}. crates/{path}")
             for item in items:
