@@ -44,6 +44,12 @@ class Page(unittest.TestCase):
     def test_it_can_be_read_in_an_hour(self):
         self.assertLessEqual(len(promise.page()) - 1, promise.MOST_LINES)
 
+    def test_a_definition_may_be_a_root_too(self):
+        more = promise.page(roots=[*promise.ROOTS, ("ps_verify/specs/Judgements.antt", "IsWinning")])
+        self.assertIn("## ps_synthesis, ps_verify", more)
+        self.assertIn("those of ps_synthesis and ps_verify, which come first", " ".join(more))
+        self.assertTrue(any(line.startswith("pub record IsWinning ") for line in more))
+
     def test_each_name_of_std_is_explained_once(self):
         found = promise.Gathered([promise.root_of(*root) for root in promise.ROOTS], promise.ENDS)
         explained = [name for names, _ in promise.STD for name in names.split()]

@@ -61,13 +61,11 @@ STD = [
     ("Contains", "`Contains xs x`: `x` is an element of `xs`"),
     
 ]
-HEAD = """# The promise, with all that it says
-
-This page is made by `tools/promise-page` from the files in `specs/`, which the prover reads. It is for readers who want
-to know what is promised without trusting a retelling. First comes the contract, then each definition that it needs,
-file by file: a file cites only files before it, but for those of @TOPS@, which come first. The [index](#index)
-tells by number in which file a name is defined. [definitions.md](definitions.md) says the same in prose.
-
+HEAD = """This page is made by `tools/promise-page` from the files in `specs/`, which the prover reads. It is for readers
+who want to know what is promised without trusting a retelling. First comes the contract, then each definition that it
+needs, file by file: a file cites only files before it, but for those of @TOPS@, which come first. The [index](#index)
+tells by number in which file a name is defined. [definitions.md](definitions.md) says the same in prose."""
+READING = """\
 - A clause `ensures name { .. }` holds of each call that returns. There `result` is what is returned, `x.now` the value
   of an argument, `x.old` and `x.new` that before and after the call, and `.items` the list in a `Vec`.
 - A `record` holds if all its fields do; a field may also name a value that exists. A `data` holds by one of its cases.
@@ -287,9 +285,9 @@ def chapters_of(files, first):
     for path, items in files:
         by_crate.setdefault(path.split("/")[0], []).append((path, items))
     order = [crate for crate in ordered(sorted(uses), lambda crate: uses.get(crate, [])) if crate in by_crate and crate not in first]
-    chapters = [([], [])]
-    for crate in [*first, *order]:
-        if len(chapters[-1][1]) >= FILES:
+    chapters = [(list(first), [file for crate in first for file in by_crate[crate]])]
+    for crate in order:
+        if len(chapters) == 1 or len(chapters[-1][1]) >= FILES:
             chapters.append(([], []))
         chapters[-1][0].append(crate)
         chapters[-1][1].extend(by_crate[crate])
@@ -322,7 +320,8 @@ def page(roots=None, ends=None):
     contracts = [item for item in found.items if item.module.path.endswith(".rt")]
     files = files_of([item for item in found.items if item not in contracts])
     tops = tops_of(files)
-    out = [*HEAD.replace("@TOPS@", " and ".join(tops)).split("\n"), "", "## The contract", ""]
+    out = ["# The promise, with all that it says", "", *wrapped(HEAD.replace("@TOPS@", " and ".join(tops)).split()), ""]
+    out += [*READING.split("\n"), "", "## The contract", ""]
     for item in contracts:
         out += ["```text", f"// {item.module.path}", *item.comment, *item.lines, "```", ""]
     index, number = {}, 0
