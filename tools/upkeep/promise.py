@@ -71,7 +71,8 @@ READING = """\
 - A `record` holds if all its fields do; a field may also name a value that exists. A `data` holds by one of its cases.
 - `(x : X) → P x` says that P holds of every x, and `P → Q` that P implies Q. `P × Q` says that both hold, and
   `(x : X) × P x` that there is an x with P. `λ x. t` is the function that gives t for x. `elim` chooses by cases.
-- Letters, texts and sets of propositions are numbers and lists of numbers. Player 0 is the controller."""
+- A letter is a number whose bit p is the truth of proposition p, and a text is a list of bytes. Player 0 is the
+  controller. `pub`, `abbrev` and `unfoldable` say how the prover treats a name, not what it means."""
 FIELD = re.compile(r"(?m)^ +(?:pub )?([^\s:(){}]+) :(?=\s|$)")
 SIGNATURE = re.compile(r"(?:(?:abbrev|unfoldable|opaque) )?(?:pub )?(?:(record|data) )?([^\s:(){},\[\]=]+)(?=[\s:({]|$)")
 WORD = re.compile(r"[^\s(){},:\[\]]+")
