@@ -5,6 +5,14 @@ from dataclasses import dataclass
 from psyntool import places
 from psyntool.kinds import Kind
 
+# The text at fault in a part of the document, where a section does not name another one.
+OF_PART = {
+    "Automata": "Automaton.",
+    "Game texts": "Game.",
+    "Circuits": "Circuit.",
+    "Stimuli and lassos": "Stimulus.",
+    "Specifications": "Specification.",
+}
 KINDS = {kind.title.capitalize(): kind for kind in (Kind.AUTOMATON, Kind.SPECIFICATION, Kind.GAME, Kind.CERTIFICATE, Kind.CIRCUIT, Kind.STIMULUS)}
 
 
@@ -20,10 +28,10 @@ class Fault:
     examples: list
 
 
-def fault_of(heading, body):
+def fault_of(heading, body, text):
     found = re.fullmatch(r"(\d+) (\w+)", heading)
     entries = dict(re.findall(r"(?m)^- \*\*(\w+)\*\*: (.*(?:\n  .*)*)", body))
-    entries = {word: re.sub(r"\s*\n\s*", " ", said) for word, said in entries.items()}
+    entries = ({"Text": text} if text else {}) | {word: re.sub(r"\s*\n\s*", " ", said) for word, said in entries.items()}
     kind = KINDS.get(entries.get("Text", "").split(" ")[0].rstrip(",."))
     return Fault(int(found[1]) if found else None, found[2] if found else heading, kind, entries, examples_of(body))
 
@@ -36,5 +44,9 @@ def examples_of(body):
 
 
 def read_document():
-    parts = re.split(r"(?m)^### (.*)\n", places.stored("docs", "FAULTS.md"))
-    return [fault_of(heading.strip(), body) for heading, body in zip(parts[1::2], parts[2::2])]
+    found = []
+    for part in re.split(r"(?m)^## ", places.stored("docs", "FAULTS.md"))[1:]:
+        title, _, inside = part.partition("\n")
+        sections = re.split(r"(?m)^### (.*)\n", inside)
+        found += [fault_of(heading.strip(), body, OF_PART.get(title)) for heading, body in zip(sections[1::2], sections[2::2])]
+    return found
