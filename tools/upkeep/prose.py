@@ -17,7 +17,7 @@ BOUNDS = {
     "words": 46000,
     "comments": 170,
     "pronouns": (8, 38),
-    "repetitions": 8,
+    "repetitions": 5,
 }
 SHORT = 300
 MADE = ("docs/PROMISE.md",)  # made from specs/
