@@ -1,0 +1,177 @@
+//! Steps towards the normal form of Sickert and Esparza ("An Efficient Normalisation Procedure for Linear Temporal
+//! Logic", 2020; Esparza, Rubio, Sickert, "A Simple Rewrite System for the Normalization of Linear Temporal Logic",
+//! 2023): a Boolean combination of formulas of the recurrence class.
+//!
+//! Below, h[f] is a formula with an operand f somewhere inside, not negated; the formula `f W g` is `g R (f || g)`.
+//!
+//! | A formula | is the same as |
+//! |---|---|
+//! | h[L], where L is a limit | `(L && h[true]) \|\| h[false]` |
+//! | `G F h[f R g]` | `G F h[g U (f && g)] \|\| (F G g && G F h[true])` |
+//! | `f R g` | `(g U (f && g)) \|\| G g` |
+//! | `G h[f U g]` | `(G F g && G h[f W g]) \|\| (h[f U g] U G h[false])` |
+
+use crate::forms::{FALSE, Form, Forms, TRUE};
+use crate::stop::Stop;
+use ps_formula::NormalNode;
+use ps_keys::KeyMap;
+use std::alloc::Global;
+
+/// The most formulas of a table that is brought into normal form.
+const FORMULAS: usize = 30_000;
+
+/// The operands of an operator with two.
+#[derive(Clone, Copy)]
+struct Operands {
+    left: Form,
+    right: Form,
+}
+
+/// A formula that is the same as a given one, and nearer to the normal form.
+pub(crate) fn normalised(alloc: Global, forms: &mut Forms, form: Form) -> Result<Form, Stop> {
+    if forms.len() > FORMULAS {
+        return Err(Stop::Limit);
+    }
+    let below = forms.below(form)?;
+    if let Some(limit) = inner_limit(forms, &below, form) {
+        return without_limit(alloc, forms, form, limit);
+    }
+    if forms.again(form).is_some() {
+        return again(alloc, forms, &below, form);
+    }
+    if forms.again(form ^ 1).is_some() {
+        let negations = forms.below(form ^ 1)?;
+        return Ok(again(alloc, forms, &negations, form ^ 1)? ^ 1);
+    }
+    let release = mixed_release(forms, &below).ok_or(Stop::Limit)?;
+    let made = released(alloc, forms, release)?;
+    replaced(alloc, forms, form, release, made)
+}
+
+/// A limit inside a formula.
+fn inner_limit(forms: &Forms, below: &[Form], form: Form) -> Option<Form> {
+    below.iter().rev().copied().find(|each| *each != form
+        && *each > TRUE
+        && forms.class(*each).is_limit)
+}
+
+/// A formula with a limit inside, without the limit inside.
+fn without_limit(alloc: Global, forms: &mut Forms, form: Form, limit: Form) -> Result<Form, Stop> {
+    let with = replaced(alloc, forms, form, limit, TRUE)?;
+    let without = replaced(alloc, forms, form, limit, FALSE)?;
+    let one = forms.both(limit, with)?;
+    forms.either(one, without)
+}
+
+/// A formula `G F h` without one of the operators `R` in h.
+fn again(alloc: Global, forms: &mut Forms, below: &[Form], form: Form) -> Result<Form, Stop> {
+    let found = below
+        .iter()
+        .copied()
+        .find(|each| *each != form && release(forms, *each).is_some());
+    let inner = found.ok_or(Stop::Limit)?;
+    let Operands { left, right } = release(forms, inner).ok_or(Stop::Limit)?;
+    let until = ended(forms, left, right)?;
+    let with_until = replaced(alloc, forms, form, inner, until)?;
+    let kept = forms.release(FALSE, right)?;
+    let lasting = forms.until(TRUE, kept)?;
+    let with_true = replaced(alloc, forms, form, inner, TRUE)?;
+    let other = forms.both(lasting, with_true)?;
+    forms.either(with_until, other)
+}
+
+/// The operands of a formula `f R g`.
+fn release(forms: &Forms, form: Form) -> Option<Operands> {
+    match forms.node(form) {
+        NormalNode::Release(left, right) => Some(Operands { left, right }),
+        _ => None,
+    }
+}
+
+/// `g U (f && g)`: what `f R g` is if f comes.
+fn ended(forms: &mut Forms, f: Form, g: Form) -> Result<Form, Stop> {
+    let end = forms.both(f, g)?;
+    forms.until(g, end)
+}
+
+/// An innermost formula `f R g` with an operator `U` inside.
+fn mixed_release(forms: &Forms, below: &[Form]) -> Option<Form> {
+    below.iter().copied().find(|each| release(forms, *each).is_some()
+        && !forms.class(*each).is_safety)
+}
+
+/// A formula `f R g` with one operator `U` fewer in g, or without f.
+fn released(alloc: Global, forms: &mut Forms, form: Form) -> Result<Form, Stop> {
+    let Operands { left, right } = release(forms, form).ok_or(Stop::Limit)?;
+    let always = if forms.class(right).is_safety {
+        forms.release(FALSE, right)?
+    } else {
+        globally(alloc, forms, right)?
+    };
+    let until = ended(forms, left, right)?;
+    forms.either(until, always)
+}
+
+/// A formula `G h` with one operator `U` fewer in h.
+fn globally(alloc: Global, forms: &mut Forms, inner: Form) -> Result<Form, Stop> {
+    let below = forms.below(inner)?;
+    let (until, Operands { left, right }) = first_until(forms, &below).ok_or(Stop::Limit)?;
+    let either = forms.either(left, right)?;
+    let weak = forms.release(right, either)?;
+    let with_weak = replaced(alloc, forms, inner, until, weak)?;
+    let with_false = replaced(alloc, forms, inner, until, FALSE)?;
+    let eventually = forms.until(TRUE, right)?;
+    let again = forms.release(FALSE, eventually)?;
+    let kept = forms.release(FALSE, with_weak)?;
+    let one = forms.both(again, kept)?;
+    let end = forms.release(FALSE, with_false)?;
+    let other = forms.until(inner, end)?;
+    forms.either(one, other)
+}
+
+/// An innermost formula `f U g`, with f and g.
+fn first_until(forms: &Forms, below: &[Form]) -> Option<(Form, Operands)> {
+    for each in below {
+        if let NormalNode::Until(left, right) = forms.node(*each) {
+            return Some((*each, Operands { left, right }));
+        }
+    }
+    None
+}
+
+/// A formula in which each occurrence of a formula inside is replaced by another.
+fn replaced(
+    alloc: Global,
+    forms: &mut Forms,
+    form: Form,
+    old: Form,
+    new: Form,
+) -> Result<Form, Stop> {
+    let below = forms.below(form)?;
+    let mut known = KeyMap::new(alloc);
+    known.put(old as u64, new)?;
+    for each in &below {
+        if *each != old {
+            let made = rebuilt(forms, *each, &known)?;
+            known.put(*each as u64, made)?;
+        }
+    }
+    known.get(form as u64).ok_or(Stop::Limit)
+}
+
+/// A formula, made from what replaces its operands.
+fn rebuilt(forms: &mut Forms, form: Form, known: &KeyMap<u64, Form>) -> Result<Form, Stop> {
+    match forms.node(form) {
+        NormalNode::Constant(_) | NormalNode::Proposition(_) | NormalNode::Negated(_) => Ok(form),
+        NormalNode::And(f, g) => forms.both(at(known, f), at(known, g)),
+        NormalNode::Or(f, g) => forms.either(at(known, f), at(known, g)),
+        NormalNode::Next(f) => forms.next(at(known, f)),
+        NormalNode::Until(f, g) => forms.until(at(known, f), at(known, g)),
+        NormalNode::Release(f, g) => forms.release(at(known, f), at(known, g)),
+    }
+}
+
+/// What replaces a formula.
+fn at(known: &KeyMap<u64, Form>, form: Form) -> Form {
+    known.get(form as u64).unwrap_or(form)
+}

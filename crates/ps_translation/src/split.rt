@@ -1,0 +1,245 @@
+//! A formula as a Boolean function of parts, each of which has an automaton of its own.
+//!
+//! The formula is parted where its top is Boolean. Operands of a conjunction that are safeties make one part, as do
+//! those that are guarantees, and those of the form `G F f`; a disjunction is parted as the negation of a conjunction.
+
+use crate::diagrams::{self, Diagram};
+use crate::forms::{FALSE, Form, TRUE};
+use crate::normal::normalised;
+use crate::part::{Kind, Part};
+use crate::progression::Progression;
+use crate::stop::{Stop, index};
+use ps_formula::NormalNode;
+use ps_keys::KeyMap;
+use std::alloc::Global;
+
+/// The most parts.
+const PARTS: u32 = 64;
+
+/// How deep the Boolean operators at the top of a formula may be nested.
+const NESTING: u32 = 256;
+
+/// Operands of a conjunction.
+#[derive(Drop)]
+struct Groups {
+    /// The conjunction of the safeties.
+    safety: Form,
+    /// The conjunction of the other guarantees.
+    guarantee: Form,
+    /// The conjunction of the formulas `F G f`.
+    lasting: Form,
+    /// The conjunction of the formulas `G F f`.
+    again: Form,
+    /// The formulas `F f` of those.
+    goals: Vec<Form>,
+    /// The other operands.
+    others: Vec<Form>,
+}
+
+/// The parts of a formula.
+#[derive(Drop)]
+pub(crate) struct Split {
+    alloc: Global,
+    pub(crate) parts: Vec<Part>,
+    /// The number of the part of each formula that is one.
+    numbers: KeyMap<u64, u32>,
+}
+
+impl Split {
+    /// No parts.
+    pub(crate) fn new(alloc: Global) -> Self {
+        Split {
+            alloc,
+            parts: Vec::new(alloc),
+            numbers: KeyMap::new(alloc),
+        }
+    }
+
+    /// The parts.
+    pub(crate) fn into_parts(self) -> Vec<Part> {
+        self.parts
+    }
+
+    /// A formula as a diagram, in which the variable i stands for the part i.
+    pub(crate) fn function(
+        &mut self,
+        world: &mut Progression,
+        form: Form,
+    ) -> Result<Diagram, Stop> {
+        self.function_at(NESTING, world, form, false)
+    }
+
+    /// Like `function`, at a depth. A formula that stands for its negation is brought nearer to the normal form as this
+    /// negation, since the steps for a formula undo those for its negation.
+    #[cycle(function)]
+    fn function_at(
+        &mut self,
+        depth: u32,
+        world: &mut Progression,
+        form: Form,
+        is_negated: bool,
+    ) -> Result<Diagram, Stop> {
+        if form == FALSE || form == TRUE {
+            return Ok(if form == TRUE {
+                diagrams::TRUE
+            } else {
+                diagrams::FALSE
+            });
+        }
+        if depth == 0 {
+            return Err(Stop::Limit);
+        }
+        if let Some(kind) = kind_of(world, form) {
+            return self.single(world, kind, form);
+        }
+        if is_conjunction(world, form) {
+            return self.conjunction(depth - 1, world, form, is_negated);
+        }
+        if is_negated_first(world, form) {
+            let negation = self.function_at(depth - 1, world, form ^ 1, !is_negated)?;
+            return world.diagrams.negated(negation);
+        }
+        let sign = u32::from(is_negated);
+        let nearer = normalised(self.alloc, &mut world.forms, form ^ sign)? ^ sign;
+        self.function_at(depth - 1, world, nearer, is_negated)
+    }
+
+    /// Like `function_at`, of a conjunction.
+    #[cycle(function)]
+    fn conjunction(
+        &mut self,
+        depth: u32,
+        world: &mut Progression,
+        form: Form,
+        is_negated: bool,
+    ) -> Result<Diagram, Stop> {
+        let operands = world.forms.operands(form)?;
+        let Groups {
+            safety,
+            guarantee,
+            lasting,
+            again,
+            goals,
+            others,
+        } = grouped(self.alloc, world, &operands)?;
+        let mut operands = others;
+        operands.push(safety)?;
+        operands.push(guarantee)?;
+        operands.push(lasting)?;
+        let mut made = if again == TRUE {
+            diagrams::TRUE
+        } else {
+            self.variable(world, Kind::Rounds, again, goals)?
+        };
+        for operand in &operands {
+            let one = self.function_at(depth, world, *operand, is_negated)?;
+            made = world.diagrams.both(made, one)?;
+        }
+        Ok(made)
+    }
+
+    /// The variable of a part that is a single formula.
+    fn single(&mut self, world: &mut Progression, kind: Kind, form: Form) -> Result<Diagram, Stop> {
+        let mut forms = Vec::new(self.alloc);
+        forms.push(match (kind, world.forms.again(form)) {
+            (Kind::Rounds, Some(goal)) => goal,
+            _ => form,
+        })?;
+        self.variable(world, kind, form, forms)
+    }
+
+    /// The variable of a part.
+    fn variable(
+        &mut self,
+        world: &mut Progression,
+        kind: Kind,
+        form: Form,
+        forms: Vec<Form>,
+    ) -> Result<Diagram, Stop> {
+        if let Some(number) = self.numbers.get(form as u64) {
+            return world.diagrams.variable(number);
+        }
+        let number = index(self.parts.len())?;
+        if number >= PARTS {
+            return Err(Stop::Limit);
+        }
+        let part = Part::new(self.alloc, kind, forms)?;
+        self.parts.push(part)?;
+        self.numbers.put(form as u64, number)?;
+        world.diagrams.variable(number)
+    }
+}
+
+/// The kind of automaton of a formula, if the formula is a part.
+fn kind_of(world: &Progression, form: Form) -> Option<Kind> {
+    let class = world.forms.class(form);
+    if class.is_safety {
+        return Some(Kind::Safety);
+    }
+    if let NormalNode::And(..) | NormalNode::Or(..) = world.forms.node(form) {
+        return None;
+    }
+    if let Some(goal) = world.forms.again(form)
+        && world.forms.class(goal).is_guarantee
+    {
+        return Some(Kind::Rounds);
+    }
+    if class.is_recurrence && !class.is_guarantee {
+        return Some(Kind::Recurrence);
+    }
+    None
+}
+
+/// Whether a formula is a conjunction whose operands are parted.
+fn is_conjunction(world: &Progression, form: Form) -> bool {
+    matches!(world.forms.node(form), NormalNode::And(..)) && !world.forms.class(form).is_guarantee
+}
+
+/// Whether the negation of a formula, which is no part and no such conjunction, is a part or a conjunction.
+fn is_negated_first(world: &Progression, form: Form) -> bool {
+    let class = world.forms.class(form);
+    let is_disjunction = matches!(world.forms.node(form), NormalNode::Or(..));
+    is_disjunction || class.is_guarantee || class.is_persistence
+}
+
+/// The operands of a conjunction, by groups.
+fn grouped(alloc: Global, world: &mut Progression, operands: &[Form]) -> Result<Groups, Stop> {
+    let mut groups = Groups {
+        safety: TRUE,
+        guarantee: TRUE,
+        lasting: TRUE,
+        again: TRUE,
+        goals: Vec::new(alloc),
+        others: Vec::new(alloc),
+    };
+    for operand in operands {
+        add_to(&mut groups, world, *operand)?;
+    }
+    Ok(groups)
+}
+
+/// Adds an operand to its group.
+fn add_to(groups: &mut Groups, world: &mut Progression, operand: Form) -> Result<(), Stop> {
+    let class = world.forms.class(operand);
+    if class.is_safety {
+        groups.safety = world.forms.both(groups.safety, operand)?;
+        return Ok(());
+    }
+    if class.is_guarantee {
+        groups.guarantee = world.forms.both(groups.guarantee, operand)?;
+        return Ok(());
+    }
+    if let Some(goal) = world.forms.again(operand)
+        && world.forms.class(goal).is_guarantee
+    {
+        groups.again = world.forms.both(groups.again, operand)?;
+        groups.goals.push(goal)?;
+        return Ok(());
+    }
+    if class.is_persistence && world.forms.again(operand ^ 1).is_some() {
+        groups.lasting = world.forms.both(groups.lasting, operand)?;
+        return Ok(());
+    }
+    groups.others.push(operand)?;
+    Ok(())
+}

@@ -1,0 +1,29 @@
+//! Why a translation ends without an automaton.
+
+use std::alloc::{AllocError, AllocFailed};
+
+/// Why a translation ends without an automaton.
+#[derive(Debug, Clone, Copy, PartialEq, Eq)]
+pub(crate) enum Stop {
+    /// Memory ran out.
+    Memory,
+    /// A limit was passed: the budget of steps, or the size of a table.
+    Limit,
+}
+
+impl From<AllocError> for Stop {
+    fn from(_error: AllocError) -> Self {
+        Stop::Memory
+    }
+}
+
+impl<T: Drop> From<AllocFailed<T>> for Stop {
+    fn from(_error: AllocFailed<T>) -> Self {
+        Stop::Memory
+    }
+}
+
+/// A number as an index of 32 bits.
+pub(crate) fn index(number: usize) -> Result<u32, Stop> {
+    u32::try_from(number).map_err(|_error| Stop::Limit)
+}
