@@ -27,7 +27,7 @@ FAMILIES = {
     "what formulas, tableaux and fair cycles have of their own, as games and automata do": "AreDistinct Fits IsAnswer IsRun Keeps Leads",
 }
 # Acceptance marks are those of HOA texts; a fair cycle has marks of any kind on its edges.
-WITH_MARKS = ("ps_hoa", "ps_automaton", "ps_automaton_tests", "ps_fairness", "ps_game_tests", "ps_models")
+WITH_MARKS = ("ps_hoa", "ps_automaton", "ps_automaton_tests", "ps_fairness", "ps_game_tests", "ps_models", "ps_translation")
 PLAYER = re.compile(r"\b(?:player|owner|winner)s?: u8\b|\((?:player|owner|winner)\b[^)]*\): \(u8\b")
 NUMBERS_OF_PLAYERS = {
     "ps_game/src/builder.rt": "`GameBuilder::vertex` takes the number of an owner",
