@@ -104,6 +104,11 @@ or_by_and a b = record {
   );
 }
 
+-- a conjunction with its sides exchanged has the same forms
+pub and_turned : {nodes : List NormalNode} {forms : Forms} {a b : Formula} → AreForms nodes (and_of b a) forms →
+    AreForms nodes (and_of a b) forms
+and_turned forms = forms_like (record { same = λ w i word. (λ s. (s.1, s.0), λ s. (s.1, s.0)) }) forms
+
 pub implies_by_or : (a b : Formula) → AreEquivalent (or_of (not_of a) b) (implies a b)
 implies_by_or a b = record {
   same = λ w i word. (

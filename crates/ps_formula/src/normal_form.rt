@@ -1,9 +1,10 @@
 //! The negation normal form of a formula, and of its negation.
 //!
 //! Each formula of a table gets two nodes, one for itself and one for its negation, so that no operator needs its
-//! operands more than once, `<->` not excepted.
+//! operands more than once, `<->` not excepted. An operator with a constant operand gets no node if its formula is a
+//! constant too, or its other operand.
 
-ghost use Rattle.std.specs.Prelude.{◌≡◌, ℕ, ◌+◌, ◌*◌, ◌<◌, ◌≤◌, List, IfOk, OnOk, length};
+ghost use Rattle.std.specs.Prelude.{◌≡◌, ℕ, ◌+◌, ◌*◌, ◌<◌, ◌≤◌, List, IfOk, IfSome, IsTrue, OnOk, length};
 ghost use Rattle.ps_formula.specs.declared.normal_node.NormalNode.{NormalNode};
 ghost use Rattle.ps_formula.specs.Formulas.{Formula, IsOver, IsTable, constant, proposition, and_of, or_of, iff, next};
 ghost use Rattle.ps_formula.specs.Formulas.{finally, formula_of, formulas_of, globally, release, until, weak_until};
@@ -135,9 +136,30 @@ fn both(table: &mut NormalFormulas, f: Forms, g: Forms) -> Result<Forms, AllocEr
     ensures forms { IfOk result (λ forms. (a b : Formula) → AreForms table.old a f → AreForms table.old b g →
         AreForms table.new (and_of a b) forms) }
 {
+    if let Some(forms) = constant_side(table, f, g) {
+        return Ok(forms);
+    }
+    if let Some(forms) = constant_side(table, g, f) {
+        return Ok(forms);
+    }
     let formula = NormalNode::And(f.formula, g.formula);
     let negation = NormalNode::Or(f.negation, g.negation);
     pair(table, formula, negation)
+}
+
+/// The forms of `f && g` if `f` is a constant.
+fn constant_side(table: &NormalFormulas, f: Forms, g: Forms) -> Option<Forms>
+    requires f { AreWithin table.now f }
+    requires g { AreWithin table.now g }
+    ensures within { IfSome result (AreWithin table.now) }
+    ensures forms { IfSome result (λ forms. (a b : Formula) → AreForms table.now a f → AreForms table.now b g →
+        AreForms table.now (and_of a b) forms) }
+{
+    match table.constant(f.formula) {
+        Some(true) => Some(g),
+        Some(false) => Some(f),
+        None => None,
+    }
 }
 
 /// The forms of `f || g`.
@@ -172,6 +194,9 @@ fn next(table: &mut NormalFormulas, f: Forms) -> Result<Forms, AllocError>
     ensures forms { IfOk result (λ forms. (a : Formula) → AreForms table.old a f →
         AreForms table.new (next a) forms) }
 {
+    if table.constant(f.formula).is_some() {
+        return Ok(f);
+    }
     let formula = NormalNode::Next(f.formula);
     let negation = NormalNode::Next(f.negation);
     pair(table, formula, negation)
@@ -185,9 +210,25 @@ fn until(table: &mut NormalFormulas, f: Forms, g: Forms) -> Result<Forms, AllocE
     ensures forms { IfOk result (λ forms. (a b : Formula) → AreForms table.old a f → AreForms table.old b g →
         AreForms table.new (until a b) forms) }
 {
+    if is_decided_now(table, f, g) {
+        return Ok(g);
+    }
     let formula = NormalNode::Until(f.formula, g.formula);
     let negation = NormalNode::Release(f.negation, g.negation);
     pair(table, formula, negation)
+}
+
+/// Whether `f U g` is `g` since `f` is `false`, or `g` is a constant.
+fn is_decided_now(table: &NormalFormulas, f: Forms, g: Forms) -> bool
+    requires f { AreWithin table.now f }
+    requires g { AreWithin table.now g }
+    ensures { IsTrue result → (a b : Formula) → AreForms table.now a f → AreForms table.now b g →
+        AreForms table.now (until a b) g }
+{
+    match table.constant(g.formula) {
+        Some(_) => true,
+        None => matches!(table.constant(f.formula), Some(false)),
+    }
 }
 
 /// The forms of `f R g`.

@@ -1,8 +1,8 @@
 //! Tables of formulas in negation normal form.
 
-ghost use Rattle.std.specs.Prelude.{◌≡◌, ◌^◌, ◌<◌, [], IfOk, OnErr, length};
+ghost use Rattle.std.specs.Prelude.{◌≡◌, ◌^◌, ◌<◌, [], IfOk, IfSome, OnErr, length};
 ghost use Rattle.ps_formula.specs.Formulas.{IsAdded};
-ghost use Rattle.ps_formula.specs.NormalForms.{IsNormalOver, IsNormalTable};
+ghost use Rattle.ps_formula.specs.NormalForms.{IsNormalOver, IsNormalTable, normal_formula_at, truth};
 
 use crate::normal_node::NormalNode;
 use ps_keys::KeyList;
@@ -65,5 +65,16 @@ impl NormalFormulas {
         let index = self.nodes.place_of(node)?;
         let _ = self.nodes.len();
         Ok(index as u32)
+    }
+
+    /// The value of a formula that is `true` or `false`.
+    pub(crate) fn constant(&self, index: u32) -> Option<bool>
+        requires { index < length self.now }
+        ensures { IfSome result (λ value. normal_formula_at self.now index ≡ truth value) }
+    {
+        match self.as_slice()[index as usize] {
+            NormalNode::Constant(value) => Some(value),
+            _ => None,
+        }
     }
 }

@@ -52,6 +52,7 @@ fn node(table: &Formulas, stack: &mut Vec<u32>, sign: u8) -> Option<Node>
     ensures { IfSome result (IsOver (length table.now)) }
 {
     match sign {
+        b'0' | b'1' => Some(Node::Constant(sign == b'1')),
         b'a'..=b'd' => Some(Node::Proposition((sign - b'a') as u32)),
         b'!' | b'X' | b'F' | b'G' => unary(sign, operand(table, stack)?),
         _ => {
@@ -149,5 +150,7 @@ fn formulas_on_lassos(rt: HostRuntime) -> Result<(), AllocError> {
 fn normal_forms(rt: HostRuntime) -> Result<(), AllocError> {
     assert_eq!(rt; normal_size(rt.alloc(), b"abU")?, Some(6));
     assert_eq!(rt; normal_size(rt.alloc(), b"ab=b=a=")?, Some(22));
+    assert_eq!(rt; normal_size(rt.alloc(), b"a1&b0|U")?, Some(8));
+    assert_eq!(rt; normal_size(rt.alloc(), b"0X1U")?, Some(2));
     Ok(())
 }
