@@ -38,6 +38,7 @@ struct Visit {
 /// A depth-first search.
 #[derive(Drop)]
 struct Search {
+    vertices: usize,
     edges: Vec<Ends>,
     /// For each vertex, its last edge.
     last: Column,
@@ -59,23 +60,29 @@ struct Search {
 
 /// The components that have edges, each as the list of its edges, in their order.
 pub(crate) fn components(alloc: Global, edges: &[Edge]) -> Result<Vec<Vec<Edge>>, Stop> {
+    let mut search = search_of(alloc, edges)?;
+    search.run()?;
+    search.lists(alloc, edges)
+}
+
+/// A search of the graph of some edges, with its vertices numbered.
+fn search_of(alloc: Global, edges: &[Edge]) -> Result<Search, Stop> {
     let mut vertices = KeyList::new(alloc);
     let mut search = Search::new(alloc);
     for edge in edges {
         let source = vertices.place_of(edge.source as u64)?;
         let target = vertices.place_of(edge.target as u64)?;
-        search.add(index(source)?, index(target)?)?;
+        search.add(source, target)?;
     }
-    for vertex in 0..vertices.len() {
-        search.visit(index(vertex)?)?;
-    }
-    search.lists(alloc, edges)
+    search.vertices = vertices.len();
+    Ok(search)
 }
 
 impl Search {
     /// A search of a graph without edges.
     fn new(alloc: Global) -> Self {
         Search {
+            vertices: 0,
             edges: Vec::new(alloc),
             last: Column::new(alloc, NONE),
             met: Column::new(alloc, 0),
@@ -89,7 +96,8 @@ impl Search {
     }
 
     /// Adds an edge.
-    fn add(&mut self, source: u32, target: u32) -> Result<(), Stop> {
+    fn add(&mut self, source: usize, target: usize) -> Result<(), Stop> {
+        let (source, target) = (index(source)?, index(target)?);
         let edge = index(self.edges.len())?;
         self.edges.push(Ends {
             source,
@@ -97,6 +105,14 @@ impl Search {
             earlier: self.last.get(source),
         })?;
         self.last.set(source, edge)
+    }
+
+    /// Finds all components.
+    fn run(&mut self) -> Result<(), Stop> {
+        for vertex in 0..self.vertices {
+            self.visit(index(vertex)?)?;
+        }
+        Ok(())
     }
 
     /// Finds the components of the vertices that a vertex leads to.

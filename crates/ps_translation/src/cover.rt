@@ -1,8 +1,8 @@
 //! Sums of products for the letters that lead from a state to one end of its row.
 //!
 //! They are irredundant: no product and no literal can be left out (Morreale, "Recursive Operators for Prime Implicant
-//! and Irredundant Normal Form Determination", 1970; on diagrams, Minato, "Fast Generation of Irredundant Sum-of-Products
-//! Forms from Binary Decision Diagrams", 1992).
+//! and Irredundant Normal Form Determination", 1970; on diagrams, Minato, "Fast Generation of Irredundant
+//! Sum-of-Products Forms from Binary Decision Diagrams", 1992).
 
 use crate::diagrams::{Diagram, Diagrams, FALSE, PROPOSITIONS, REFUSED, TRUE, Test};
 use crate::stop::Stop;

@@ -99,6 +99,13 @@ impl Diagrams {
         Ok(())
     }
 
+    /// Takes some steps from the budget.
+    pub(crate) fn take(&mut self, count: usize) -> Result<(), Stop> {
+        let count = index(count)?;
+        self.steps = self.steps.checked_sub(count).ok_or(Stop::Limit)?;
+        Ok(())
+    }
+
     /// The diagram that has a number at each letter.
     pub(crate) fn leaf(&mut self, number: u32) -> Result<Diagram, Stop> {
         let place = self.nodes.place_of((LEAF, number, number))?;

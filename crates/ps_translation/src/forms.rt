@@ -359,19 +359,32 @@ impl Forms {
     /// `F` of each operand of a disjunction, those that are guarantees taken together.
     fn finally_each(&mut self, form: Form) -> Result<Form, Stop> {
         let operands = self.operands(form ^ 1)?;
-        let mut together = FALSE;
-        let mut made = FALSE;
+        let mut sides = Sides {
+            left: FALSE,
+            right: FALSE,
+        };
         for operand in &operands {
-            let operand = *operand ^ 1;
-            if self.class(operand).is_guarantee {
-                together = self.either(together, operand)?;
-            } else {
-                let one = self.until_now(TRUE, operand)?;
-                made = self.either(made, one)?;
-            }
+            sides = self.with_operand(sides, *operand ^ 1)?;
         }
-        let one = self.until_now(TRUE, together)?;
-        self.either(made, one)
+        self.finally_both(sides)
+    }
+
+    /// A disjunction of guarantees, and one of formulas `F f`, with one more operand.
+    fn with_operand(&mut self, sides: Sides, operand: Form) -> Result<Sides, Stop> {
+        let Sides { left, right } = sides;
+        if self.class(operand).is_guarantee {
+            let left = self.either(left, operand)?;
+            return Ok(Sides { left, right });
+        }
+        let one = self.until_now(TRUE, operand)?;
+        let right = self.either(right, one)?;
+        Ok(Sides { left, right })
+    }
+
+    /// `F f || g`
+    fn finally_both(&mut self, sides: Sides) -> Result<Form, Stop> {
+        let one = self.until_now(TRUE, sides.left)?;
+        self.either(sides.right, one)
     }
 
     /// `F` of a conjunction: if all operands are `G f`, also with operators `X` around it, this is `F G` of each.
@@ -474,17 +487,17 @@ impl Forms {
         match node {
             Node::Constant(value) => Ok(if value { TRUE } else { FALSE }),
             Node::Proposition(p) => self.proposition(p),
-            Node::Not(f) => Ok(at(known, f)? ^ 1),
-            Node::And(f, g) => self.both(at(known, f)?, at(known, g)?),
-            Node::Or(f, g) => self.either(at(known, f)?, at(known, g)?),
-            Node::Implies(f, g) => self.either(at(known, f)? ^ 1, at(known, g)?),
-            Node::Iff(f, g) => self.same(at(known, f)?, at(known, g)?),
-            Node::Next(f) => self.next(at(known, f)?),
-            Node::Until(f, g) => self.until(at(known, f)?, at(known, g)?),
-            Node::Release(f, g) => self.release(at(known, f)?, at(known, g)?),
-            Node::WeakUntil(f, g) => self.weak_until(at(known, f)?, at(known, g)?),
-            Node::Finally(f) => self.until(TRUE, at(known, f)?),
-            Node::Globally(f) => self.release(FALSE, at(known, f)?),
+            Node::Not(f) => Ok(at(known, f) ^ 1),
+            Node::And(f, g) => self.both(at(known, f), at(known, g)),
+            Node::Or(f, g) => self.either(at(known, f), at(known, g)),
+            Node::Implies(f, g) => self.either(at(known, f) ^ 1, at(known, g)),
+            Node::Iff(f, g) => self.same(at(known, f), at(known, g)),
+            Node::Next(f) => self.next(at(known, f)),
+            Node::Until(f, g) => self.until(at(known, f), at(known, g)),
+            Node::Release(f, g) => self.release(at(known, f), at(known, g)),
+            Node::WeakUntil(f, g) => self.weak_until(at(known, f), at(known, g)),
+            Node::Finally(f) => self.until(TRUE, at(known, f)),
+            Node::Globally(f) => self.release(FALSE, at(known, f)),
         }
     }
 
@@ -508,13 +521,13 @@ impl Forms {
             let form = self.of_node(*node, &known)?;
             known.push(form)?;
         }
-        at(&known, root)
+        Ok(at(&known, root))
     }
 }
 
 /// The formula at an index of a list.
-fn at(known: &[Form], place: u32) -> Result<Form, Stop> {
-    known.get(place as usize).copied().ok_or(Stop::Limit)
+fn at(known: &[Form], place: u32) -> Form {
+    known.get(place as usize).copied().unwrap_or(FALSE)
 }
 
 /// The node of the negation of a formula, whose operands are the negations of its operands.

@@ -8,12 +8,12 @@
 //! It is proved that the calls are safe and end, and nothing else: that an automaton is right has to be judged. A
 //! translation that needs too many steps gives none.
 //!
-//! The formula is simplified (`forms`) and parted where its top is Boolean (`split`), and brought
-//! nearer to a normal form where a part is of no class that has automata (`normal`). Each part has a deterministic
-//! automaton (`part`), whose states are what is owed (`progression`), as diagrams (`diagrams`). Their product (`product`)
-//! has a condition on the marks of all parts, which the alternating cycle decomposition (`cycles`, `components`) makes
-//! a parity condition (`parity`). States that cannot be told apart are joined (`machine`), and labels are written as short sums of
-//! products (`cover`, `text`).
+//! The formula is simplified (`forms`) and parted where its top is Boolean (`split`), and brought nearer to a normal
+//! form where a part is of no class that has automata (`normal`). Each part has a deterministic automaton (`part`),
+//! whose states are what is owed (`progression`), as diagrams (`diagrams`). Their product (`product`) has a condition
+//! on the marks of all parts, which the alternating cycle decomposition (`cycles`, `components`) makes a parity
+//! condition (`parity`). States that cannot be told apart are joined (`machine`), and labels are written as short sums
+//! of products (`cover`, `text`).
 #![tactic(auto)]
 
 mod column;

@@ -123,6 +123,7 @@ impl Machine {
         next: &mut Classes,
         state: u32,
     ) -> Result<(), Stop> {
+        diagrams.step()?;
         let row = self.row(state);
         let ends = diagrams.ends(row)?;
         let mut map = KeyMap::new(self.alloc);

@@ -11,7 +11,7 @@
 //! | `f R g` | `(g U (f && g)) \|\| G g` |
 //! | `G h[f U g]` | `(G F g && G h[f W g]) \|\| (h[f U g] U G h[false])` |
 
-use crate::forms::{FALSE, Form, Forms, TRUE};
+use crate::forms::{FALSE, Form, Forms, Sides, TRUE};
 use crate::stop::Stop;
 use ps_formula::NormalNode;
 use ps_keys::KeyMap;
@@ -19,13 +19,6 @@ use std::alloc::Global;
 
 /// The most formulas of a table that is brought into normal form.
 const FORMULAS: usize = 30_000;
-
-/// The operands of an operator with two.
-#[derive(Clone, Copy)]
-struct Operands {
-    left: Form,
-    right: Form,
-}
 
 /// A formula that is the same as a given one, and nearer to the normal form.
 pub(crate) fn normalised(alloc: Global, forms: &mut Forms, form: Form) -> Result<Form, Stop> {
@@ -70,7 +63,7 @@ fn again(alloc: Global, forms: &mut Forms, below: &[Form], form: Form) -> Result
         .copied()
         .find(|each| *each != form && release(forms, *each).is_some());
     let inner = found.ok_or(Stop::Limit)?;
-    let Operands { left, right } = release(forms, inner).ok_or(Stop::Limit)?;
+    let Sides { left, right } = release(forms, inner).ok_or(Stop::Limit)?;
     let until = ended(forms, left, right)?;
     let with_until = replaced(alloc, forms, form, inner, until)?;
     let kept = forms.release(FALSE, right)?;
@@ -81,9 +74,9 @@ fn again(alloc: Global, forms: &mut Forms, below: &[Form], form: Form) -> Result
 }
 
 /// The operands of a formula `f R g`.
-fn release(forms: &Forms, form: Form) -> Option<Operands> {
+fn release(forms: &Forms, form: Form) -> Option<Sides> {
     match forms.node(form) {
-        NormalNode::Release(left, right) => Some(Operands { left, right }),
+        NormalNode::Release(left, right) => Some(Sides { left, right }),
         _ => None,
     }
 }
@@ -102,7 +95,7 @@ fn mixed_release(forms: &Forms, below: &[Form]) -> Option<Form> {
 
 /// A formula `f R g` with one operator `U` fewer in g, or without f.
 fn released(alloc: Global, forms: &mut Forms, form: Form) -> Result<Form, Stop> {
-    let Operands { left, right } = release(forms, form).ok_or(Stop::Limit)?;
+    let Sides { left, right } = release(forms, form).ok_or(Stop::Limit)?;
     let always = if forms.class(right).is_safety {
         forms.release(FALSE, right)?
     } else {
@@ -114,8 +107,8 @@ fn released(alloc: Global, forms: &mut Forms, form: Form) -> Result<Form, Stop> 
 
 /// A formula `G h` with one operator `U` fewer in h.
 fn globally(alloc: Global, forms: &mut Forms, inner: Form) -> Result<Form, Stop> {
-    let below = forms.below(inner)?;
-    let (until, Operands { left, right }) = first_until(forms, &below).ok_or(Stop::Limit)?;
+    let until = first_until(forms, inner)?;
+    let Sides { left, right } = forms.sides(until);
     let either = forms.either(left, right)?;
     let weak = forms.release(right, either)?;
     let with_weak = replaced(alloc, forms, inner, until, weak)?;
@@ -129,14 +122,14 @@ fn globally(alloc: Global, forms: &mut Forms, inner: Form) -> Result<Form, Stop>
     forms.either(one, other)
 }
 
-/// An innermost formula `f U g`, with f and g.
-fn first_until(forms: &Forms, below: &[Form]) -> Option<(Form, Operands)> {
-    for each in below {
-        if let NormalNode::Until(left, right) = forms.node(*each) {
-            return Some((*each, Operands { left, right }));
-        }
-    }
-    None
+/// An innermost formula `f U g`.
+fn first_until(forms: &Forms, form: Form) -> Result<Form, Stop> {
+    let below = forms.below(form)?;
+    let found = below
+        .iter()
+        .copied()
+        .find(|each| matches!(forms.node(*each), NormalNode::Until(..)));
+    found.ok_or(Stop::Limit)
 }
 
 /// A formula in which each occurrence of a formula inside is replaced by another.

@@ -32,6 +32,8 @@ pub(crate) struct Progression {
     alloc: Global,
     pub(crate) forms: Forms,
     pub(crate) diagrams: Diagrams,
+    /// Whether a formula was brought nearer to the normal form.
+    pub(crate) is_normalised: bool,
     /// The atoms, whose variables come behind those of the propositions, in this order.
     atoms: KeyList<u64>,
     /// The diagrams of formulas.
@@ -51,6 +53,7 @@ impl Progression {
             alloc,
             forms,
             diagrams,
+            is_normalised: false,
             atoms: KeyList::new(alloc),
             moments: KeyMap::new(alloc),
             stepped: KeyMap::new(alloc),

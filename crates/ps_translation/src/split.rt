@@ -60,13 +60,15 @@ impl Split {
         self.parts
     }
 
-    /// A formula as a diagram, in which the variable i stands for the part i.
+    /// A formula as a diagram, in which the variable i stands for the part i. If `is_negated`, what is brought nearer
+    /// to the normal form is the negation.
     pub(crate) fn function(
         &mut self,
         world: &mut Progression,
         form: Form,
+        is_negated: bool,
     ) -> Result<Diagram, Stop> {
-        self.function_at(NESTING, world, form, false)
+        self.function_at(NESTING, world, form, is_negated)
     }
 
     /// Like `function`, at a depth. A formula that stands for its negation is brought nearer to the normal form as this
@@ -99,6 +101,7 @@ impl Split {
             let negation = self.function_at(depth - 1, world, form ^ 1, !is_negated)?;
             return world.diagrams.negated(negation);
         }
+        world.is_normalised = true;
         let sign = u32::from(is_negated);
         let nearer = normalised(self.alloc, &mut world.forms, form ^ sign)? ^ sign;
         self.function_at(depth - 1, world, nearer, is_negated)

@@ -35,14 +35,38 @@ pub fn titled(
     }
 }
 
-/// Like `titled`.
+/// Like `titled`. If no automaton is found by way of the normal form of the formula, that of its negation is tried.
 fn automaton(
     alloc: Global,
     specification: &Specification,
     title: Option<&[u8]>,
 ) -> Result<Vec<u8>, Stop> {
     let mut world = Progression::new(alloc)?;
-    let parity = translation(alloc, &mut world, specification)?;
+    match written(alloc, &mut world, specification, title, false) {
+        Err(Stop::Limit) if world.is_normalised => again(alloc, specification, title),
+        result => result,
+    }
+}
+
+/// Like `automaton`, by the normal form of the negation.
+fn again(
+    alloc: Global,
+    specification: &Specification,
+    title: Option<&[u8]>,
+) -> Result<Vec<u8>, Stop> {
+    let mut world = Progression::new(alloc)?;
+    written(alloc, &mut world, specification, title, true)
+}
+
+/// The text of the automaton of a specification.
+fn written(
+    alloc: Global,
+    world: &mut Progression,
+    specification: &Specification,
+    title: Option<&[u8]>,
+    is_negated: bool,
+) -> Result<Vec<u8>, Stop> {
+    let parity = translation(alloc, world, specification, is_negated)?;
     text(
         alloc,
         &mut world.diagrams,
@@ -57,11 +81,12 @@ fn translation(
     alloc: Global,
     world: &mut Progression,
     specification: &Specification,
+    is_negated: bool,
 ) -> Result<Parity, Stop> {
     let nodes = specification.table.as_slice();
     let form = world.forms.of_table(nodes, specification.root)?;
     let mut split = Split::new(alloc);
-    let condition = split.function(world, form)?;
+    let condition = split.function(world, form, is_negated)?;
     let safeties = safeties(&split);
     made(alloc, world, split, condition, safeties)
 }
