@@ -3,8 +3,8 @@
 ghost use Rattle.std.specs.Prelude.{◌≡◌, ◌<◌, ◌-◌, ◌++◌, ◌∷◌, ◌+◌, ℕ, IfOk, IfNone, IfSome, List, OnOk, Some, length};
 ghost use Rattle.std.specs.Prelude.{slice_get};
 ghost use Rattle.ps_components.specs.ComponentLists.{AreAllMet, AreComponents, IsIn};
-ghost use Rattle.ps_components.specs.Graphs.{Link};
-ghost use Rattle.ps_fairness.specs.Marks.{IsEdge, IsFairCycle};
+ghost use Rattle.ps_components.specs.Graphs.{Link, SameOrWay};
+ghost use Rattle.ps_fairness.specs.Marks.{IsEdge, IsFairCycle, Leads};
 ghost use Rattle.ps_fairness.specs.Inner.Inside.{AreInside, GoesOnTo, IsWalkBack, JoinsAll};
 
 use crate::edge::Edge;
@@ -27,7 +27,27 @@ pub fn fair_cycle<G: Marked>(alloc: Global, graph: &G) -> Result<Option<Vec<Edge
     fair_cycle_within(alloc, graph, &components)
 }
 
-/// The same, given the components of all vertices.
+/// The edges of a path from one vertex to another, each of which leads to the vertex of the next one; no edges if the
+/// vertices are the same. The result is `None` if there is no path. Fails if out of memory.
+pub fn walk_to<G: Graph>(
+    alloc: Global,
+    graph: &G,
+    from: usize,
+    to: usize,
+) -> Result<Option<Vec<Edge>>, AllocError>
+    requires { from < (G.graph graph.now).count }
+    ensures found { IfOk result (λ way. IfSome way (λ walk. Leads (G.graph graph.now) walk.items from to)) }
+    ensures none { IfOk result (λ way. IfNone way (¬ SameOrWay (G.graph graph.now) from to)) }
+{
+    let Some(trail) = way_back(alloc, graph, from, to)? else {
+        return Ok(None);
+    };
+    let mut walk = Vec::new(alloc);
+    append_trail(graph, &trail, &mut walk)?;
+    Ok(Some(walk))
+}
+
+/// The result of `fair_cycle`, given the components of all vertices.
 fn fair_cycle_within<G: Marked>(
     alloc: Global,
     graph: &G,

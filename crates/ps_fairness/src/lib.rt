@@ -6,6 +6,7 @@
 //! | Call | What it gives |
 //! |---|---|
 //! | `fair_cycle(graph)` | a closed walk of one or more edges on which each mark occurs, or none if there is none |
+//! | `walk_to(graph, from, to)` | the edges of a path from one vertex to another, or none if there is none |
 //!
 //! All edges of a closed walk are in one strongly connected component. Conversely, if each mark is on an edge within a
 //! component, paths within the component join these edges to a closed walk. So the search takes the components one
@@ -21,6 +22,6 @@ mod full;
 mod inner;
 mod marked;
 
-pub use cycles::fair_cycle;
+pub use cycles::{fair_cycle, walk_to};
 pub use edge::Edge;
 pub use marked::Marked;

@@ -6,15 +6,16 @@ use Rattle.std.specs.List.{Contains}
 use Rattle.std.proofs.lemmas.Bool.{cases_eq, eq-eqb, ne_eqb}
 use Rattle.std.proofs.lemmas.List.{get_or_default}
 use Rattle.ps_hoa.specs.Files.{is_among}
-use Rattle.ps_hoa.specs.Sound.{AreNames}
 use Rattle.ps_diagram.proofs.Cells.{push_each, true_is_not_false}
-use Rattle.ps_simulate.specs.Symbols.{AreNamesOnce, IsSymbol, reads_controllable, sets_controllable}
+use Rattle.ps_simulate.specs.Symbols.{AreDistinct, AreNamesOnce, IsSymbol, reads_controllable}
+use Rattle.ps_simulate.specs.Symbols.{sets_controllable}
 use Rattle.ps_simulate.specs.declared.role.Role.{Role}
 use Rattle.ps_simulate.specs.declared.role.Role.TheVariants.{Controller, Environment}
 use Rattle.ps_circuit.specs.Circuits.{CircuitData}
 use Rattle.ps_product.specs.declared.roles.Roles.{Roles}
-use Rattle.ps_simulate.proofs.NamingLemmas.{names_differ, some_same, within}
-use Rattle.ps_product.specs.Inner.Roles.{AreRoles, IsFull, IsListing}
+use Rattle.ps_simulate.proofs.NamingLemmas.{some_same, within}
+use Rattle.ps_product.specs.Roles.{AreRoles}
+use Rattle.ps_product.specs.Inner.Roles.{IsFull, IsListing}
 
 -- ## Numbers in lists
 
@@ -78,7 +79,7 @@ module _ (names : List (List ℕ)) (controllable : List ℕ) (wanted : Bool) (sy
       let same = once.once at.0 k p r s in
       absurd (omega (arith, same, at.1, h.one_each))
 
-  module _ (differ : AreNames names) {list : List ℕ}
+  module _ (differ : AreDistinct names) {list : List ℕ}
       (h : IsListing names controllable wanted symbols (length symbols) list) where
     -- the proposition that a symbol names is in the list of propositions, at the index that the symbol has in its own
     -- list
@@ -87,7 +88,7 @@ module _ (names : List (List ℕ)) (controllable : List ℕ) (wanted : Bool) (sy
         let lt : k < length list = omega (arith, h.one_each, within symbols k (get_or names p []) s.is) in
         let r = h.each k lt in (
           lt,
-          names_differ names differ (get_or list k 0) p r.within s.within
+          differ (get_or list k 0) p r.within s.within
               (some_same (get_or names (get_or list k 0) []) (get_or names p []) (sym r.is ∙ s.is)),
         )
 

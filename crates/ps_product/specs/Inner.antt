@@ -10,4 +10,3 @@ pub mod Numbers
 pub mod Plans
 pub mod Roles
 pub mod Stored
-pub mod Words

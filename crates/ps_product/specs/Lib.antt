@@ -1,6 +1,10 @@
 pub mod Truths
 pub mod Products
 pub mod Vertices
+pub mod Roles
+pub mod Words
+pub mod Numbers
+pub mod Groups
 pub mod ProductFaults
 pub mod ProductFaultNames
 pub mod Inner

@@ -1,7 +1,8 @@
 //! Refines a diagram so that its leaves also distinguish the values of given Boolean functions (truths).
 
 ghost use Rattle.std.specs.Prelude.{All, IsTrue, [], ◌∷◌};
-ghost use Rattle.ps_product.specs.Inner.Edges.{CanSplit, Groups, IsToldApart, IsWhole};
+ghost use Rattle.ps_product.specs.Groups.{Groups, IsWhole};
+ghost use Rattle.ps_product.specs.Inner.Edges.{CanSplit, IsToldApart};
 ghost use Rattle.ps_product.specs.Truths.{IsTruth};
 
 use crate::truth::Truth;
@@ -11,7 +12,7 @@ use std::alloc::{AllocError, Global};
 
 /// A node that has the same leaf at two letters exactly if `node` has the same leaf at both, and each function in
 /// `truths` has the same value at both.
-pub(crate) fn grouped(
+pub fn grouped(
     alloc: Global,
     store: &mut Store,
     node: Node,

@@ -12,7 +12,13 @@
 //! | `ProductFault::number`, `name` | the fault's number and name in psyn's list of faults |
 //! | `Truths::new(store)`, `proposition`, `both`, `into_store` | makes truths, whose diagrams are added to a store |
 //! | `Truth::negated` | the negation of a truth, which has the same diagram |
+//! | `roles_for(circuit, names, controllable, role)` | the `Roles`: the propositions of a circuit's inputs and outputs |
 //! | `Evaluator::new(circuit)`, `at(propositions, latches, truths)` | the truths of outputs and next latches |
+//! | `nodes_of(store, list, outputs)`, `grouped(store, node, truths)` | diagrams of propositions; letters told apart |
+//! | `bits_of(store, truths, letter)`, `some_differs(truths)` | the values of truths at a letter; whether one varies |
+//! | `Numbering::new()`, `len`, `vertex`, `number`, `numbers_of(edges)` | vertices and their numbers |
+//! | `Words::new()`, `number_of(bits)` | numbers for lists of bits |
+//! | `moves_first(order, role)` | whether the circuit's player moves first |
 //!
 //! The law `outcome_is_the_step` says that the functions which an evaluator computes have, at each letter, the values
 //! of the circuit's step.
@@ -40,8 +46,15 @@ mod truth;
 mod vertex;
 mod words;
 
+pub use edges::{Edge, some_differs};
 pub use evaluator::{Evaluator, Outcome};
 pub use fault::ProductFault;
+pub use grouping::grouped;
 pub use laws::outcome_is_the_step;
-pub use product::Product;
+pub use nodes::{bits_of, nodes_of};
+pub use numbering::{Numbered, Numbering, numbers_of};
+pub use product::{Product, moves_first};
+pub use roles::{Roles, roles_for};
 pub use truth::{Truth, Truths};
+pub use vertex::Vertex;
+pub use words::Words;

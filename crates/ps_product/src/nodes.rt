@@ -5,7 +5,7 @@ ghost use Rattle.std.specs.Prelude.{slice_index};
 ghost use Rattle.ps_diagram.specs.Composing.{IsLetterOfTruths};
 ghost use Rattle.ps_diagram.specs.Table.{IsNode, Keeps, MakesNode, leaf_of};
 ghost use Rattle.ps_label.specs.Truth.{is_in};
-ghost use Rattle.ps_product.specs.Inner.Edges.{AreDifferent, StandFor};
+ghost use Rattle.ps_product.specs.Groups.{AreDifferent, StandFor};
 ghost use Rattle.ps_product.specs.Truths.{IsTruth, bits_of, truth_at};
 
 use crate::truth::Truth;
@@ -33,7 +33,7 @@ fn node_of(store: &mut Store, truth: Truth) -> Result<Node, AllocError>
 
 /// For each proposition, a diagram of its value as a function of the inputs. The diagram of an output's proposition is
 /// that of the output's function; for any other proposition, it is the diagram of the proposition itself.
-pub(crate) fn nodes_of(
+pub fn nodes_of(
     alloc: Global,
     store: &mut Store,
     list: &[u32],
@@ -97,7 +97,7 @@ fn with_bit(letter: u64, p: usize, bit: bool) -> u64
 }
 
 /// The values of a list of Boolean functions (truths) at a letter.
-pub(crate) fn bits_of(
+pub fn bits_of(
     alloc: Global,
     store: &Store,
     truths: &[Truth],

@@ -1,21 +1,21 @@
-//! Assigns propositions of an automaton to the inputs and outputs of a circuit.
+//! Assigns propositions to the inputs and outputs of a circuit.
 
 ghost use Rattle.std.specs.Prelude.{◌≡◌, ◌<◌, ◌≤◌, ℕ, false, true, IfNone, IfOk, IfSome, length, map};
 ghost use Rattle.std.specs.Option.{option_copied};
 ghost use Rattle.ps_hoa.specs.Files.{is_among};
 ghost use Rattle.ps_hoa.specs.Memory.{bytes_of};
-ghost use Rattle.ps_hoa.specs.Sound.{AreNames};
-ghost use Rattle.ps_simulate.specs.Symbols.{AreNamesOnce, HasSymbols};
-ghost use Rattle.ps_product.specs.Inner.Roles.{AreRoles, IsFull, IsListing};
+ghost use Rattle.ps_simulate.specs.Symbols.{AreDistinct, AreNamesOnce, HasSymbols};
+ghost use Rattle.ps_product.specs.Roles.{AreRoles};
+ghost use Rattle.ps_product.specs.Inner.Roles.{IsFull, IsListing};
 
 use ps_automaton::Automaton;
 use ps_circuit::Circuit;
 use ps_simulate::{Role, input_symbols, is_in_list, output_symbols, proposition_of};
 use std::alloc::{AllocError, Global};
 
-/// The automaton's propositions that a circuit's inputs and outputs stand for.
+/// The propositions that a circuit's inputs and outputs stand for.
 #[derive(Drop)]
-pub(crate) struct Roles {
+pub struct Roles {
     /// The proposition of each input.
     pub inputs: Vec<u32>,
     /// The proposition of each output.
@@ -37,7 +37,27 @@ pub(crate) fn roles_of(
         circuit.now)) }
 {
     let names = automaton.names();
-    let controllable = automaton.controllable();
+    roles_for(alloc, circuit, names, automaton.controllable(), role)
+}
+
+/// Finds the propositions of a circuit's inputs and outputs, given the names of all propositions, and the numbers of the
+/// controllable ones. The result is `None` if the circuit's symbols are not those that a controller or an environment,
+/// as `role` states, must have. Fails if memory runs out.
+pub fn roles_for(
+    alloc: Global,
+    circuit: &Circuit,
+    names: &[Vec<u8>],
+    controllable: &[u32],
+    role: Role,
+) -> Result<Option<Roles>, AllocError>
+    requires few { length names.now ≤ 64 }
+    requires distinct { AreDistinct (map bytes_of names.now) }
+    ensures some { IfOk result (λ roles. IfSome roles (AreRoles (map bytes_of names.now) circuit.now)) }
+    ensures fits { IfOk result (λ roles. IfSome roles (λ _.
+        HasSymbols role (map bytes_of names.now) controllable.now circuit.now)) }
+    ensures none { IfOk result (λ roles. IfNone roles (¬ HasSymbols role (map bytes_of names.now) controllable.now
+        circuit.now)) }
+{
     let reads = role.reads_controllable();
     let symbols = input_symbols(alloc, circuit)?;
     let Some(inputs) = propositions_of(alloc, names, controllable, reads, &symbols)? else {
@@ -59,8 +79,8 @@ fn propositions_of(
     wanted: bool,
     symbols: &[Option<&[u8]>],
 ) -> Result<Option<Vec<u32>>, AllocError>
-    requires names { AreNames (map bytes_of names.now) }
     requires few { length names.now ≤ 64 }
+    requires distinct { AreDistinct (map bytes_of names.now) }
     ensures listing { IfOk result (λ list. IfSome list (λ l.
         IsListing (map bytes_of names.now) controllable.now wanted (map option_copied symbols.now) (length symbols.now)
         l.items)) }

@@ -6,7 +6,7 @@ use Rattle.std.specs.List.{Contains}
 use Rattle.ps_formula.specs.NormalForms.{NormalFormula, truth, literal, both, either, after, reaches, keeps, plain}
 use Rattle.ps_formula.specs.Satisfaction.{Reaches, Satisfies}
 use Rattle.ps_tableau.specs.Covers.{Brings, Cover, Covers, SatisfiesAll}
-use Rattle.ps_tableau.specs.Runs.{IsFairRun, IsTableau, Tableau}
+use Rattle.ps_tableau.specs.Runs.{IsFairRun, IsPartialTableau, Tableau}
 use Rattle.ps_tableau.proofs.Brought.{brought_covered}
 
 reach_now : {A B : ℕ → Type 0} (i : ℕ) → B i → Reaches A B i
@@ -28,9 +28,10 @@ abbrev Covered : (w : ℕ → ℕ) (run : ℕ → Cover) (i : ℕ) → NormalFor
 Covered w run i f = Covers (run i) (w i) f
 
 -- the cover at an index is enough for the next obligations of the cover before it
-carried : (t : Tableau) (w states : ℕ → ℕ) (run : ℕ → Cover) → IsTableau t → IsFairRun t w states run →
+carried : (t : Tableau) (w states : ℕ → ℕ) (run : ℕ → Cover) → IsPartialTableau t → IsFairRun t w states run →
     (i : ℕ) (f : NormalFormula) → Brings (Contains (run i).next) f → Covered w run (i + 1) f
-carried t w states run tableau fair i f brings = brought_covered (Contains (run i).next) (run (i + 1)) (w (i + 1)) (λ g there.
+carried t w states run tableau fair i f brings =
+    brought_covered (Contains (run i).next) (run (i + 1)) (w (i + 1)) (λ g there.
     let r = fair.is_run in
     let next : Contains (t.obligations (states (i + 1))) g =
     subst (λ (l : List NormalFormula). Contains l g) (sym (r.leads i)) there in
@@ -68,7 +69,7 @@ release_at w run f g carry left right (suc d) i j far here = elim here.1 [
   ]
 ]
 
-covered_holds : (t : Tableau) (w states : ℕ → ℕ) (run : ℕ → Cover) → IsTableau t → IsFairRun t w states run →
+covered_holds : (t : Tableau) (w states : ℕ → ℕ) (run : ℕ → Cover) → IsPartialTableau t → IsFairRun t w states run →
     (f : NormalFormula) (i : ℕ) → Covered w run i f → Satisfies (plain f) w i
 covered_holds t w states run tableau fair (truth b) i h = h
 covered_holds t w states run tableau fair (literal true p) i h = h
@@ -94,7 +95,7 @@ covered_holds t w states run tableau fair (keeps f g) i h = record {
       (omega arith) h;
 }
 
-pub fair_run_satisfies_lem : (t : Tableau) (w states : ℕ → ℕ) (run : ℕ → Cover) → IsTableau t →
+pub fair_run_satisfies_lem : (t : Tableau) (w states : ℕ → ℕ) (run : ℕ → Cover) → IsPartialTableau t →
     IsFairRun t w states run → SatisfiesAll (t.obligations (states 0)) w 0
 fair_run_satisfies_lem t w states run tableau fair = record {
   each = λ f there. let r = fair.is_run in

@@ -10,8 +10,13 @@ pub record Tableau : Type 0 where
   pub covers : ℕ → List Cover
   pub untils : List NormalFormula
 
--- each state has the covers of its obligations; each cover's next obligations are those of a state; and what a cover
--- postpones is one of the tableau's untils
+-- each state has the covers of its obligations; and what a cover postpones is one of the tableau's untils
+pub record IsPartialTableau (t : Tableau) : Type 0 where
+  pub exact : (q : ℕ) → q < t.count → AreCoversOf (t.obligations q) (t.covers q)
+  pub untils : (q : ℕ) (c : Cover) (f : NormalFormula) → q < t.count → Contains (t.covers q) c →
+      Contains c.postponed f → Contains t.untils f
+
+-- besides, each cover's next obligations are those of a state
 pub record IsTableau (t : Tableau) : Type 0 where
   pub exact : (q : ℕ) → q < t.count → AreCoversOf (t.obligations q) (t.covers q)
   pub closed : (q : ℕ) (c : Cover) → q < t.count → Contains (t.covers q) c →

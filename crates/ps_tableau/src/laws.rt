@@ -7,11 +7,12 @@ ghost use Rattle.ps_tableau.specs.Covers.{AreCoversOf, Cover, SatisfiesAll};
 ghost use Rattle.ps_tableau.specs.Examples.{end_now, p_until_q, unmarked};
 ghost use Rattle.ps_tableau.specs.Operators.{AreProducts, ArePruned, free_cover, literal_cover, next_cover};
 ghost use Rattle.ps_tableau.specs.Operators.{postponing_cover};
-ghost use Rattle.ps_tableau.specs.Runs.{HasFairRun, HasRound, IsFair, IsFairRun, IsTableau, Tableau};
+ghost use Rattle.ps_tableau.specs.Runs.{HasFairRun, HasRound, IsFair, IsFairRun, IsPartialTableau, IsTableau};
+ghost use Rattle.ps_tableau.specs.Runs.{Tableau};
 
-/// A word with a fair run satisfies the obligations of the run's first state.
+/// A word with a fair run satisfies the obligations of the run's first state, even if not each cover leads to a state.
 pub fn fair_run_satisfies()
-    ensures { (t : Tableau) (w : ℕ → ℕ) (states : ℕ → ℕ) (run : ℕ → Cover) → IsTableau t →
+    ensures { (t : Tableau) (w : ℕ → ℕ) (states : ℕ → ℕ) (run : ℕ → Cover) → IsPartialTableau t →
         IsFairRun t w states run → SatisfiesAll (t.obligations (states 0)) w 0 }
 {}
 

@@ -3,8 +3,9 @@
 ghost use Rattle.std.specs.Prelude.{◌≡◌};
 ghost use Rattle.std.specs.Cmp.Rules.{hashing};
 ghost use Rattle.std.proofs.Common.{rules};
+ghost use Rattle.ps_keys.specs.Hashes.{mixed};
 
-use ps_keys::Word;
+use ps_keys::{Hashed, Word, mixed};
 use std::marker::Model;
 
 /// A set of formulas of a tableau. A set may be used with the tableau that made it.
@@ -43,5 +44,16 @@ impl Word for Set {
     #[inline(always)]
     fn word(&self) -> u64 {
         self.number as u64
+    }
+}
+
+impl Hashed for Set {
+    ghost hash = { λ seed set. mixed seed set 0 };
+
+    ghost alike = { Prim.search (hashing, rules) };
+
+    #[inline(always)]
+    fn hash(&self, seed: u64) -> u64 {
+        mixed(seed, self.number as u64, 0)
     }
 }

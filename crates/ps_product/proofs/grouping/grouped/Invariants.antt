@@ -1,6 +1,6 @@
 use Rattle.std.proofs.Common.{take}
 use Rattle.ps_diagram.specs.Table.{IsNode, Keeps}
-use Rattle.ps_product.specs.Inner.Edges.{IsGroupedBy}
+use Rattle.ps_product.specs.Groups.{IsGroupedBy}
 use Rattle.ps_product.proofs.grouping.grouped.Given as goal
 
 abbrev pub invariant-loop-place : goal.invariant-loop-place

@@ -1,6 +1,6 @@
 use Rattle.std.proofs.Common.{◌≡◌, length}
 use Rattle.ps_diagram.specs.Table.{Keeps}
-use Rattle.ps_product.specs.Inner.Edges.{StandFor}
+use Rattle.ps_product.specs.Groups.{StandFor}
 use Rattle.ps_product.proofs.nodes.nodes_of.Given as goal
 
 abbrev pub invariant-loop-p : goal.invariant-loop-p

@@ -51,7 +51,7 @@ returns-then-not-is_full-clause-none c =
     let symbols = map (option_copied {T = List ℕ}) c.args.symbols.now in
     let listing : IsListing names c.args.controllable.now c.args.wanted symbols (length c.args.symbols.now)
     c.loop-symbol.list.items = grind arith in
-    missing names c.args.controllable.now c.args.wanted symbols c.requires.names (put c.args.symbols.now listing) g.0
+    missing names c.args.controllable.now c.args.wanted symbols c.requires.distinct (put c.args.symbols.now listing) g.0
     (omega (arith, g.1, size)) g.2 (rw c.deref-2.ensures.value at g.3)
 
 pub returns-clause-full : goal.returns-clause-full
