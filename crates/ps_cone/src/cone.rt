@@ -1,0 +1,76 @@
+//! The part of a circuit on which its outputs depend.
+
+ghost use Rattle.std.specs.Prelude.{◌≡◌, ◌≤◌, IfOk, length};
+ghost use Rattle.ps_circuit.specs.Circuits.{IsCircuit};
+ghost use Rattle.ps_circuit.specs.Drafts.{data_of};
+ghost use Rattle.ps_cone.specs.Cones.{IsCone, readers};
+ghost use Rattle.ps_cone.specs.Inner.Cuts.{AreOrderedGates, HasPartsOf};
+ghost use Rattle.ps_cone.specs.Parts.{selected};
+
+use crate::names::{input_names, latch_names, output_names};
+use crate::needed::needed;
+use ps_circuit::{Circuit, Gate, Latch, Parts};
+use std::alloc::{AllocError, Global};
+
+/// The circuit without the latches and gates on which no output depends. It has the same inputs and outputs, and runs
+/// alike (see `laws::part_runs_alike`). Fails if out of memory.
+pub fn reduced(alloc: Global, circuit: &Circuit) -> Result<Circuit, AllocError>
+    ensures { IfOk result (IsCone circuit.now) }
+{
+    let needed = needed(alloc, circuit)?;
+    let parts = parts_of(alloc, circuit, &needed)?;
+    Circuit::in_order(alloc, parts)
+}
+
+/// The parts of the circuit without the latches and gates that are not needed.
+fn parts_of(alloc: Global, circuit: &Circuit, needed: &[bool]) -> Result<Parts, AllocError>
+    requires { length needed.now ≡ length (readers circuit.now) }
+    ensures circuit { IsCircuit circuit.now }
+    ensures parts { IfOk result (λ parts. HasPartsOf circuit.now needed.now (data_of parts)) }
+{
+    let most = circuit.most();
+    Ok(Parts {
+        most,
+        inputs: circuit.inputs().to_vec(alloc)?,
+        latches: latches_among(alloc, circuit, needed)?,
+        outputs: circuit.outputs().to_vec(alloc)?,
+        gates: gates_among(alloc, circuit, needed)?,
+        input_names: input_names(alloc, circuit)?,
+        latch_names: latch_names(alloc, circuit, needed)?,
+        output_names: output_names(alloc, circuit)?,
+    })
+}
+
+/// The latches that are needed.
+fn latches_among(
+    alloc: Global,
+    circuit: &Circuit,
+    needed: &[bool],
+) -> Result<Vec<Latch>, AllocError>
+    requires { length circuit.now.latches ≤ length needed.now }
+    ensures { IfOk result (λ latches. latches.items ≡ selected needed.now circuit.now.latches) }
+{
+    let mut latches = Vec::new(alloc);
+    for (number, latch) in circuit.latches().iter().enumerate() {
+        if needed[number] {
+            latches.push(*latch)?;
+        }
+    }
+    Ok(latches)
+}
+
+/// The gates that are needed, each after the gates that it reads.
+fn gates_among(alloc: Global, circuit: &Circuit, needed: &[bool]) -> Result<Vec<Gate>, AllocError>
+    requires { length needed.now ≡ length (readers circuit.now) }
+    ensures { IfOk result (λ gates. AreOrderedGates circuit.now needed.now gates.items) }
+{
+    let first = circuit.latches().len();
+    let all = circuit.gates();
+    let mut gates = Vec::new(alloc);
+    for &place in circuit.order() {
+        if needed[first + place] {
+            gates.push(all[place])?;
+        }
+    }
+    Ok(gates)
+}

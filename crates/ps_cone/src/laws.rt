@@ -1,0 +1,29 @@
+//! Laws about the runs of a circuit and of its parts.
+
+ghost use Rattle.std.specs.Prelude.{◌≡◌, Bool, List, length};
+ghost use Rattle.ps_circuit.specs.Circuits.{CircuitData, IsCircuit};
+ghost use Rattle.ps_circuit.specs.Values.{GoesOn, Moment, resets};
+ghost use Rattle.ps_cone.specs.Parts.{IsPartOf, IsRunOfPart, moments_of, selected};
+ghost use Rattle.ps_traces.specs.Traces.{IsLassoTrace};
+
+use ps_simulate::circuit_has_one_values;
+
+/// A circuit and a part of it, which has the same inputs and outputs, run alike. Each run of the circuit is a run of
+/// the part with the same inputs and outputs, and the same values of the part's latches. Each run of the part arises
+/// so, from any values of the other latches. A lasso trace of the circuit is a lasso trace of the part.
+pub fn part_runs_alike()
+    ensures resets { (c : CircuitData) (kept : List Bool) (part : CircuitData) → IsPartOf c kept part →
+        resets part ≡ selected kept (resets c) }
+    ensures whole { (c : CircuitData) (kept : List Bool) (part : CircuitData) (from : List Bool)
+        (moments : List Moment) (to : List Bool) → IsPartOf c kept part → GoesOn c from moments to →
+        GoesOn part (selected kept from) (moments_of kept moments) (selected kept to) }
+    ensures part { (c : CircuitData) (kept : List Bool) (part : CircuitData) (from : List Bool)
+        (moments : List Moment) (to : List Bool) → IsCircuit c → IsPartOf c kept part →
+        length from ≡ length c.latches → GoesOn part (selected kept from) moments to →
+        IsRunOfPart c kept from moments to }
+    ensures lasso { (c : CircuitData) (kept : List Bool) (part : CircuitData) (stem lap : List Moment) →
+        IsPartOf c kept part → IsLassoTrace c stem lap →
+        IsLassoTrace part (moments_of kept stem) (moments_of kept lap) }
+{
+    circuit_has_one_values();
+}

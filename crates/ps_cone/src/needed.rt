@@ -1,0 +1,59 @@
+//! The latches and gates on which an output depends.
+
+ghost use Rattle.std.specs.Prelude.{◌≡◌, ◌<◌, All, IfOk, is_some, length, map};
+ghost use Rattle.ps_cone.specs.Inner.Needed.{AreFlags, AreNeeded, roots_of};
+ghost use Rattle.ps_cone.specs.Inner.Sources.{source_graph};
+
+use crate::sources::{SourceGraph, readers_of, sources_of, variables_of};
+use ps_circuit::{Circuit, Literal};
+use ps_components::{Components, components_from};
+use ps_ids::Ids;
+use std::alloc::{AllocError, Global};
+
+/// For each latch, and then for each gate, whether an output depends on it, in the same step or in a later one. Fails
+/// if out of memory.
+pub(crate) fn needed(alloc: Global, circuit: &Circuit) -> Result<Vec<bool>, AllocError>
+    ensures { IfOk result (λ needed. AreNeeded circuit.now needed.items) }
+{
+    let outputs = circuit.outputs();
+    let readers = readers_of(alloc, circuit)?;
+    let variables = variables_of(alloc, &readers)?;
+    let roots = roots_of(alloc, outputs, &variables)?;
+    let sources = sources_of(alloc, &readers, &variables)?;
+    let graph = SourceGraph { sources };
+    reached(alloc, &graph, &roots)
+}
+
+/// The indices of the readers whose values are outputs.
+fn roots_of(alloc: Global, outputs: &[Literal], variables: &Ids) -> Result<Vec<usize>, AllocError>
+    ensures { IfOk result (λ roots. roots.items ≡ roots_of variables.now outputs.now) }
+{
+    let mut roots = Vec::new(alloc);
+    for output in outputs {
+        if let Some(place) = variables.place(u64::from(output.variable())) {
+            roots.push(place)?;
+        }
+    }
+    Ok(roots)
+}
+
+/// For each vertex of the graph whether it is a root or can be reached from one.
+fn reached(alloc: Global, graph: &SourceGraph, roots: &[usize]) -> Result<Vec<bool>, AllocError>
+    requires { All (λ v. v < (source_graph graph.now.sources.items).count) roots.now }
+    ensures { IfOk result (λ flags. AreFlags (source_graph graph.now.sources.items) roots.now flags.items) }
+{
+    let components = components_from(alloc, graph, roots)?;
+    marked(alloc, &components, graph.sources.len())
+}
+
+/// For each vertex whether it has a component.
+fn marked(alloc: Global, components: &Components, count: usize) -> Result<Vec<bool>, AllocError>
+    requires { count ≡ length components.now.numbers }
+    ensures { IfOk result (λ flags. flags.items ≡ map is_some components.now.numbers) }
+{
+    let mut flags = Vec::new(alloc);
+    for vertex in 0..count {
+        flags.push(components.number(vertex).is_some())?;
+    }
+    Ok(flags)
+}
