@@ -23,7 +23,7 @@ use Rattle.ps_models.specs.Products.{begins_at, start_vertex}
 use Rattle.ps_models.proofs.LassoWalks.{Walks, along, along_both, goes, in_lap, starts}
 use Rattle.ps_models.proofs.WordSteps.{no_moment}
 
-abbrev no_edge : ModelEdge
+abbrev pub no_edge : ModelEdge
 no_edge = record {
   moment = no_moment;
   letter = 0;
@@ -44,14 +44,14 @@ module _ (names : List (List ℕ)) (c : CircuitData) (t : Tableau) where
       let from : e.moment.latches ≡ v.latches = ap (λ (u : ModelVertex). u.latches) at in (
         u.latches,
         from,
-        subst (λ (l : List Bool). Steps c l e.moment.inputs e.moment.outputs u.latches) from edge.steps,
+        subst (λ (l : List Bool). Steps c l e.moment.inputs e.moment.outputs u.latches) from edge.step.steps,
         goes_on u w es rest,
       )
 
   pub are_letters : (v w : ModelVertex) (es : List ModelEdge) → LeadsAlong names c t v es w →
       AreLetters names c (edge_moments es) (edge_letters es)
   are_letters v w [] leads = refl
-  are_letters v w (e ∷ es) (u, at, edge, rest) = (edge.is_letter, are_letters u w es rest)
+  are_letters v w (e ∷ es) (u, at, edge, rest) = (edge.step.is_letter, are_letters u w es rest)
 
   module _ (state : ℕ) (stem lap : List ModelEdge) (fair : IsFairLasso names c t (start_vertex c state) stem lap) where
     abbrev pub word_of : IsLassoWord names c (edge_letters stem) (edge_letters lap)
@@ -112,10 +112,10 @@ module _ (names : List (List ℕ)) (c : CircuitData) (t : Tableau) where
     is_fair_run : IsFairRun t word (λ i. (edge i).state) (λ i. (edge i).cover)
     is_fair_run = record {
       is_run = record {
-        state = λ i. (edge_goes i).from;
-        cover = λ i. (edge_goes i).cover;
+        state = λ i. (edge_goes i).step.from;
+        cover = λ i. (edge_goes i).step.cover;
         meets = λ i.
-            subst (λ (n : ℕ). IsTrue ((edge i).cover.guard n)) (sym (letter_at i)) (edge_goes i).serves;
+            subst (λ (n : ℕ). IsTrue ((edge i).cover.guard n)) (sym (letter_at i)) (edge_goes i).step.serves;
         leads = λ i. ap (λ (k : ℕ). t.obligations (edge k).state) (add-one i) ∙ (edge_goes i).next;
       };
       fair = record {

@@ -19,7 +19,7 @@ use Rattle.ps_tableau.specs.Runs.{HasRound, Tableau}
 use Rattle.ps_tableau.proofs.Rounds.{fair_run_has_round_lem}
 use Rattle.ps_circuit.specs.Circuits.{CircuitData}
 use Rattle.ps_traces.specs.Traces.{IsLassoWord}
-use Rattle.ps_models.specs.Products.{IsModelEdge, IsTableauFor, ModelEdge, ModelVertex, begins_at, start_vertex}
+use Rattle.ps_models.specs.Products.{IsCoveredStep, IsTableauFor, ModelEdge, ModelVertex, begins_at, start_vertex}
 use Rattle.ps_models.specs.ProductGraphs.{IsProductGraph, ProductGraph, edge_at}
 use Rattle.ps_models.proofs.WordSteps.{begins_with, entries_from, entry_at, length-entries_from, letter_there, moment}
 use Rattle.ps_models.proofs.WordSteps.{some_letter, steps_at}
@@ -74,26 +74,23 @@ module _ {names : List (List ℕ)} {c : CircuitData} {t : Tableau} {state : ℕ}
   step i h =
       let used = (is_for.tableau.exact (p.vertex h.vertex).state h.state_within).usable w i
       (lasso_is_decided stem lap (some_letter word)) h.satisfied in
-      let next = is_for.tableau.closed (p.vertex h.vertex).state used.0 h.state_within used.1 in
       let e : ModelEdge = record {
         moment = moment word i;
         letter = w i;
         state = (p.vertex h.vertex).state;
         cover = used.0;
       } in
-      let target : ModelVertex = record { latches = (moment word (suc i)).latches; state = next.0 } in
-      let is_edge : IsModelEdge names c t e target = record {
+      let latches = (moment word (suc i)).latches in
+      let covered : IsCoveredStep names c t e latches = record {
         steps = steps_at word i;
         is_letter = letter_there word i;
         from = h.state_within;
-        to = next.1;
         cover = used.1;
         serves = used.2.guard;
-        next = next.2;
       } in
       let begins : begins_at e ≡ p.vertex h.vertex =
       ap (λ (l : List Bool). record { latches = l; state = (p.vertex h.vertex).state }) (sym h.latches) in
-      let like = is_graph.complete h.vertex e target h.within begins is_edge in
+      let like = is_graph.complete h.vertex e latches h.within begins covered in
       let stands = is_graph.sound (record { vertex = h.vertex; slot = like.slot }) like.to like.is_edge in
       let fits : Fits (p.edge h.vertex like.slot).cover w i =
       subst (λ (cover : Cover). Fits cover w i) (sym like.cover) used.2 in

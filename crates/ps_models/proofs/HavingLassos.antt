@@ -7,7 +7,7 @@ use Rattle.ps_label.specs.Words.{lasso_word}
 use Rattle.ps_formula.specs.Formulas.{Formula}
 use Rattle.ps_formula.specs.Satisfaction.{Satisfies}
 use Rattle.ps_formula.proofs.LassoTruths.{lasso_is_decided}
-use Rattle.ps_tableau.specs.Runs.{HasFairRun, HasRound, Tableau}
+use Rattle.ps_tableau.specs.Runs.{HasFairRun, HasRound, IsTableau, Tableau}
 use Rattle.ps_tableau.proofs.Complete.{satisfied_has_fair_run_lem}
 use Rattle.ps_tableau.proofs.Rounds.{fair_run_has_round_lem}
 use Rattle.ps_circuit.specs.Circuits.{CircuitData}
@@ -39,12 +39,14 @@ module _ {names : List (List ℕ)} {c : CircuitData} {t : Tableau} {state : ℕ}
   on i =
       let r = run.fair_run.is_run in
       record {
-        steps = steps_at word i;
-        is_letter = letter_there word i;
-        from = r.state i;
+        step = record {
+          steps = steps_at word i;
+          is_letter = letter_there word i;
+          from = r.state i;
+          cover = r.cover i;
+          serves = r.meets i;
+        };
         to = r.state (suc i);
-        cover = r.cover i;
-        serves = r.meets i;
         next = ap (λ (k : ℕ). t.obligations (run.states k)) (sym (add-one i)) ∙ r.leads i;
       }
 
@@ -103,9 +105,9 @@ module _ {names : List (List ℕ)} {c : CircuitData} {t : Tableau} {state : ℕ}
       }
 
 pub has_fair_lasso : (names : List (List ℕ)) (c : CircuitData) (t : Tableau) (state : ℕ) (f : Formula)
-    (stem lap : List ℕ) → IsTableauFor t state f → IsLassoWord names c stem lap → Satisfies f (lasso_word stem lap) 0 →
-    HasFairLasso names c t (start_vertex c state)
-has_fair_lasso names c t state f stem lap is_for word holds =
+    (stem lap : List ℕ) → IsTableau t → IsTableauFor t state f → IsLassoWord names c stem lap →
+    Satisfies f (lasso_word stem lap) 0 → HasFairLasso names c t (start_vertex c state)
+has_fair_lasso names c t state f stem lap tableau is_for word holds =
     let decided = lasso_is_decided stem lap (some_letter word) in
-    fair_lasso word (satisfied_has_fair_run_lem t (lasso_word stem lap) state is_for.tableau decided is_for.within
+    fair_lasso word (satisfied_has_fair_run_lem t (lasso_word stem lap) state tableau decided is_for.within
     ((is_for.same (lasso_word stem lap) 0 decided).1 holds))

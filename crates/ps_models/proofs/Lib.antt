@@ -7,3 +7,13 @@ pub mod HavingCycles
 pub mod BoardTableaux
 pub mod Refuting
 pub mod WinningLemmas
+pub mod StateLemmas
+pub mod GraphLemmas
+pub mod ViewLemmas
+pub mod RowLemmas
+pub mod StepLemmas
+pub mod DraftLemmas
+pub mod GraphMade
+pub mod AppendLemmas
+pub mod AddLemmas
+pub mod JudgingLemmas

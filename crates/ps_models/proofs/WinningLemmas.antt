@@ -4,7 +4,7 @@ use Rattle.std.proofs.Common.{◌≡◌, ℕ, ◌↔◌, inl, inr, List, refl, s
 use Rattle.ps_label.specs.Words.{lasso_word}
 use Rattle.ps_formula.specs.Satisfaction.{Satisfies}
 use Rattle.ps_formula.proofs.LassoTruths.{lasso_is_decided}
-use Rattle.ps_tableau.specs.Runs.{Tableau}
+use Rattle.ps_tableau.specs.Runs.{IsTableau, Tableau}
 use Rattle.ps_fairness.specs.Marks.{IsFairCycle}
 use Rattle.ps_fairness.specs.declared.edge.Edge.{Edge}
 use Rattle.ps_circuit.specs.Circuits.{CircuitData, IsCircuit}
@@ -115,19 +115,20 @@ wins_unrefuted order role f c distinct is_circuit one symbols in_time none =
 
 pub wins_without_lasso : (order : Order) (role : Role) (f : NamedFormula) (c : CircuitData) (t : Tableau) (state : ℕ) →
     AreDistinct f.names → IsCircuit c → HasOneValues c → HasSymbols role f.names f.controllable c →
-    IsInTimeWhereReached order role c → IsTableauFor t state (opposed role f.formula) →
+    IsInTimeWhereReached order role c → IsTableau t → IsTableauFor t state (opposed role f.formula) →
     (HasFairLasso f.names c t (start_vertex c state) → ⊥) → IsWinningFor order role f c
-wins_without_lasso order role f c t state distinct is_circuit one symbols in_time is_for none =
+wins_without_lasso order role f c t state distinct is_circuit one symbols in_time tableau is_for none =
     winning_by order role f c distinct is_circuit one symbols in_time (λ stem lap word holds.
-    none (has_fair_lasso f.names c t state (opposed role f.formula) stem lap is_for word holds))
+    none (has_fair_lasso f.names c t state (opposed role f.formula) stem lap tableau is_for word holds))
 
 pub lasso_of_losing : (order : Order) (role : Role) (f : NamedFormula) (c : CircuitData) (s : StimulusData)
-    (t : Tableau) (state : ℕ) → IsLosingFor order role f c s → IsTableauFor t state (opposed role f.formula) →
+    (t : Tableau) (state : ℕ) → IsLosingFor order role f c s → IsTableau t →
+    IsTableauFor t state (opposed role f.formula) →
     HasFairLasso f.names c t (start_vertex c state)
-lasso_of_losing order role f c s t state loses is_for =
+lasso_of_losing order role f c s t state loses tableau is_for =
     let stem = loses.word.stem in
     let lap = loses.word.lap in
-    has_fair_lasso f.names c t state (opposed role f.formula) stem lap is_for (word_of loses)
+    has_fair_lasso f.names c t state (opposed role f.formula) stem lap tableau is_for (word_of loses)
     (opposed_by role f stem lap loses.is_wrong)
 
 pub wins_without_cycle : (order : Order) (role : Role) (f : NamedFormula) (c : CircuitData) (t : Tableau) (state : ℕ)

@@ -4,6 +4,8 @@
 --   traces of an environment's circuit does
 -- - `IsLosingFor order role f c s`: the trace of a controller's circuit on the stimulus s violates the formula, or the
 --   trace of an environment's circuit on s satisfies it
+-- - `IsJudgementFor order role f c judgement`: the judgement is right: the circuit wins, or the judgement's stimulus is
+--   a counterexample
 use Rattle.std.specs.Prelude.{◌≡◌, ◌<◌, ◌↔◌, ℕ, List, length}
 use Rattle.ps_label.specs.Words.{lasso_word}
 use Rattle.ps_formula.specs.Formulas.{Formula}
@@ -22,6 +24,8 @@ use Rattle.ps_traces.specs.Inputs.{EachInputGoesOn, HasLetters}
 use Rattle.ps_traces.specs.Meetings.{FiniteController, IsController, IsOneMeeting, MeetsInLasso}
 use Rattle.ps_traces.specs.Shapes.{IsInTimeWhereReached}
 use Rattle.ps_traces.specs.Traces.{IsLassoWord}
+use Rattle.ps_verify.specs.declared.judgement.Judgement.{Judgement}
+use Rattle.ps_verify.specs.declared.judgement.Judgement.TheVariants.{Wins, Loses}
 
 -- a formula; the names of its propositions; and the indices of the controllable ones, which a controller sets
 pub record NamedFormula : Type 0 where
@@ -89,3 +93,7 @@ pub record IsLosingFor (order : Order) (role : Role) (f : NamedFormula) (c : Cir
   pub is_wrong : IsSatisfied f word.stem word.lap ↔ (role ≡ Environment)
   pub stem_is : length word.stem ≡ length s.stem
   pub lap_is : length word.lap ≡ length s.lap
+
+abbrev pub IsJudgementFor : Order → Role → NamedFormula → CircuitData → Judgement → Type 0
+IsJudgementFor order role f c Wins = IsWinningFor order role f c
+IsJudgementFor order role f c (Loses stimulus) = IsLosingFor order role f c stimulus

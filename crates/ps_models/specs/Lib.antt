@@ -2,3 +2,5 @@ pub mod Judgements
 pub mod Products
 pub mod ProductGraphs
 pub mod BoardStates
+pub mod Sentences
+pub mod Inner

@@ -7,7 +7,7 @@ ghost use Rattle.ps_label.specs.Words.{lasso_word};
 ghost use Rattle.ps_formula.specs.Formulas.{Formula};
 ghost use Rattle.ps_formula.specs.Satisfaction.{Satisfies};
 ghost use Rattle.ps_tableau.specs.Boards.{IsTableauOf};
-ghost use Rattle.ps_tableau.specs.Runs.{Tableau};
+ghost use Rattle.ps_tableau.specs.Runs.{IsTableau, Tableau};
 ghost use Rattle.ps_tableau.specs.declared.board.Board.{Board};
 ghost use Rattle.ps_tableau.specs.declared.edge.Edge as tableau;
 ghost use Rattle.ps_circuit.specs.Circuits.{CircuitData, IsCircuit};
@@ -51,8 +51,8 @@ pub fn losing_word_is_wrong()
     word_is_one();
 }
 
-/// States of a board with their edges are a tableau. It is the tableau of the board's formula, from the first state on,
-/// if the first state is the board's initial set.
+/// States of a board with their edges are a tableau, in which a cover's next obligations need not be those of a state.
+/// It is the tableau of the board's formula, from the first state on, if the first state is the board's initial set.
 pub fn states_are_a_tableau()
     ensures { (b : Board) (sets : List ℕ) (edges : List (List tableau.Edge)) (f : Formula) → AreStatesOf b sets edges →
         IsTableauOf b f → slice_get sets 0 ≡ Some b.initial →
@@ -70,27 +70,28 @@ pub fn fair_lasso_satisfies()
         Satisfies f (lasso_word (edge_letters stem) (edge_letters lap)) 0 }
 {}
 
-/// If the word of a lasso trace of the circuit satisfies the formula of the tableau, the product has a fair lasso.
+/// If the word of a lasso trace of the circuit satisfies the formula of the tableau, the product has a fair lasso,
+/// provided that each cover leads to a state.
 pub fn satisfied_has_fair_lasso()
     ensures { (names : List (List ℕ)) (c : CircuitData) (t : Tableau) (state : ℕ) (f : Formula) (stem lap : List ℕ) →
-        IsTableauFor t state f → IsLassoWord names c stem lap → Satisfies f (lasso_word stem lap) 0 →
+        IsTableau t → IsTableauFor t state f → IsLassoWord names c stem lap → Satisfies f (lasso_word stem lap) 0 →
         HasFairLasso names c t (start_vertex c state) }
 {}
 
 /// A circuit loses exactly if its product with the tableau has a fair lasso, and wins if the product has none. The
-/// tableau is that of the formula which a counterexample satisfies. What the circuit reads along a fair lasso is a
-/// stimulus on which it loses.
+/// tableau is that of the formula which a counterexample satisfies, and each of its covers leads to a state. What the
+/// circuit reads along a fair lasso is a stimulus on which it loses.
 pub fn fair_lasso_decides()
     ensures loses { (order : Order) (role : Role) (f : NamedFormula) (c : CircuitData) (t : Tableau) (state : ℕ)
         (stem lap : List ModelEdge) → HasSymbols role f.names f.controllable c → IsInTimeWhereReached order role c →
         IsTableauFor t state (opposed role f.formula) → IsFairLasso f.names c t (start_vertex c state) stem lap →
         IsLosingFor order role f c (stimulus_of stem lap) }
     ensures found { (order : Order) (role : Role) (f : NamedFormula) (c : CircuitData) (s : StimulusData) (t : Tableau)
-        (state : ℕ) → IsLosingFor order role f c s → IsTableauFor t state (opposed role f.formula) →
+        (state : ℕ) → IsLosingFor order role f c s → IsTableau t → IsTableauFor t state (opposed role f.formula) →
         HasFairLasso f.names c t (start_vertex c state) }
     ensures wins { (order : Order) (role : Role) (f : NamedFormula) (c : CircuitData) (t : Tableau) (state : ℕ) →
         AreDistinct f.names → IsCircuit c → HasSymbols role f.names f.controllable c →
-        IsInTimeWhereReached order role c → IsTableauFor t state (opposed role f.formula) →
+        IsInTimeWhereReached order role c → IsTableau t → IsTableauFor t state (opposed role f.formula) →
         ¬ HasFairLasso f.names c t (start_vertex c state) → IsWinningFor order role f c }
 {
     circuit_has_one_values();

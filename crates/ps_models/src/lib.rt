@@ -1,5 +1,5 @@
-//! Circuits that are judged by formulas of linear temporal logic: definitions, and laws about the product of a circuit
-//! and the tableau of a formula.
+//! Decides whether each lasso trace of a controller satisfies a formula of linear temporal logic, or no lasso trace of
+//! an environment does; if not, gives a counterexample.
 //!
 //! A controller's circuit wins if all its lasso traces satisfy the formula, and an environment's circuit wins if none
 //! does. The product of the circuit and the tableau of the formula that a counterexample satisfies has a fair lasso
@@ -7,6 +7,7 @@
 //!
 //! | Call | What it gives |
 //! |---|---|
+//! | `satisfied(circuit, sentence, order, role)` | a `Judgement`: the circuit wins, or a stimulus on which it loses |
 //! | `laws::judgement_is_one` | a law: a circuit wins exactly if no stimulus shows that it loses |
 //! | `laws::losing_word_is_wrong` | a law: on a stimulus on which a circuit loses, each word of the circuit is wrong |
 //! | `laws::states_are_a_tableau` | a law: the sets of a board that were reached, with their edges, are a tableau |
@@ -16,4 +17,16 @@
 //! | `laws::fair_cycle_decides` | a law: the same by fair cycles of a graph that is the product |
 #![tactic(auto)]
 
+mod exploring;
+mod graph;
 pub mod laws;
+mod plan;
+mod readings;
+mod satisfying;
+mod sentence;
+mod states;
+mod steps;
+mod views;
+
+pub use satisfying::satisfied;
+pub use sentence::Sentence;

@@ -11,7 +11,7 @@ returns c = record {
       (wrong_by role f (edge_letters stem) (edge_letters lap)
       (satisfied f.names circuit t state stem lap fair (opposed role f.formula) is_for));
   found = lasso_of_losing;
-  wins = λ order role f circuit t state distinct is_circuit symbols in_time is_for none.
+  wins = λ order role f circuit t state distinct is_circuit symbols in_time tableau is_for none.
       wins_without_lasso order role f circuit t state distinct is_circuit
-      (c.circuit_has_one_values.ensures circuit is_circuit) symbols in_time is_for none;
+      (c.circuit_has_one_values.ensures circuit is_circuit) symbols in_time tableau is_for none;
 }

@@ -1,0 +1,32 @@
+use Rattle.std.proofs.Common.{◌≡◌, ◌<◌, ◌≤◌, List, ap, arith, length, sym, ◌∙◌, ℕ}
+use Rattle.std.specs.Prelude.{is_some}
+use Rattle.std.proofs.lemmas.List.{length-map}
+use Rattle.ps_hoa.specs.Memory.{bytes_of}
+use Rattle.ps_product.specs.Groups.{StandFor}
+use Rattle.ps_product.proofs.TruthNodes.{stand_kept, truths_kept}
+use Rattle.ps_models.proofs.ViewLemmas.{padding_done, padding_first, padding_more}
+use Rattle.ps_models.proofs.plan.Plan.nodes.Goals as goal
+
+pub loop-none-init : goal.loop-none-init
+loop-none-init c =
+    let list = c.args.self.roles.now.outputs.items in
+    let outs = c.args.outputs.now in
+    let nodes = c.in_ok-nodes.nodes.items in
+    let first : StandFor c.nodes_of.new.store list outs nodes =
+    rw c.deref.ensures.value at c.in_ok-nodes.ensures.nodes in
+    let stand : StandFor c.none.new.self list outs nodes = stand_kept list outs (sym c.requires.one_each)
+    (truths_kept outs c.nodes_of.ensures.keeps c.requires.outputs) c.none.ensures.keeps nodes first in
+    let few : length c.args.self.names.now ≤ 64 =
+    (let f = c.requires.plan.roles.few in omega (arith, f, length-map c.args.self.names.now bytes_of)) in
+    padding_first nodes (length c.args.self.names.now) (c.in_ok-nodes.ensures.count ∙ c.requires.store) few stand
+
+pub loop-none-preserved : goal.loop-none-preserved
+loop-none-preserved c =
+    let room : length c.loop-none.nodes.items < 64 = omega arith in
+    padding_more c.in_ok-none.none c.loop-none.invariant c.in_ok-push.ensures.items room c.in_ok-none.ensures.held
+    (λ letter. ap is_some (c.in_ok-none.ensures.leaf letter))
+
+pub returns-clause-nodes : goal.returns-clause-nodes
+returns-clause-nodes c =
+    let full : 64 ≤ length c.loop-none.nodes.items = omega arith in
+    padding_done c.loop-none.invariant full

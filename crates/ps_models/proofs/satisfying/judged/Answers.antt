@@ -1,0 +1,21 @@
+use Rattle.std.proofs.Common.{refl}
+use Rattle.ps_product.proofs.GroupLemmas.{ok_map}
+use Rattle.ps_models.specs.Sentences.{named_formula}
+use Rattle.ps_models.proofs.JudgingLemmas.{is_scene, judgement_of, product_of}
+use Rattle.ps_models.proofs.satisfying.judged.Goals as goal
+
+pub product-requires-clause-plan : goal.product-requires-clause-plan
+product-requires-clause-plan c = is_scene c.requires.distinct c.requires.symbols c.requires.roles
+
+pub returns : goal.returns
+returns c = ok_map _ _ c.told.result c.told.ensures (λ judgement told order in_time.
+    let f = named_formula c.args.sentence in
+    let role = c.args.role in
+    let circuit = c.args.circuit.now in
+    let is = c.latches.ensures.well_formed in
+    let m = c.in_ok-graph.ensures in
+    judgement_of f role m order
+    (λ none. c.fair_cycle_decides.ensures.wins order role f circuit m.tableau_is 0 (product_of f role m)
+    c.requires.distinct is c.requires.symbols in_time m.is_for m.is_product none)
+    (λ stem lap cycle leads. c.fair_cycle_decides.ensures.loses order role f circuit m.tableau_is 0
+    (product_of f role m) stem lap c.requires.symbols in_time m.is_for m.is_product cycle leads) judgement told)

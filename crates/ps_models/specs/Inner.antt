@@ -1,0 +1,10 @@
+-- Definitions that only private contracts use; no public clause refers to them.
+
+pub mod Graphs
+pub mod States
+pub mod Views
+pub mod Rows
+pub mod Exploring
+pub mod Plans
+pub mod Readings
+pub mod Judging
