@@ -1,0 +1,5 @@
+pub mod BothPlayers
+pub mod DistinctNames
+pub mod FaultReasons
+pub mod MoreAnswers
+pub mod RoutedBits

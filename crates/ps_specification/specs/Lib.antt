@@ -1,0 +1,6 @@
+pub mod FaultNames
+pub mod Faults
+pub mod Inner
+pub mod Promises
+pub mod Requirements
+pub mod Translating

@@ -1,0 +1,179 @@
+//! The whole synthesis, from a specification's text to a circuit that is judged by the specification.
+
+ghost use Rattle.std.specs.Prelude.{◌≡◌, ◌<◌, ◌↔◌, ℕ, true, IsTrue, List, length, map, IfErr, IfOk, Ok};
+ghost use Rattle.ps_circuit.specs.Circuits.{IsCircuit};
+ghost use Rattle.ps_machine.specs.Solvers.{Answered, IsKept};
+ghost use Rattle.ps_machine.specs.Solving.{winner_at_start};
+ghost use Rattle.ps_machine.specs.declared.key.Order.{Order};
+ghost use Rattle.ps_models.specs.Judgements.{IsWinningFor};
+ghost use Rattle.ps_simulate.specs.Symbols.{AreDistinct};
+ghost use Rattle.ps_synthesis.specs.Problems.{IsProblemOf};
+ghost use Rattle.ps_synthesis.specs.SynthFaults as synthesis;
+ghost use Rattle.ps_synthesis.specs.SynthFaults.{IsSynthFault};
+ghost use Rattle.ps_tlsf.specs.NameViews.{name_data};
+ghost use Rattle.ps_tlsf.specs.Names.{names_in};
+ghost use Rattle.ps_tlsf.specs.Reading.{answer_of};
+ghost use Rattle.ps_tlsf.specs.SpecificationViews.{HasRoots, specification_data};
+ghost use Rattle.ps_traces.specs.Answers.{role_of};
+ghost use Rattle.ps_specification.specs.Faults.{IsFaultBy, IsSpecificationFault, IsSureSpecificationFault};
+ghost use Rattle.ps_specification.specs.Inner.Steps.{IsPassFault, IsReadFault, IsWonBy};
+ghost use Rattle.ps_specification.specs.Promises.{IsAnswerTo, KeepsSpecification};
+ghost use Rattle.ps_specification.specs.Requirements.{order_in, requirement_of};
+
+use crate::fault::SpecificationFault;
+use crate::judging::{judged, order_of};
+use crate::translator::Translator;
+use ps_certificate::Certificate;
+use ps_circuit::Circuit;
+use ps_machine::Solver;
+use ps_models::laws::judgement_is_one;
+use ps_product::ProductFault;
+use ps_simulate::Role;
+use ps_synthesis::{Problem, SynthFault, Synthesis};
+use ps_tlsf::Specification;
+use ps_verify::Judgement;
+use std::alloc::{AllocError, Global};
+
+/// The answer to a specification: a controller that satisfies it, or an environment against which it is violated.
+#[derive(Drop)]
+pub struct Winner {
+    /// Whether the circuit is a controller or an environment.
+    pub role: Role,
+    /// The circuit.
+    pub circuit: Circuit,
+}
+
+/// Makes a circuit for the specification of a text: the translator gives an automaton, the solver solves its game, and
+/// the circuit of the winner is judged by the specification.
+///
+/// # Errors
+///
+/// Fails, in this order, with the first error of the text; with `NotTranslated`, if the translator gives no automaton or
+/// the text of the automaton exceeds a limit; with `NotJudged`, if the text is not accepted otherwise; with the solver's
+/// fault, with `NotCertified` or with `CircuitTooLarge`; with `NotJudged`, if the circuit does not win for the
+/// specification. Fails at any time if memory runs out.
+pub fn synthesise_specification<T: Translator, S: Solver>(
+    alloc: Global,
+    text: &[u8],
+    translator: &T,
+    solver: &mut S,
+) -> Result<Winner, SpecificationFault>
+    // Whatever the translator and the solver give, a circuit wins for the specification, and a fault occurs only for the
+    // reason that `IsSpecificationFault` states.
+    ensures promise { IfOk result (λ winner. KeepsSpecification text.now winner.role winner.circuit) }
+    ensures refused { IfErr result (IsSpecificationFault (T.may_give translator.now)
+        (Answered (S.known solver.old) (S.known solver.new)) text.now) }
+    // With a sure solver, a specification gets a circuit, unless it has an error, its translation is missing or wrong,
+    // the circuit is too large, or memory runs out.
+    ensures sure { (S.known solver.old).is_sure ≡ true → IfErr result IsSureSpecificationFault }
+    ensures kept { IsKept (S.known solver.old) (S.known solver.new) }
+{
+    let specification = read(alloc, text)?;
+    let Some(hoa) = translator.translate(alloc, &specification)? else {
+        return Err(SpecificationFault::NotTranslated);
+    };
+    by_automaton(alloc, &specification, &hoa, solver)
+}
+
+/// Parses a text as a specification.
+fn read(alloc: Global, text: &[u8]) -> Result<Specification, SpecificationFault>
+    ensures specification { IfOk result (λ s. answer_of text.now ≡ Ok (specification_data s)) }
+    ensures roots { IfOk result HasRoots }
+    ensures distinct { IfOk result (λ s. AreDistinct (names_in (map name_data s.propositions.items))) }
+    ensures refused { IfErr result (IsReadFault text.now) }
+{
+    ps_tlsf::names_differ();
+    Ok(ps_tlsf::read(alloc, text)?)
+}
+
+/// Makes a circuit for a specification from the text of an automaton.
+fn by_automaton<S: Solver>(
+    alloc: Global,
+    specification: &Specification,
+    hoa: &[u8],
+    solver: &mut S,
+) -> Result<Winner, SpecificationFault>
+    requires roots { HasRoots specification.now }
+    requires distinct { AreDistinct (names_in (map name_data specification.now.propositions.items)) }
+    ensures answer { IfOk result (λ winner. IsAnswerTo (specification_data specification.now) winner.role
+        winner.circuit) }
+    ensures refused { IfErr result (IsFaultBy (Answered (S.known solver.old) (S.known solver.new))
+        (specification_data specification.now) hoa.now) }
+    ensures sure { (S.known solver.old).is_sure ≡ true → IfErr result IsSureSpecificationFault }
+    ensures kept { IsKept (S.known solver.old) (S.known solver.new) }
+{
+    ps_hoa::one_answer();
+    ps_automaton::refusal_is_one();
+    let problem = Problem::read(alloc, hoa, order_of(specification))?;
+    let winner = won(alloc, &problem, solver);
+    problem.close();
+    passed(alloc, specification, winner?)
+}
+
+/// The winner of a problem's game, by the certificate that the solver returns, and the winner's circuit.
+fn won<S: Solver>(alloc: Global, problem: &Problem, solver: &mut S) -> Result<Winner, SynthFault>
+    ensures won { (order : Order) (hoa : List ℕ) → IsProblemOf order hoa problem.now → IfOk result (λ winner.
+        IsWonBy (Answered (S.known solver.old) (S.known solver.new)) order hoa winner.role winner.circuit) }
+    ensures refused { (order : Order) (hoa : List ℕ) → IsProblemOf order hoa problem.now →
+        IfErr result (IsSynthFault (Answered (S.known solver.old) (S.known solver.new)) order hoa) }
+    ensures sure { (S.known solver.old).is_sure ≡ true → IfErr result synthesis.IsSureFault }
+    ensures kept { IsKept (S.known solver.old) (S.known solver.new) }
+{
+    let _ = problem.game();
+    let synthesis = problem.solve(alloc, solver)?;
+    let role = role_at_start(&synthesis.certificate);
+    let Synthesis {
+        certificate: _,
+        circuit,
+    } = synthesis;
+    Ok(Winner { role, circuit })
+}
+
+/// The role of the winner of the start vertex.
+fn role_at_start(certificate: &Certificate) -> Role
+    requires { 0 < length certificate.now.entries }
+    ensures { result ≡ role_of (winner_at_start certificate.now) }
+{
+    if certificate.winner(0) == 0 {
+        Role::Controller
+    } else {
+        Role::Environment
+    }
+}
+
+/// Passes a circuit on if it wins for the specification.
+fn passed(
+    alloc: Global,
+    specification: &Specification,
+    winner: Winner,
+) -> Result<Winner, SpecificationFault>
+    requires roots { HasRoots specification.now }
+    requires distinct { AreDistinct (names_in (map name_data specification.now.propositions.items)) }
+    requires circuit { IsCircuit winner.circuit }
+    ensures answer { IfOk result (λ passed. IsAnswerTo (specification_data specification.now) passed.role
+        passed.circuit) }
+    ensures refused { IfErr result (IsPassFault (specification_data specification.now) winner.role winner.circuit) }
+{
+    if wins(alloc, specification, &winner)? {
+        Ok(winner)
+    } else {
+        Err(SpecificationFault::NotJudged)
+    }
+}
+
+/// Whether a circuit wins for the specification, in its role. Fails if out of memory.
+fn wins(alloc: Global, specification: &Specification, winner: &Winner) -> Result<bool, AllocError>
+    requires roots { HasRoots specification.now }
+    requires distinct { AreDistinct (names_in (map name_data specification.now.propositions.items)) }
+    ensures { IfOk result (λ wins. IsTrue wins ↔ IsWinningFor (order_in (specification_data specification.now))
+        winner.now.role (requirement_of (specification_data specification.now)) winner.now.circuit) }
+{
+    judgement_is_one();
+    match judged(alloc, &winner.circuit, specification, winner.role) {
+        Ok(Judgement::Wins) => Ok(true),
+        Ok(Judgement::Loses(_)) => Ok(false),
+        Err(ProductFault::Symbols) => Ok(false),
+        Err(ProductFault::Timing) => Ok(false),
+        Err(ProductFault::OutOfMemory) => Err(AllocError),
+    }
+}
