@@ -7,144 +7,131 @@ ghost use Rattle.ps_shrink.specs.Inner.Assembled.{HasNamesOf};
 use crate::assembling::{Cell, assembled};
 use crate::change::{Change, Site};
 use crate::images::Images;
-use crate::needed::{is_among, needed};
 use crate::sketch::{Memory, Signal, Sketch, rows_of};
 use ps_circuit::{Circuit, EncodeFault, Literal};
 use std::alloc::{AllocError, Global};
 
-/// The circuit of a sketch after a change, without gates and latches that no output needs. It has the inputs and the
-/// outputs of the circuit `named`.
-pub(crate) fn changed(
+/// The circuit of a sketch, with the names of the circuit `named`.
+pub(crate) fn circuit_of(
     alloc: Global,
     named: &Circuit,
     sketch: &Sketch,
-    change: Change,
 ) -> Result<Circuit, EncodeFault>
     ensures { IfOk result (HasNamesOf named.now) }
 {
-    let redrawn = redrawn(alloc, sketch, change)?;
-    let needed = needed(alloc, &redrawn)?;
-    let latches = latches_among(alloc, &redrawn, &needed)?;
-    cleaned(alloc, named, &redrawn, &needed, &latches)
+    let mut images = begun(alloc, named.inputs().len(), &sketch.latches, sketch.end)?;
+    build(&mut images, sketch, 0, usize::MAX)?;
+    Ok(made(alloc, named, sketch, &images)?)
 }
 
-/// The circuit of a sketch, with only the given latches, and only the gates whose places are `needed`.
-fn cleaned(
+/// The circuit with the gates of `images`, the latches of a sketch, and as many outputs as `named` has.
+fn made(
     alloc: Global,
     named: &Circuit,
     sketch: &Sketch,
-    needed: &[bool],
-    latches: &[Memory],
-) -> Result<Circuit, EncodeFault>
-    ensures { IfOk result (HasNamesOf named.now) }
-{
-    let mut images = begun(alloc, named.inputs().len(), latches, sketch.places())?;
-    build(&mut images, sketch, needed)?;
-    Ok(circuit_of(alloc, named, sketch, latches, &images)?)
-}
-
-/// The circuit with the gates of `images`, the given latches, and as many outputs as `named` has.
-fn circuit_of(
-    alloc: Global,
-    named: &Circuit,
-    sketch: &Sketch,
-    latches: &[Memory],
     images: &Images,
 ) -> Result<Circuit, AllocError>
-    requires { images.now.given ≡ length named.now.inputs + length latches.now }
+    requires { images.now.given ≡ length named.now.inputs + length sketch.now.latches.items }
     ensures { IfOk result (HasNamesOf named.now) }
 {
-    let cells = cells(alloc, images, latches)?;
+    let cells = cells(alloc, images, &sketch.latches)?;
     let outputs = outputs(alloc, images, sketch, named.outputs().len())?;
     assembled(alloc, named, images.builder(), &cells, outputs)
 }
 
 /// The sketch after a change.
-fn redrawn(alloc: Global, sketch: &Sketch, change: Change) -> Result<Sketch, EncodeFault> {
-    let kept = all_but(alloc, sketch, change.site)?;
-    let latches = latches_among(alloc, sketch, &kept)?;
-    let mut images = begun(alloc, sketch.inputs, &latches, sketch.places())?;
-    let by = replace(&mut images, sketch, &kept, change)?;
-    Ok(drawn(alloc, sketch, &latches, &images, change.site, by)?)
+pub(crate) fn redrawn(
+    alloc: Global,
+    sketch: &Sketch,
+    change: Change,
+) -> Result<Sketch, EncodeFault> {
+    let latches = latches_but(alloc, sketch, change.site)?;
+    let mut images = begun(alloc, sketch.inputs, &latches, sketch.end)?;
+    let by = replace(&mut images, sketch, change)?;
+    let mut drawn = drawn(alloc, sketch, &latches, &images)?;
+    put_at(&mut drawn, change.site, Signal::of_literal(by));
+    Ok(drawn)
 }
 
 /// Makes the gates of a sketch after a change. Returns the literal that the changed site takes.
-fn replace(
-    images: &mut Images,
-    sketch: &Sketch,
-    kept: &[bool],
-    change: Change,
-) -> Result<Literal, EncodeFault> {
-    build(images, sketch, kept)?;
-    let both = images.and(change.first, change.second)?;
-    let by = if change.is_negated {
-        both.negated()
-    } else {
-        both
+fn replace(images: &mut Images, sketch: &Sketch, change: Change) -> Result<Literal, EncodeFault> {
+    let Site::Variable(place) = change.site else {
+        build(images, sketch, 0, usize::MAX)?;
+        return conjunction(images, change);
     };
-    if let Site::Variable(place) = change.site {
-        images.put(place, by);
-        build(images, sketch, kept)?;
+    build(images, sketch, 0, place)?;
+    if change.first.place > place || change.second.place > place {
+        build_behind(images, sketch, place)?;
     }
+    let by = conjunction(images, change)?;
+    images.put(place, by);
+    build_behind(images, sketch, place)?;
     Ok(by)
 }
 
-/// The sketch with the gates of `images`, and with the literal `by` at the changed site.
-fn drawn(
+/// Makes the gates of a sketch whose places are behind a given one.
+fn build_behind(images: &mut Images, sketch: &Sketch, place: usize) -> Result<(), EncodeFault>
+    ensures { OnOk result (Extends images.old images.new) }
+{
+    build(images, sketch, place.saturating_add(1), usize::MAX)
+}
+
+/// The literal of a change's conjunction, or of its negation.
+fn conjunction(images: &mut Images, change: Change) -> Result<Literal, EncodeFault>
+    ensures extends { Extends images.old images.new }
+    ensures held { IfOk result (IsHeld images.new) }
+{
+    let both = images.and(change.first, change.second)?;
+    Ok(if change.is_negated {
+        both.negated()
+    } else {
+        both
+    })
+}
+
+/// The sketch with the gates of `images`.
+pub(crate) fn drawn(
     alloc: Global,
     sketch: &Sketch,
     latches: &[Memory],
     images: &Images,
-    site: Site,
-    by: Literal,
 ) -> Result<Sketch, AllocError> {
-    let mut memories = memories(alloc, images, latches)?;
-    let mut outputs = signals(alloc, images, &sketch.outputs)?;
-    match site {
-        Site::Output(number) if number < outputs.len() => {
-            outputs[number] = Signal::of_literal(by);
-        }
-        Site::Next(number) if number < memories.len() => {
-            memories[number].next = Signal::of_literal(by);
-        }
-        _ => {}
-    }
     Ok(Sketch {
         inputs: sketch.inputs,
-        latches: memories,
+        latches: memories(alloc, images, latches)?,
         gates: rows_of(alloc, images.builder())?,
-        outputs,
+        outputs: signals(alloc, images, &sketch.outputs)?,
+        end: images.builder().variables() as usize + 1,
     })
 }
 
-/// For each place whether the change leaves it: all but the variable that is replaced.
-fn all_but(alloc: Global, sketch: &Sketch, site: Site) -> Result<Vec<bool>, AllocError> {
-    let mut kept = vec![in alloc; true; sketch.places()]?;
-    if let Site::Variable(place) = site
-        && place < kept.len()
-    {
-        kept[place] = false;
+/// Puts a signal at an output or at a next value.
+fn put_at(sketch: &mut Sketch, site: Site, by: Signal) {
+    match site {
+        Site::Output(number) if number < sketch.outputs.len() => {
+            sketch.outputs[number] = by;
+        }
+        Site::Next(number) if number < sketch.latches.len() => {
+            sketch.latches[number].next = by;
+        }
+        _ => {}
     }
-    Ok(kept)
 }
 
-/// The latches of a sketch whose places are among the given ones.
-fn latches_among(
-    alloc: Global,
-    sketch: &Sketch,
-    places: &[bool],
-) -> Result<Vec<Memory>, AllocError> {
+/// The latches of a sketch but the one that a change replaces.
+fn latches_but(alloc: Global, sketch: &Sketch, site: Site) -> Result<Vec<Memory>, AllocError> {
     let mut latches = Vec::new(alloc);
     for latch in &sketch.latches {
-        if is_among(places, latch.place) {
-            latches.push(*latch)?;
+        match site {
+            Site::Variable(place) if latch.place == place => {}
+            _ => latches.push(*latch)?,
         }
     }
     Ok(latches)
 }
 
 /// Images over a builder that is given the inputs and the latches.
-fn begun(
+pub(crate) fn begun(
     alloc: Global,
     inputs: usize,
     latches: &[Memory],
@@ -175,12 +162,12 @@ fn put_latches(images: &mut Images, first: u32, latches: &[Memory])
     }
 }
 
-/// Makes the gates of a sketch whose places are among the given ones.
-fn build(images: &mut Images, sketch: &Sketch, places: &[bool]) -> Result<(), EncodeFault>
+/// Makes the gates of a sketch whose places are from `start` on, before `end`.
+fn build(images: &mut Images, sketch: &Sketch, start: usize, end: usize) -> Result<(), EncodeFault>
     ensures { OnOk result (Extends images.old images.new) }
 {
     for gate in &sketch.gates {
-        if is_among(places, gate.place) {
+        if start <= gate.place && gate.place < end {
             images.build(*gate)?;
         }
     }

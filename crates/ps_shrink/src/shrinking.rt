@@ -1,6 +1,6 @@
 //! The search for a smaller circuit that wins.
 
-ghost use Rattle.std.specs.Prelude.{◌≡◌, ◌≤◌, IfErr, IfOk, IfSome, IsTrue, length};
+ghost use Rattle.std.specs.Prelude.{◌≤◌, IfErr, IfOk, IfSome, length};
 ghost use Rattle.ps_hoa.specs.Files.{FileData};
 ghost use Rattle.ps_automaton.specs.Automata.{IsBuiltFrom};
 ghost use Rattle.ps_automaton.specs.Chains.{Chain};
@@ -9,17 +9,20 @@ ghost use Rattle.ps_verify.specs.Judgements.{IsWinning};
 ghost use Rattle.ps_shrink.specs.Inner.Assembled.{HasNamesOf};
 ghost use Rattle.ps_shrink.specs.Reductions.{IsReduction, IsSmallerWinner};
 
-use crate::change::Change;
 use crate::judging::{Task, wins};
-use crate::rebuilding::changed;
+use crate::needed::pruned;
+use crate::rebuilding::{circuit_of, redrawn};
 use crate::reduction::Reduction;
+use crate::size::Size;
 use crate::sketch::Sketch;
+use crate::sweeping::swept;
+use crate::trials::Trials;
 use crate::walk::Walk;
 use ps_automaton::Automaton;
 use ps_circuit::{Circuit, EncodeFault};
 use ps_machine::Order;
 use ps_product::ProductFault;
-use ps_simulate::{Role, Stimulus};
+use ps_simulate::Role;
 use ps_verify::{Judgement, verified};
 use std::alloc::{AllocError, Global};
 
@@ -58,52 +61,16 @@ pub fn shrunk(
     }
 }
 
-/// A change of a circuit takes one step, and one more for each so many gates.
-const GATES_A_STEP: usize = 64;
+/// How often signals that were equal on all runs so far replace each other before single changes are tried.
+const SWEEPS: usize = 8;
 
-/// How many latches and gates a circuit has.
-#[derive(Clone, Copy)]
-struct Size {
-    latches: usize,
-    gates: usize,
-}
-
-impl Size {
-    /// The size of a circuit.
-    fn of(circuit: &Circuit) -> Self
-        ensures latches { result.latches ≡ length circuit.now.latches }
-        ensures gates { result.gates ≡ length circuit.now.gates }
-    {
-        Size {
-            latches: circuit.latches().len(),
-            gates: circuit.gates().len(),
-        }
-    }
-
-    /// Whether neither number is greater than in the other size.
-    fn is_within(self, other: Size) -> bool
-        ensures latches { IsTrue result → self.latches ≤ other.latches }
-        ensures gates { IsTrue result → self.gates ≤ other.gates }
-    {
-        self.latches <= other.latches && self.gates <= other.gates
-    }
-
-    /// How many steps a change of a circuit of this size takes.
-    fn steps(self) -> usize {
-        1 + self.gates / GATES_A_STEP
-    }
-
-    /// What the search makes small: a latch counts as two gates.
-    fn cost(self) -> usize {
-        self.latches.saturating_mul(2).saturating_add(self.gates)
-    }
-}
-
-/// The state of a search: the position in the order of changes, and the stimuli on which changed circuits lost.
+/// The state of a search: how many sweeps are left, the position in the order of changes, and the stimuli on which
+/// changed circuits lost.
 #[derive(Drop)]
 struct Search {
+    sweeps: usize,
     walk: Walk,
-    stimuli: Vec<Stimulus>,
+    trials: Trials,
 }
 
 /// A circuit that wins and is not larger than the given one. At most `steps` changes are tried.
@@ -115,8 +82,9 @@ fn smaller(alloc: Global, task: Task, circuit: Circuit, steps: u32) -> Result<Ci
 {
     let most = Size::of(&circuit);
     let mut search = Search {
+        sweeps: SWEEPS,
         walk: Walk::new(),
-        stimuli: Vec::new(alloc),
+        trials: Trials::new(alloc, task, &circuit)?,
     };
     let mut sketch = Sketch::of(alloc, &circuit)?;
     let mut best = circuit;
@@ -151,36 +119,82 @@ fn step(
         IsBuiltFrom file chain task.entry.automaton.now →
         IsWinning task.entry.order task.entry.role file c)) }
 {
-    let Some(change) = search.walk.next(sketch) else {
-        return Ok(None);
-    };
-    let Some(candidate) = candidate(alloc, best, sketch, change)? else {
+    let old = Size::of(best);
+    let Some(candidate) = candidate(alloc, task, search, best, sketch)? else {
         return Ok(None);
     };
     let size = Size::of(&candidate);
-    let old = Size::of(best);
-    if !size.is_within(most) || !search.walk.takes(old.cost(), size.cost()) {
+    if !size.is_within(most) || size.cost() > search.walk.most(old.cost()) {
         return Ok(None);
     }
-    if !wins(alloc, task, &mut search.stimuli, &candidate)? {
+    if !wins(alloc, task, &mut search.trials, &candidate)? {
         return Ok(None);
     }
     search.walk.took(old.cost(), size.cost());
     Ok(Some(candidate))
 }
 
-/// The circuit after a change, unless it would be too large. Fails if out of memory.
+/// The circuit after the next change, unless it costs too much or loses on a stimulus. Fails if out of memory.
 fn candidate(
     alloc: Global,
+    task: Task,
+    search: &mut Search,
     best: &Circuit,
     sketch: &Sketch,
-    change: Change,
 ) -> Result<Option<Circuit>, AllocError>
     ensures { IfOk result (λ found. IfSome found (HasNamesOf best.now)) }
 {
-    match changed(alloc, best, sketch, change) {
+    let Some(drawn) = promising(alloc, task, search, sketch)? else {
+        return Ok(None);
+    };
+    match circuit_of(alloc, best, &drawn) {
         Ok(circuit) => Ok(Some(circuit)),
         Err(EncodeFault::CircuitTooLarge) => Ok(None),
         Err(EncodeFault::OutOfMemory) => Err(AllocError),
+    }
+}
+
+/// The sketch after the next change, unless it costs too much or loses on a stimulus. Fails if out of memory.
+fn promising(
+    alloc: Global,
+    task: Task,
+    search: &mut Search,
+    sketch: &Sketch,
+) -> Result<Option<Sketch>, AllocError> {
+    let most = search.walk.most(sketch.size().cost());
+    let Some(drawn) = next(alloc, search, sketch)? else {
+        return Ok(None);
+    };
+    if drawn.size().cost() > most || drawn.is_same(sketch) {
+        return Ok(None);
+    }
+    if search.trials.refute(alloc, task, &drawn)? {
+        return Ok(None);
+    }
+    Ok(Some(drawn))
+}
+
+/// The sketch after the next change. Fails if out of memory.
+fn next(alloc: Global, search: &mut Search, sketch: &Sketch) -> Result<Option<Sketch>, AllocError> {
+    match changed(alloc, search, sketch) {
+        Ok(Some(changed)) => Ok(Some(pruned(alloc, &changed)?)),
+        Ok(None) | Err(EncodeFault::CircuitTooLarge) => Ok(None),
+        Err(EncodeFault::OutOfMemory) => Err(AllocError),
+    }
+}
+
+/// The sketch after the next change, with gates and latches that no output needs.
+fn changed(
+    alloc: Global,
+    search: &mut Search,
+    sketch: &Sketch,
+) -> Result<Option<Sketch>, EncodeFault> {
+    if search.sweeps > 0 {
+        search.sweeps -= 1;
+        return Ok(Some(swept(alloc, sketch, search.trials.stimuli())?));
+    }
+    match search.walk.next(sketch) {
+        Some(change) => Ok(Some(redrawn(alloc, sketch, change)?)),
+        None => Ok(None),
     }
 }

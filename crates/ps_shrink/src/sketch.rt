@@ -1,6 +1,7 @@
 //! Circuits without names, in which each variable has a place (index): the constant has the place 0, and then come the
 //! inputs, the latches and the gates.
 
+use crate::size::Size;
 use ps_circuit::{Builder, Circuit, Literal};
 use ps_simulate::{Places, Wire, output_wires};
 use std::alloc::{AllocError, Global};
@@ -31,6 +32,11 @@ impl Signal {
         }
     }
 
+    /// Whether both are the same signal.
+    pub fn is_same(self, other: Signal) -> bool {
+        self.place == other.place && self.is_negated == other.is_negated
+    }
+
     /// The signal of a literal whose variable's number is its place.
     pub fn of_literal(literal: Literal) -> Self {
         Signal {
@@ -59,6 +65,15 @@ pub(crate) struct Row {
     pub second: Signal,
 }
 
+impl Row {
+    /// Whether both are the same gate.
+    fn is_same(self, other: Row) -> bool {
+        self.place == other.place
+            && self.first.is_same(other.first)
+            && self.second.is_same(other.second)
+    }
+}
+
 /// A latch: its own place, its next value, and its first value.
 #[derive(Clone, Copy)]
 pub(crate) struct Memory {
@@ -68,6 +83,13 @@ pub(crate) struct Memory {
     pub next: Signal,
     /// The value in the first step.
     pub reset: bool,
+}
+
+impl Memory {
+    /// Whether both are the same latch.
+    fn is_same(self, other: Memory) -> bool {
+        self.place == other.place && self.reset == other.reset && self.next.is_same(other.next)
+    }
 }
 
 /// A circuit without names. Each gate comes after the gates that it reads.
@@ -81,6 +103,8 @@ pub(crate) struct Sketch {
     pub gates: Vec<Row>,
     /// The signals of the outputs.
     pub outputs: Vec<Signal>,
+    /// The end of the places.
+    pub end: usize,
 }
 
 impl Sketch {
@@ -92,7 +116,28 @@ impl Sketch {
             latches: latches_of(alloc, &places)?,
             gates: gates_of(alloc, &places)?,
             outputs: outputs_of(alloc, &places)?,
+            end: end_of(circuit),
         })
+    }
+
+    /// Whether the latches, the gates and the outputs are the same.
+    pub fn is_same(&self, other: &Sketch) -> bool {
+        let mut latches = self.latches.iter().zip(&other.latches);
+        let mut gates = self.gates.iter().zip(&other.gates);
+        let mut outputs = self.outputs.iter().zip(&other.outputs);
+        self.latches.len() == other.latches.len()
+            && self.gates.len() == other.gates.len()
+            && outputs.all(|(one, two)| one.is_same(*two))
+            && latches.all(|(one, two)| one.is_same(*two))
+            && gates.all(|(one, two)| one.is_same(*two))
+    }
+
+    /// How many latches and gates the sketch has.
+    pub fn size(&self) -> Size {
+        Size {
+            latches: self.latches.len(),
+            gates: self.gates.len(),
+        }
     }
 
     /// The number of sites that a change can replace: outputs, next values, latches and gates.
@@ -100,11 +145,12 @@ impl Sketch {
         let latches = self.latches.len();
         (latches + latches).saturating_add(self.outputs.len() + self.gates.len())
     }
+}
 
-    /// The number of places.
-    pub fn places(&self) -> usize {
-        (1 + self.latches.len() + self.gates.len()).saturating_add(self.inputs)
-    }
+/// The end of the places of a circuit's variables.
+fn end_of(circuit: &Circuit) -> usize {
+    let latches = circuit.latches().len();
+    (1 + latches + circuit.gates().len()).saturating_add(circuit.inputs().len())
 }
 
 /// The latches of a circuit. Fails if out of memory.

@@ -58,9 +58,13 @@ impl Walk {
         }
     }
 
-    /// Whether a circuit of the new cost may take the place of one of the old cost. A drawn change need not lower it.
-    pub fn takes(&self, old: usize, new: usize) -> bool {
-        new < old || (self.stage == Stage::Drawn && new == old)
+    /// The most that a circuit may cost which takes the place of one of the old cost. A drawn change need not lower it.
+    pub fn most(&self, old: usize) -> usize {
+        if self.stage == Stage::Drawn {
+            old
+        } else {
+            old.saturating_sub(1)
+        }
     }
 
     /// The next change, or `None` where a site or a round ends.
@@ -130,7 +134,7 @@ impl Walk {
         match self.stage {
             Stage::Constants => 0,
             Stage::Inputs => sketch.inputs.saturating_add(1),
-            Stage::Variables | Stage::Drawn => sketch.places(),
+            Stage::Variables | Stage::Drawn => sketch.end,
         }
     }
 
@@ -157,7 +161,7 @@ impl Walk {
     /// A signal that is drawn.
     fn draw_signal(&mut self, sketch: &Sketch) -> Signal {
         Signal {
-            place: self.below(sketch.places()),
+            place: self.below(sketch.end),
             is_negated: self.below(2) == 0,
         }
     }

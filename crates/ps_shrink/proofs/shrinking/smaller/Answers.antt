@@ -32,7 +32,7 @@ next order role file given best small old names latches gates wins = record {
 }
 
 pub loop-preserved : goal.loop-preserved
-loop-preserved c = λ file chain built. elim c.match-branch-3.branch [
+loop-preserved c = λ file chain built. elim c.match-branch-4.branch [
   | in-Some+in_ok-sketch-2 w ↦
       let e = c.in_ok-found.ensures in
       let latches : length w.in-Some.found.latches ≤ length c.args.circuit.latches =
