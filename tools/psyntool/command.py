@@ -33,7 +33,7 @@ CERT = Flag("--cert", "by the certificate that is given, without a solver")
 MOORE = Flag("--moore", "the controller moves first: outputs before inputs")
 COMPACT = Flag("--compact", "the compact text of a certificate")
 ENV = Flag("--env", "the circuit is an environment")
-TLSF = Flag("--tlsf", "a specification in temporal logic (TLSF) in the place of the automaton")
+TLSF = Flag("--tlsf", "a specification in temporal logic (TLSF) in the place of the automaton; a file NAME.tlsf is taken for one without the flag")
 OF_THE_PROGRAM = {flag.name: flag for flag in (FULL, CERT, MOORE, COMPACT, ENV, TLSF)}
 TO_FILES = Flag(
     "-o",
@@ -98,6 +98,7 @@ class Command:
     The flags in `flags` are passed to the program; the flags in `own` are handled by the tool. `behind` maps a flag to
     the kind of one more file that the command reads if the flag is given. `replaced` maps a flag to the kind that the
     first file then has. `instead` maps a flag to optional files that the command then reads in place of all others.
+    `apart` maps a flag to flags that can't stand beside it.
     `least` is the number of words that must be given, if the last words may be left out. The function `run` of the
     module `place` runs the command.
     """
@@ -110,6 +111,7 @@ class Command:
     behind: dict = field(default_factory=dict)
     replaced: dict = field(default_factory=dict)
     instead: dict = field(default_factory=dict)
+    apart: dict = field(default_factory=dict)
     least: int | None = None
     is_of_the_program: bool = False
     module: str = ""
@@ -134,6 +136,14 @@ class Command:
         other = next((kinds for name, kinds in self.instead.items() if name in given), None)
         first = tuple(kind for name, kind in self.replaced.items() if name in given)
         return other or (*first, *self.reads[len(first) :], *(kind for name, kind in self.behind.items() if name in given))
+
+    def recognised(self, given, words):
+        """The given flags, and the flag for a first file of another kind if the file's name ends as those of this kind
+        do."""
+        for flag, kind in self.replaced.items():
+            if words and flag not in given and not set(self.instead) & set(given) and words[0].endswith(tuple(f".{ending}" for ending in kind.endings)):
+                return {**given, flag: True}
+        return given
 
     def wanted(self, given=()):
         """The words of a usage line for what the command reads, with optional words in brackets."""

@@ -4,7 +4,7 @@ The commands of the program come first, in the order of the program's own table.
 of the command's name in `commands`, or in `asking` if the command only hands the program's answer on.
 """
 from psyntool.command import (
-    ABC, AUTO, BY, CHECK, CIRCUIT, DROP, EDGES, ENV, FORCE, KEEP, MOORE, NAMES, OF_PARTS, PARTS, PICTURE, PRIORITIES, REACH, SEED, SET, SMALL, STIMULUS, STRICT, TO_FILE,
+    ABC, AUTO, BY, CERT, CHECK, CIRCUIT, COMPACT, DROP, EDGES, ENV, FORCE, FULL, KEEP, MOORE, NAMES, OF_PARTS, PARTS, PICTURE, PRIORITIES, REACH, SEED, SET, SMALL, STIMULUS, STRICT, TLSF, TO_FILE,
     TO_FILES, TO_TLSF, TRACE, WAVE, Command, of_the_program,
 )  # fmt: skip
 from psyntool.kinds import Kind
@@ -17,7 +17,12 @@ OF_THE_PROGRAM = (
     of_the_program("judge", "the certificate by another solver's solution, or what is wrong with it", own=(PICTURE, CHECK)),
     of_the_program("sim", "what a circuit does, letter by letter", own=(NAMES,)),
     of_the_program("lasso", "whether the automaton accepts what the circuit does; with --tlsf whether that satisfies the specification", own=(TRACE, CHECK)),
-    of_the_program("verify", "wins if the automaton accepts all that the circuit does, else a stimulus on which it does not", own=(STIMULUS, WAVE, CHECK)),
+    of_the_program(
+        "verify",
+        "wins if the automaton accepts all that the circuit does, else a stimulus on which it does not; with --tlsf by a specification",
+        own=(STIMULUS, WAVE, CHECK),
+        apart={TLSF.name: (MOORE,)},
+    ),
     of_the_program(
         "shrink",
         "a smaller circuit that wins too, as small as the search for it finds; if the circuit loses, a stimulus on which it does",
@@ -28,9 +33,10 @@ OF_THE_PROGRAM = (
     of_the_program("cert", "a certificate of that game", module=ASKING),
     of_the_program(
         "synth",
-        "a controller, or an environment that defeats every finite-state one; with --cert by the certificate of its game",
+        "a controller, or an environment that defeats every finite-state one; with --cert by the certificate of its game; with --tlsf for a specification",
         own=(TO_FILES, FORCE, SMALL, BY, KEEP, PICTURE, PARTS, *OF_PARTS),
         instead={flag.name: (Kind.LIST,) for flag in (PARTS, *OF_PARTS)},
+        apart={TLSF.name: (FULL, CERT, MOORE, COMPACT, SMALL, BY, KEEP, PICTURE, PARTS, *OF_PARTS)},
     ),
 )
 OF_THE_TOOL = (

@@ -1,6 +1,8 @@
-"""Runs of an automaton on a circuit's trace: for each step the state, the letter by names, and the acceptance sets."""
+"""Runs of an automaton on a circuit's trace: for each step the state, the letter by names, and the acceptance sets. For a
+specification, the letters alone."""
 from psyntool import program
-from psyntool.texts import automaton, circuit, labels, stimulus
+from psyntool.kinds import Kind
+from psyntool.texts import automaton, circuit, labels, specification, stimulus
 
 LONGEST = 100_000
 # Of a longer run than both together, so many steps are shown at its beginning, and as many at its end.
@@ -32,11 +34,13 @@ def steps(read, letters):
 
 
 def trace(texts, stem, lap, is_stopped=False):
-    """A table of the steps on a lasso: on the stem, and on one lap (the repeated part). The texts are an automaton, a
-    circuit and a stimulus. Below it stands what became of the parts of which the automaton was composed, if it was; the
-    table can be stopped at the first step that breaks a guarantee."""
+    """A table of the steps on a lasso: on the stem, and on one lap (the repeated part). The texts are an automaton or a
+    specification, a circuit and a stimulus. Below the run of an automaton stands what became of the parts of which it
+    was composed, if it was; the table can be stopped at the first step that breaks a guarantee."""
     if stem + lap > LONGEST:
         return f"the run has {stem + lap} steps until it comes again, and is not shown\n"
+    if texts[0].kind is Kind.SPECIFICATION:
+        return trace_by_names(texts, stem, lap)
     read = automaton.read(texts[0].string)
     numbers = {name: number for number, name in enumerate(read.names)}
     letters = [{numbers[name] for name in true} for true in letters_of(texts, stem + lap)]
@@ -44,18 +48,32 @@ def trace(texts, stem, lap, is_stopped=False):
     is_ended = rows[-1][-1] == "no edge"
     last, parts = parts_told(read, letters[: len(rows)], None if is_ended else stem, is_stopped)
     rows = rows[:last]
-    head = ("step", "state", "letter", "sets")
+    told = table(("step", "state", "letter", "sets"), rows, None if is_ended else stem, lap)
+    return "\n".join([*told, *(["there is no edge: the run ends"] if rows[-1][-1] == "no edge" else []), *parts, ""])
+
+
+def trace_by_names(texts, stem, lap):
+    """A table of the letters on a lasso, by the names that a specification declares."""
+    names = [name for declared in specification.owners(texts[0].string) for name in declared]
+    letters = ({number: name in true for number, name in enumerate(names)} for true in letters_of(texts, stem + lap))
+    rows = [(str(place), labels.letter_text(letter, names)) for place, letter in enumerate(letters)]
+    return "\n".join([*table(("step", "letter"), rows, stem, lap), ""])
+
+
+def table(head, rows, stem, lap):
+    """The lines of a table. A line stands before the row with which the lap begins, unless the run ends (`stem` is then
+    None). Of a long run only the two ends are shown."""
     left_out = range(SHOWN, max(SHOWN, len(rows) - SHOWN))
     widths = [max(len(row[column]) for row in [head, *rows[: left_out.start], *rows[left_out.stop :]]) for column in range(len(head) - 1)]
     shown = ["  ".join([*(word.ljust(width) for word, width in zip(row, widths)), row[-1]]).rstrip() for row in [head, *rows]]
-    told, ends = shown[:1], rows[-1][-1] == "no edge"
+    told = shown[:1]
     for place, line in enumerate(shown[1:]):
         if place == left_out.start and left_out:
             told.append(f".. {len(left_out)} steps are not shown ..")
-        if place == stem and not is_ended:
+        if place == stem:
             told.append(f"the lap begins{f' at step {stem}' * (stem in left_out)}; it comes again behind step {stem + lap - 1}")
         told += [] if place in left_out else [line]
-    return "\n".join([*told, *(["there is no edge: the run ends"] if ends else []), *parts, ""])
+    return told
 
 
 def parts_told(read, letters, stem, is_stopped):

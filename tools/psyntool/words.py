@@ -75,7 +75,9 @@ def request_of(words, commands):
         return Request(commands["help"], given, others[:1], commands)
     command = command_of(others.pop(0), commands)
     if not command.runs_another:
+        given = command.recognised(given, others)
         check_flags(command, given, commands)
+        check_apart(command, given)
         check_count(command, given, others)
     return Request(command, given, others, commands)
 
@@ -92,6 +94,13 @@ def check_flags(command, given, commands):
         if flag not in known:
             having = [name for name, other in commands.items() if flag in {it.name for it in other.all_flags}]
             raise Refused(f"{command.name} has no flag {flag}: it is for {', '.join(having)}")
+
+
+def check_apart(command, given):
+    for flag in command.apart:
+        for other in command.apart[flag]:
+            if flag in given and other.name in given:
+                raise Refused(f"{command.name} {flag} can't have {other.name}")
 
 
 def check_count(command, given, words):

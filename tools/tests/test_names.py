@@ -25,6 +25,7 @@ FAMILIES = {
     "parts_of run tail_of value_of with_formula",
     "the word of a lasso, which automata and formulas read": "Repeats lasso_word",
     "what formulas, tableaux and fair cycles have of their own, as games and automata do": "AreDistinct Fits IsAnswer IsRun Keeps Leads",
+    "what products have of words of latches, and of groups of letters": "AreDifferent AreOnce IsRead IsWhole",
 }
 # Acceptance marks are those of HOA texts; a fair cycle has marks of any kind on its edges.
 WITH_MARKS = ("ps_hoa", "ps_automaton", "ps_automaton_tests", "ps_fairness", "ps_game_tests", "ps_models", "ps_translation")
@@ -38,6 +39,11 @@ NUMBERS_OF_PLAYERS = {
 PROOFS_OF_FUNCTIONS = ("Answers.antt", "Invariants.antt", "Proof.antt", "Lib.antt")
 # The crates, and what the file of each has.
 SAME_LEMMA_FILES = {
+    "DraftLemmas.antt": "ps_circuit ps_models: circuits that are read; products that are explored",
+    "ExploringLemmas.antt": "ps_product ps_timing: products, and the values of latches, that are explored",
+    "RowLemmas.antt": "ps_models ps_simulate: the edges of a vertex; rows of lanes",
+    "StepLemmas.antt": "ps_models ps_simulate: steps with covers; steps of lanes",
+    "ValueLemmas.antt": "ps_simulate ps_timing: values of variables; values of Boolean functions",
     "Bits.antt": "ps_automaton ps_formula: sets that are numbers; one bit of the rows of truths",
     "Building.antt": "ps_automaton ps_tlsf: the automaton of a draft; tables of formulas that grow",
     "Forms.antt": "ps_tlsf ps_zielonka: the formulas that operators form; one iteration of the solver",

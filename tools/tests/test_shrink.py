@@ -20,6 +20,27 @@ SIZES = {
 }
 
 
+def conjunctions(count):
+    """An automaton that requires the output to be the conjunction of both inputs, in each state."""
+    lines = ['HOA: v1 Start: 0 AP: 3 "i0" "i1" "o" controllable-AP: 2 Acceptance: 0 t --BODY--\n']
+    for q in range(count):
+        lines.append(f"State: {q} [0&1&2] {(q + 1) % count} [!(0&1)&!2] {(q * 3 + 2) % count}\n")
+    return "".join(lines) + "--END--\n"
+
+
+class Large(OnFiles):
+    def test_a_circuit_of_thousands_of_gates(self):
+        automaton = self.file("large.hoa", conjunctions(1000).encode())
+        made = self.tool("synth", automaton).stdout
+        before = circuit.read(made.split(b"\n", 1)[1].decode())
+        self.assertGreater(len(before.gates), 3000)
+        given = self.file("large.aag", before.text().encode())
+        done = self.tool("shrink", automaton, given)
+        self.assertEqual(self.tool("verify", automaton, "-", given=done.stdout).stdout, b"wins\n")
+        after = circuit.read(done.stdout.decode())
+        self.assertLessEqual((len(after.latches), len(after.gates)), (0, 1))
+
+
 class Gallery(OnFiles):
     def shrunk(self, name, flags):
         """The circuit that is printed for a specification of the gallery, which `verify` must pass."""

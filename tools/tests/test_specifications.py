@@ -1,5 +1,6 @@
 """Tests of the tool on specifications in temporal logic: what it explains, and what it hands on."""
 import json
+import os
 import unittest
 
 from psyntool.kinds import Kind, kind_of
@@ -75,13 +76,52 @@ class Specifications(OnFiles):
 
     def test_a_text_of_another_kind_is_named(self):
         self.assertIn("spec.hoa is an automaton; lasso wants SPECIFICATION CIRCUIT STIMULUS", self.asked("spec.hoa", "grant.aag", "l.stim")[1])
-        told = self.tool("lasso", "s.tlsf", "grant.aag", "l.stim").stderr.decode()
-        self.assertIn("s.tlsf is a specification; lasso wants AUTOMATON CIRCUIT STIMULUS", told)
+        self.file("spec", HEAD + MAIN)
+        told = self.tool("lasso", "spec", "grant.aag", "l.stim").stderr.decode()
+        self.assertIn("spec is a specification; lasso wants AUTOMATON CIRCUIT STIMULUS", told)
+
+    def test_it_is_known_by_its_ending(self):
+        self.assertEqual(self.tool("lasso", "s.tlsf", "grant.aag", "l.stim").stdout, b"satisfied stem 0 lap 1\n")
+        self.assertEqual(self.tool("each", "lasso", "s.tlsf", "never.aag", "l.stim").stdout, b"s.tlsf never.aag l.stim: violated stem 0 lap 1\n")
+        self.assertEqual(self.tool("verify", "s.tlsf", "grant.aag").stdout, b"wins\n")
+        self.assertEqual(self.tool("each", "verify", "s.tlsf", "grant.aag", "spec.hoa", "grant.aag").stdout.count(b"wins\n"), 2)
+        for words in (["verify", "--moore", "s.tlsf", "grant.aag"], ["each", "verify", "--moore", "s.tlsf", "grant.aag"]):
+            done = self.tool(*words)
+            self.assertEqual((done.stdout, done.stderr, done.returncode), (b"", b"psyn: verify --tlsf can't have --moore\n", 2))
+
+    def test_where_a_circuit_loses_the_letters_are_shown_by_names(self):
+        done = self.tool("verify", "--check", "--stimulus", "lost.stim", "s.tlsf", "never.aag")
+        self.assertEqual((done.stdout.split(b"\n")[0], done.returncode), (b"loses", 3))
+        told = done.stderr.decode().splitlines()
+        self.assertEqual(told[0].split(), ["step", "letter"])
+        self.assertIn(["r", "!g"], [line.split()[1:] for line in told])
+        self.assertTrue([line for line in told if line.startswith("the lap begins; it comes again")], told)
+        self.assertEqual(self.asked("s.tlsf", "never.aag", "lost.stim")[0].split()[0], "violated")
+        self.assertEqual(json.loads(self.tool("verify", "--json", "s.tlsf", "never.aag").stdout)["verdict"], "loses")
 
     def test_what_it_refuses(self):
         self.assertEqual(self.asked("--trace", "s.tlsf", "grant.aag", "l.stim")[2], 2)
         answer, told, status = self.asked("s.tlsf", "grant.aag")
         self.assertEqual((answer, told, status), ("", ["psyn: lasso --tlsf reads SPECIFICATION CIRCUIT STIMULUS, and got 2 files"], 2))
+
+
+class Synthesis(OnFiles):
+    def setUp(self):
+        super().setUp()
+        self.file("s.tlsf", HEAD + MAIN)
+
+    def test_a_circuit_is_made_for_it(self):
+        done = self.tool("synth", "s.tlsf")
+        self.assertEqual((done.stdout.split(b"\n")[0], done.returncode), (b"REALIZABLE", 10), done)
+        done = self.tool("synth", "-o", "made", "s.tlsf")
+        self.assertEqual((done.stdout, done.returncode), (b"REALIZABLE\n", 10), done)
+        self.assertEqual(self.tool("verify", "s.tlsf", "made.aag").stdout, b"wins\n")
+        self.assertFalse(os.path.exists(os.path.join(self.room, "made.pg")))
+
+    def test_no_other_flag_stands_beside_it(self):
+        for flag in ("--full", "--moore", "--compact", "--small"):
+            done = self.tool("synth", flag, "s.tlsf")
+            self.assertEqual((done.stdout, done.stderr.decode(), done.returncode), (b"", f"psyn: synth --tlsf can't have {flag}\n", 2))
 
 
 class Reading(unittest.TestCase):

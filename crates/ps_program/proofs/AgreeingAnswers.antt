@@ -32,6 +32,7 @@ use Rattle.ps_program.specs.Solvers.{Solvers}
 use Rattle.ps_program.specs.Solving.{AnswersGame, AnswersSolve}
 use Rattle.ps_program.specs.Synthesis.{AnswersBy, AnswersReport}
 use Rattle.ps_program.specs.Verifying.{AnswersVerify}
+use Rattle.ps_program.specs.VerifyingTlsf.{AnswersVerifyTlsf}
 use Rattle.ps_program.specs.Texts.{CutsInTwo, ReadsCertified, ReadsCircuitText, ReadsGameText, ReadsSimulated}
 use Rattle.ps_program.specs.declared.commands.SynthLine.{SynthLine}
 use Rattle.ps_program.proofs.Agreeing.{OneCertificate, OneFile, OneFileGame, OneWinner, certificates_agree}
@@ -43,17 +44,21 @@ use Rattle.ps_program.proofs.OneStage.{OneGame, OneFlaw, OneCircuit, OneStimulus
 use Rattle.ps_program.proofs.OneStage.{OneValues, automaton_one, makes_one, tells_one, game_accepted, RefusedOr}
 use Rattle.ps_program.proofs.OneStage.{report_refused}
 use Rattle.ps_program.proofs.ShrinkDetermined.{shrink_one_or}
+use Rattle.ps_program.proofs.SynthTlsfDetermined.{NotBothPlayers, synth_tlsf_one_or}
 use Rattle.ps_program.proofs.VerifyDetermined.{NotBoth, verify_one_or}
+use Rattle.ps_program.proofs.VerifyTlsfDetermined.{NotBothFor, verify_tlsf_one_or}
 use Rattle.ps_program.proofs.OneLine.{is_line_one}
 use Rattle.ps_program.proofs.OneSatisfaction.{OneWord, lasso_tlsf_one}
 use Rattle.ps_program.proofs.JudgeLemmas.{OneSolution, OneJudged, OneLoser, NoFlawAndCycle, NoFlaw, NoCycle}
 use Rattle.ps_program.proofs.JudgeLemmas.{judges_one_or}
 use Rattle.ps_solution.specs.Solved.{SolutionData}
+use Rattle.ps_specification.specs.Translating.{own_translator}
 
 module _ (games : OneGame) (certificates : OneCertificate) (flaws : OneFlaw) (circuits : OneCircuit)
     (stimuli : OneStimulus) (files : OneFile) (refusals : OneRefusal) (outcomes : OneOutcome) (verdicts : OneVerdict)
     (words : OneWord) (values : OneValues) (file_games : OneFileGame) (winners : OneWinner) (solutions : OneSolution)
-    (judged : OneJudged) (not_both : NotBoth) (apart : NoFlawAndCycle) (losers : OneLoser) (no_flaw : NoFlaw)
+    (judged : OneJudged) (not_both : NotBoth) (not_both_for : NotBothFor) (not_both_players : NotBothPlayers)
+    (apart : NoFlawAndCycle) (losers : OneLoser) (no_flaw : NoFlaw)
     (no_cycle : NoCycle) where
   certified_one : (texts : List ℕ) → IsOne (ReadsCertified texts)
   certified_one texts = then_one _ _ (cut_one texts) (λ parts. search (rules, then_one, reading_one, ended_one))
@@ -143,6 +148,19 @@ module _ (games : OneGame) (certificates : OneCertificate) (flaws : OneFlaw) (ci
       by (inl same) = inl same
       by (inr (file, c, reads, agree)) =
           inr ((file, c, reads, (agree.one, agree.one_loses)), (file, c, reads, agree))
+
+  verify_tlsf_or_one : (role : Role) (texts : List ℕ) (x y : Result Reply (List ℕ)) →
+      AnswersVerifyTlsf role texts x → AnswersVerifyTlsf role texts y
+      → (x ≡ y) ⊎ (IsUndetermined (line.VerifyTlsf role) texts ×
+      Agree (line.VerifyTlsf role) texts (printed x) (printed y))
+  verify_tlsf_or_one role texts x y h k = by (verify_tlsf_one_or circuit_one not_both_for role x y texts h k)
+    where
+      by : (x ≡ y) ⊎ Agree (line.VerifyTlsf role) texts (printed x) (printed y) →
+          (x ≡ y) ⊎ (IsUndetermined (line.VerifyTlsf role) texts ×
+          Agree (line.VerifyTlsf role) texts (printed x) (printed y))
+      by (inl same) = inl same
+      by (inr (spec, c, reads, agree)) =
+          inr ((spec, c, reads, (agree.one, agree.one_loses)), (spec, c, reads, agree))
 
   shrink_or_one : (order : Order) (role : Role) (texts : List ℕ) (x y : Result Reply (List ℕ)) →
       AnswersShrink order role texts x → AnswersShrink order role texts y
@@ -261,7 +279,8 @@ module _ (games : OneGame) (certificates : OneCertificate) (flaws : OneFlaw) (ci
       by (inl same) = inl same
       by (inr (parts, cuts, (choice, alike))) = inr (
         (parts.0, (parts.1, cuts), choice),
-        alike_as {P = AgreeAsReports asked.order asked.full asked.compact parts.0} {Q = ReportsAgree true asked texts} x y
+        alike_as {P = AgreeAsReports asked.order asked.full asked.compact parts.0} {Q = ReportsAgree true asked texts} x
+            y
             (λ a b agree. (parts.0, (parts.1, cuts), agree)) alike,
       )
 
@@ -279,11 +298,14 @@ module _ (games : OneGame) (certificates : OneCertificate) (flaws : OneFlaw) (ci
   line_one solvers (line.Lasso role) texts x y h k = inl (lasso_one role texts x y h k)
   line_one solvers (line.LassoTlsf role) texts x y h k = inl (lasso_tlsf_one circuits stimuli words role texts x y h k)
   line_one solvers (line.Verify order role) texts x y h k = verify_or_one order role texts x y h k
+  line_one solvers (line.VerifyTlsf role) texts x y h k = verify_tlsf_or_one role texts x y h k
   line_one solvers (line.Shrink order role) texts x y h k = shrink_or_one order role texts x y h k
   line_one solvers (line.Solve compact) texts x y h k = solve_one_or solvers.built_in compact texts x y h k
   line_one solvers (line.Game order) texts x y h k = inl (game_one order texts x y h k)
   line_one solvers (line.Cert order compact) texts x y h k = cert_one_or solvers.built_in order compact texts x y h k
   line_one solvers (line.Synth asked) texts x y h k = synth_one_or solvers asked texts asked.cert x y h k
+  line_one solvers line.SynthTlsf text x y h k =
+      synth_tlsf_one_or not_both_players text own_translator solvers.built_in x y h k
 
   answers_one : (solvers : Solvers) (input : List ℕ) (a b : Reply) → AnswersInput solvers input a →
       AnswersInput solvers input b → (a ≡ b) ⊎

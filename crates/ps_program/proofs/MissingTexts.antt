@@ -1,7 +1,8 @@
 -- If the input lacks a text that its command needs, the only possible answer reports the missing text.
-use Rattle.std.proofs.Common.{◌≡◌, ◌∙◌, ◌-◌, ◌+◌, ℕ, Bool, true, false, List, [], ◌∷◌, length, Result, Ok, Err, refl}
+use Rattle.std.proofs.Common.{◌≡◌, ◌≢◌, ◌∙◌, ◌-◌, ◌+◌, ℕ, Bool, true, false, List, [], ◌∷◌, length, Result, Ok, Err}
+use Rattle.std.proofs.Common.{refl}
 use Rattle.std.proofs.Common.{ap, inl, inr, subst}
-use Rattle.std.specs.Prelude.{codes, filter, if◌then◌else◌}
+use Rattle.std.specs.Prelude.{codes, filter, if◌then◌else◌, ◌||◌}
 use Rattle.clap.specs.Words.{Text}
 use Rattle.ps_game.specs.Games.{ParityGame}
 use Rattle.ps_certificate.specs.Certificates.{CertificateData, IsClosed, IsValid}
@@ -9,12 +10,14 @@ use Rattle.ps_circuit.specs.Circuits.{IsCircuit}
 use Rattle.ps_simulate.specs.declared.role.Role.{Role}
 use Rattle.ps_program.specs.Automata.{ReadsAutomaton}
 use Rattle.ps_program.specs.Checks.{Tests}
-use Rattle.ps_program.specs.CommandLine.{cert_flag, compact_flag, order_given, role_given, synth_given, tlsf_flag}
+use Rattle.ps_program.specs.CommandLine.{cert_flag, compact_flag, moore_flag, order_given, role_given, synth_given}
+use Rattle.ps_program.specs.CommandLine.{tlsf_flag}
 use Rattle.ps_program.specs.Judging.{AnswersJudge, Judges, ReadsSolutionText, ReadsSolved}
 use Rattle.ps_program.specs.Lassos.{AnswersLasso, RunsCircuit}
 use Rattle.ps_machine.specs.declared.key.Order.{Order}
 use Rattle.ps_program.specs.Shrinking.{AnswersShrink, ShrinksText}
 use Rattle.ps_program.specs.Verifying.{AnswersVerify, VerifiesText}
+use Rattle.ps_program.specs.VerifyingTlsf.{AnswersVerifyTlsf, VerifiesSpecified}
 use Rattle.ps_program.specs.Simulating.{AnswersSim, PrintsTrace}
 use Rattle.ps_program.specs.Cut.{HasFewerSeparators}
 use Rattle.ps_program.specs.Determined.{NeedsItsTexts}
@@ -28,7 +31,9 @@ use Rattle.ps_machine.specs.Solvers.{once_fed}
 use Rattle.ps_program.specs.Texts.{CutsInTwo, CutsInThree, ReadsCertificateText, ReadsCertified, ReadsCircuitText}
 use Rattle.ps_program.specs.Texts.{ReadsGameText, ReadsSimulated, ReadsSpecificationText, ReadsStimulusText}
 use Rattle.ps_program.specs.Texts.{missing_text}
-use Rattle.ps_program.specs.declared.commands.Line.TheVariants.{Lasso, LassoTlsf}
+use Rattle.ps_program.specs.declared.commands.Line.{Line}
+use Rattle.ps_program.specs.declared.commands.Line.TheVariants.{Lasso, LassoTlsf, Refused, Synth, SynthTlsf, Verify}
+use Rattle.ps_program.specs.declared.commands.Line.TheVariants.{VerifyTlsf}
 use Rattle.ps_program.specs.declared.commands.SynthLine.{SynthLine}
 use Rattle.ps_program.specs.declared.commands.TextKind.{TextKind}
 use Rattle.ps_program.specs.declared.commands.TextKind.TheVariants as kind
@@ -64,6 +69,29 @@ synth_missing solvers asked false texts outcome fewer answers = absurd fewer
 synth_missing solvers asked true texts outcome fewer answers =
     both_fail (CutsInTwo texts) (λ (parts : List ℕ × List ℕ). AnswersReport (once_fed parts.1 solvers.replay) asked
     parts.0) missing_text (two_missing texts fewer) outcome answers
+
+-- what `synth` asks for, by its flags
+abbrev synth_line : (tlsf moore : Bool) → SynthLine → Line
+synth_line tlsf moore asked =
+    if tlsf then (if asked.full || asked.cert || moore || asked.compact then Refused else SynthTlsf) else Synth asked
+
+-- with `--tlsf` alone, `synth` reads one text, which can't be missing
+one_text : (full cert moore compact : Bool) (texts : List ℕ) →
+    (if full || cert || moore || compact then Refused else SynthTlsf) ≢ Refused →
+    HasFewerSeparators (synth_count cert - 1) texts → ⊥
+one_text true cert moore compact texts allowed fewer = allowed refl
+one_text false true moore compact texts allowed fewer = allowed refl
+one_text false false true compact texts allowed fewer = allowed refl
+one_text false false false true texts allowed fewer = allowed refl
+one_text false false false false texts allowed fewer = fewer
+
+synth_given_missing : (solvers : Solvers) (tlsf moore : Bool) (asked : SynthLine) (texts : List ℕ) →
+    synth_line tlsf moore asked ≢ Refused → HasFewerSeparators (synth_count asked.cert - 1) texts →
+    Fails (AnswersLine solvers (synth_line tlsf moore asked) texts) missing_text
+synth_given_missing solvers true moore asked texts allowed fewer =
+    absurd (one_text asked.full asked.cert moore asked.compact texts allowed fewer)
+synth_given_missing solvers false moore asked texts allowed fewer =
+    λ outcome answers. synth_missing solvers asked asked.cert texts outcome fewer answers
 
 synth_counted : (cert : Bool) → 1 + length (filter (λ (each : Text × TextKind). cert)
     ((cert_flag, kind.Certificate) ∷ [])) ≡ synth_count cert
@@ -128,6 +156,24 @@ verify_missing order role texts fewer = both_fail (CutsInTwo texts) (λ (parts :
     Then (ReadsAutomaton parts.0) (λ file. VerifiesText order role file parts.1)) missing_text
     (two_missing texts fewer)
 
+verify_tlsf_missing : (role : Role) (texts : List ℕ) → HasFewerSeparators 1 texts →
+    Fails (AnswersVerifyTlsf role texts) missing_text
+verify_tlsf_missing role texts fewer = both_fail (CutsInTwo texts) (λ (parts : List ℕ × List ℕ).
+    Then (ReadsSpecificationText parts.0) (λ spec. VerifiesSpecified role spec parts.1)) missing_text
+    (two_missing texts fewer)
+
+-- what `verify` asks for, by its flags `--tlsf` and `--moore`
+abbrev verify_line : (tlsf moore : Bool) → Order → Role → Line
+verify_line tlsf moore order role =
+    if tlsf then (if moore then Refused else VerifyTlsf role) else Verify order role
+
+verify_given_missing : (solvers : Solvers) (tlsf moore : Bool) (order : Order) (role : Role) (texts : List ℕ) →
+    verify_line tlsf moore order role ≢ Refused → HasFewerSeparators 1 texts →
+    Fails (AnswersLine solvers (verify_line tlsf moore order role) texts) missing_text
+verify_given_missing solvers true true order role texts allowed fewer = absurd (allowed refl)
+verify_given_missing solvers true false order role texts allowed fewer = verify_tlsf_missing role texts fewer
+verify_given_missing solvers false moore order role texts allowed fewer = verify_missing order role texts fewer
+
 shrink_missing : (order : Order) (role : Role) (texts : List ℕ) → HasFewerSeparators 1 texts →
     Fails (AnswersShrink order role texts) missing_text
 shrink_missing order role texts fewer = both_fail (CutsInTwo texts) (λ (parts : List ℕ × List ℕ).
@@ -136,34 +182,36 @@ shrink_missing order role texts fewer = both_fail (CutsInTwo texts) (λ (parts :
 
 pub texts_needed : (solvers : Solvers) → NeedsItsTexts solvers
 texts_needed solvers = (
-  λ given texts outcome fewer answers. tests_missing IsClosed (codes "closed") texts fewer outcome answers,
+  λ given texts outcome allowed fewer answers. tests_missing IsClosed (codes "closed") texts fewer outcome answers,
   (
-    λ given texts outcome fewer answers. tests_missing IsValid (codes "valid") texts fewer outcome answers,
+    λ given texts outcome allowed fewer answers. tests_missing IsValid (codes "valid") texts fewer outcome answers,
     (
-      λ given texts outcome fewer answers. judge_missing (given compact_flag) texts fewer outcome answers,
+      λ given texts outcome allowed fewer answers. judge_missing (given compact_flag) texts fewer outcome answers,
       (
-        λ given texts outcome fewer answers. sim_missing texts fewer outcome answers,
+        λ given texts outcome allowed fewer answers. sim_missing texts fewer outcome answers,
         (
-          λ given texts outcome fewer answers. lasso_given_missing solvers (given tlsf_flag) (role_given given) texts
+          λ given texts outcome allowed fewer answers. lasso_given_missing solvers (given tlsf_flag)
+              (role_given given) texts
               fewer outcome answers,
           (
-            λ given texts outcome fewer answers. verify_missing (order_given given) (role_given given) texts fewer
-                outcome answers,
+            λ given texts outcome allowed fewer answers. verify_given_missing solvers (given tlsf_flag)
+                (given moore_flag) (order_given given) (role_given given) texts allowed fewer outcome answers,
             (
-              λ given texts outcome fewer answers. shrink_missing (order_given given) (role_given given) texts fewer
+              λ given texts outcome allowed fewer answers. shrink_missing (order_given given) (role_given given) texts
+                  fewer
                   outcome answers,
               (
-                λ given texts outcome fewer answers. absurd fewer,
+                λ given texts outcome allowed fewer answers. absurd fewer,
                 (
-                  λ given texts outcome fewer answers. absurd fewer,
+                  λ given texts outcome allowed fewer answers. absurd fewer,
                   (
-                    λ given texts outcome fewer answers. absurd fewer,
+                    λ given texts outcome allowed fewer answers. absurd fewer,
                     (
-                      λ given texts outcome fewer answers. synth_missing solvers (synth_given given) (given cert_flag)
-                          texts outcome
+                      λ given texts outcome allowed fewer answers. synth_given_missing solvers (given tlsf_flag)
+                          (given moore_flag) (synth_given given) texts allowed
                           (subst (λ (n : ℕ). HasFewerSeparators (n - 1) texts) (synth_counted (given cert_flag)) fewer)
-                          answers,
-                      (λ given texts outcome fewer answers. absurd fewer, tt),
+                          outcome answers,
+                      (λ given texts outcome allowed fewer answers. absurd fewer, tt),
                     ),
                   ),
                 ),

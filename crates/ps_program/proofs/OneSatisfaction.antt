@@ -1,5 +1,6 @@
 -- The command `lasso --tlsf` has at most one result, by laws of other crates.
 -- - `satisfaction_one`: the statement on the word of a circuit's run
+-- - `specification_one`: the specification of a text
 -- - `lasso_tlsf_one`: the whole command
 use Rattle.std.proofs.Common.{arith, ◌≡◌, ◌∙◌, ◌<◌, ℕ, Bool, true, List, [], length, Result, Ok, Err, sym, ap, inl, inr}
 use Rattle.std.proofs.Common.{subst}
@@ -23,6 +24,7 @@ use Rattle.ps_tlsf.specs.Specifications.{Specification}
 use Rattle.ps_tlsf.specs.declared.fault.TlsfCause.{TlsfCause}
 use Rattle.ps_program.specs.Replies.{Reply}
 use Rattle.ps_program.specs.Satisfying.{AnswersLassoTlsf, IsToldBy, TellsSatisfaction}
+use Rattle.ps_program.specs.Texts.{ReadsSpecificationText}
 use Rattle.ps_program.proofs.OneCut.{cut_three_one}
 use Rattle.ps_program.proofs.OneStage.{OneCircuit, OneStimulus}
 use Rattle.ps_program.proofs.OneStep.{IsOne, ok_of, reading_one, then_one}
@@ -62,11 +64,14 @@ satisfaction_one words role spec c s (Err l) (Err m) (inr other) (inr other') = 
 answer_one : (text : List ℕ) → IsOne {V = Result Specification (Found TlsfCause)} (λ answer. answer ≡ answer_of text)
 answer_one text a b h k = h ∙ sym k
 
+pub specification_one : (text : List ℕ) → IsOne (ReadsSpecificationText text)
+specification_one text =
+    reading_one tlsf.cause_number tlsf.cause_name (λ answer. answer ≡ answer_of text) (answer_one text)
+
 pub lasso_tlsf_one : OneCircuit → OneStimulus → OneWord → (role : Role) (texts : List ℕ) →
     IsOne (AnswersLassoTlsf role texts)
 lasso_tlsf_one circuits stimuli words role texts =
-    then_one _ _ (cut_three_one texts) (λ parts. then_one _ _ (reading_one tlsf.cause_number tlsf.cause_name
-    (λ answer. answer ≡ answer_of parts.0) (answer_one parts.0))
+    then_one _ _ (cut_three_one texts) (λ parts. then_one _ _ (specification_one parts.0)
     (λ spec. then_one _ _ (reading_one circuit.cause_number circuit_names.cause_name
     (circuit_text.ReadsCircuit parts.1) (circuits parts.1))
     (λ c. then_one _ _ (reading_one stimulus.cause_number stimulus.cause_name

@@ -4,28 +4,29 @@ use Rattle.ps_circuit.specs.Circuits.{CircuitData}
 use Rattle.ps_hoa.specs.Files.{FileData}
 use Rattle.ps_machine.specs.declared.key.Order.{Order}
 use Rattle.ps_simulate.specs.declared.role.Role.{Role}
+use Rattle.ps_verify.specs.Judgements.{IsLosing}
 use Rattle.ps_program.specs.Automata.{ReadsAutomaton}
 use Rattle.ps_program.specs.Determined.{AgreeAsLosing, AgreeAsSmaller}
-use Rattle.ps_program.specs.Outcomes.{Then, printed}
+use Rattle.ps_program.specs.Outcomes.{printed}
 use Rattle.ps_program.specs.Replies.{Reply}
-use Rattle.ps_program.specs.Shrinking.{AnswersShrink, ShrinksText, TellsReduction}
-use Rattle.ps_program.specs.Texts.{CutsInTwo, ReadsCircuitText}
+use Rattle.ps_program.specs.Shrinking.{AnswersShrink, TellsReduction}
+use Rattle.ps_program.specs.Texts.{ReadsCircuitText}
 use Rattle.ps_program.specs.Verifying.{IsProductLine, ReadsVerified}
-use Rattle.ps_program.proofs.OneCut.{cut_one}
-use Rattle.ps_program.proofs.OneStep.{IsOne, err_of, then_one_or}
-use Rattle.ps_program.proofs.VerifyDetermined.{NotBoth, no_fault, one_line}
+use Rattle.ps_program.proofs.JudgedTexts.{judged_one_or, no_fault, one_line}
+use Rattle.ps_program.proofs.OneStep.{IsOne, err_of}
+use Rattle.ps_program.proofs.VerifyDetermined.{NotBoth}
 
 module _ (order : Order) (role : Role) (file : FileData) (c : CircuitData) where
   -- both answers print a smaller circuit, or both print a stimulus on which the circuit loses
   abbrev AgreeOnCircuit : Reply → Reply → Type 0
-  AgreeOnCircuit a b = AgreeAsSmaller order role file c a b ⊎ AgreeAsLosing order role file c a b
+  AgreeOnCircuit a b = AgreeAsSmaller order role file c a b ⊎ AgreeAsLosing (IsLosing order role file c) a b
 
   told_no_fault : (reply : Reply) (line : List ℕ) → TellsReduction order role file c (Ok reply) →
       IsProductLine order role file c line → ⊥
   told_no_fault reply line (is_circuit, inl (wins, small)) fault =
-      no_fault order role file c wins.symbols wins.in_time line fault
+      no_fault order role file.names file.controllable c wins.symbols wins.in_time line fault
   told_no_fault reply line (is_circuit, inr (s, loses, e)) fault =
-      no_fault order role file c loses.symbols loses.in_time line fault
+      no_fault order role file.names file.controllable c loses.symbols loses.in_time line fault
 
   told_one_or : NotBoth → (x y : Result Reply (List ℕ)) → TellsReduction order role file c x →
       TellsReduction order role file c y → (x ≡ y) ⊎ AgreeOnCircuit (printed x) (printed y)
@@ -40,36 +41,16 @@ module _ (order : Order) (role : Role) (file : FileData) (c : CircuitData) where
   told_one_or apart (Ok r) (Err m) h k = absurd (told_no_fault r m h k)
   told_one_or apart (Err l) (Ok t) h k = absurd (told_no_fault t l k h)
   told_one_or apart (Err l) (Err m) h k =
-      inl (ap (err_of {V = Reply} {E = List ℕ}) (one_line order role file c l m h k))
+      inl (ap (err_of {V = Reply} {E = List ℕ}) (one_line order role file.names file.controllable c l m h k))
 
 -- two results for the same texts of an automaton and a circuit are equal, or both print a smaller circuit, or both
 -- print a stimulus on which the circuit loses
-module _ (automata : (text : List ℕ) → IsOne (ReadsAutomaton text)) (circuits : (text : List ℕ) →
-    IsOne (ReadsCircuitText text)) (apart : NotBoth) (order : Order) (role : Role) (x y : Result Reply (List ℕ)) where
-  abbrev Alike : FileData → CircuitData → Type 0
-  Alike file c = AgreeOnCircuit order role file c (printed x) (printed y)
-
-  abbrev AlikeOf : FileData → List ℕ → Type 0
-  AlikeOf file text = (c : CircuitData) × ReadsCircuitText text (Ok c) × Alike file c
-
-  abbrev AlikeIn : List ℕ × List ℕ → Type 0
-  AlikeIn parts = (file : FileData) × ReadsAutomaton parts.0 (Ok file) × AlikeOf file parts.1
-
-  text_one_or : (file : FileData) (text : List ℕ) → ShrinksText order role file text x →
-      ShrinksText order role file text y → (x ≡ y) ⊎ AlikeOf file text
-  text_one_or file text h k = then_one_or (ReadsCircuitText text) (TellsReduction order role file) (Alike file)
-      (circuits text) x y (λ c n m. told_one_or order role file c apart x y n m) h k
-
-  pub shrink_one_or : (texts : List ℕ) → AnswersShrink order role texts x → AnswersShrink order role texts y →
-      (x ≡ y) ⊎ ((file : FileData) × (c : CircuitData) × ReadsVerified texts file c × Alike file c)
-  shrink_one_or texts h k =
-      by (then_one_or (CutsInTwo texts) (λ (parts : List ℕ × List ℕ). Then (ReadsAutomaton parts.0)
-      (λ file. ShrinksText order role file parts.1)) AlikeIn (cut_one texts) x y
-      (λ parts n m. then_one_or (ReadsAutomaton parts.0) (λ file. ShrinksText order role file parts.1)
-      (λ file. AlikeOf file parts.1) (automata parts.0) x y (λ file n' m'. text_one_or file parts.1 n' m') n m) h k)
-    where
-      by : (x ≡ y) ⊎ ((parts : List ℕ × List ℕ) × CutsInTwo texts (Ok parts) × AlikeIn parts) →
-          (x ≡ y) ⊎ ((file : FileData) × (c : CircuitData) × ReadsVerified texts file c × Alike file c)
-      by (inl same) = inl same
-      by (inr (parts, cuts, (file, automaton, (c, circuit, alike)))) =
-          inr (file, c, (parts, cuts, automaton, circuit), alike)
+pub shrink_one_or : (automata : (text : List ℕ) → IsOne (ReadsAutomaton text)) (circuits : (text : List ℕ) →
+    IsOne (ReadsCircuitText text)) (apart : NotBoth) (order : Order) (role : Role) (x y : Result Reply (List ℕ))
+    (texts : List ℕ) → AnswersShrink order role texts x → AnswersShrink order role texts y →
+    (x ≡ y) ⊎ ((file : FileData) × (c : CircuitData) × ReadsVerified texts file c ×
+    AgreeOnCircuit order role file c (printed x) (printed y))
+shrink_one_or automata circuits apart order role x y texts h k =
+    judged_one_or ReadsAutomaton (TellsReduction order role)
+    (λ file c. AgreeOnCircuit order role file c (printed x) (printed y)) automata circuits x y
+    (λ file c. told_one_or order role file c apart x y) texts h k

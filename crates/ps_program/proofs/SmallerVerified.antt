@@ -5,6 +5,7 @@ use Rattle.ps_circuit.specs.Texts.{ReadsCircuit}
 use Rattle.ps_hoa.specs.Files.{FileData}
 use Rattle.ps_machine.specs.declared.key.Order.{Order}
 use Rattle.ps_simulate.specs.declared.role.Role.{Role}
+use Rattle.ps_verify.specs.Judgements.{IsLosing}
 use Rattle.ps_program.specs.Automata.{ReadsAutomaton}
 use Rattle.ps_program.specs.Determined.{AgreeAsLosing}
 use Rattle.ps_program.specs.Exchanged.{VerifiesSmaller}
@@ -44,7 +45,7 @@ module _ (automata : (text : List ℕ) → IsOne (ReadsAutomaton text)) (circuit
     only outcome h = by (verify_one_or automata circuits apart order role outcome (Ok wins_reply) texts h answered)
       where
         by : (outcome ≡ Ok wins_reply) ⊎ ((f : FileData) × (d : CircuitData) × ReadsVerified texts f d ×
-            AgreeAsLosing order role f d (printed outcome) wins_reply) → outcome ≡ Ok wins_reply
+            AgreeAsLosing (IsLosing order role f d) (printed outcome) wins_reply) → outcome ≡ Ok wins_reply
         by (inl same) = same
         by (inr (f, d, verified, agree)) = absurd (not_losing agree.other agree.is_other)
 

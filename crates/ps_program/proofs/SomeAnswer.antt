@@ -1,5 +1,5 @@
--- Each input has an answer if its command calls no solver and is neither `verify` nor `shrink`. An input with `solve`, `cert` or `synth`
--- has an answer under the conditions that `specs/Answered.antt` states.
+-- Each input has an answer if its command calls no solver and is neither `verify` nor `shrink`. An input with `solve`,
+-- `cert` or `synth` has an answer under the conditions that `specs/Answered.antt` states.
 use Rattle.std.proofs.Common.{ℕ, List, Ok, refl}
 use Rattle.std.specs.Prelude.{codes}
 use Rattle.ps_certificate.specs.Certificates.{IsClosed, IsValid}
@@ -57,11 +57,13 @@ module _ (below : Below) where
   line_some solvers (line.Lasso role) texts plain = lasso_some below role texts
   line_some solvers (line.LassoTlsf role) texts plain = lasso_tlsf_some below role texts
   line_some solvers (line.Verify order role) texts plain = absurd plain
+  line_some solvers (line.VerifyTlsf role) texts plain = absurd plain
   line_some solvers (line.Shrink order role) texts plain = absurd plain
   line_some solvers (line.Solve compact) texts plain = absurd plain
   line_some solvers (line.Game order) texts plain = game_some order texts
   line_some solvers (line.Cert order compact) texts plain = absurd plain
   line_some solvers (line.Synth asked) texts plain = absurd plain
+  line_some solvers line.SynthTlsf texts plain = absurd plain
 
   pub plain_some : (solvers : Solvers) → HasSomeAnswer solvers
   plain_some solvers input asked is_line plain =
@@ -80,12 +82,14 @@ module _ (below : Below) where
   solved_line solvers may (line.Lasso role) texts solved = absurd solved
   solved_line solvers may (line.LassoTlsf role) texts solved = absurd solved
   solved_line solvers may (line.Verify order role) texts solved = absurd solved
+  solved_line solvers may (line.VerifyTlsf role) texts solved = absurd solved
   solved_line solvers may (line.Shrink order role) texts solved = absurd solved
   solved_line solvers may (line.Solve compact) texts solved = solve_some below solvers.built_in compact texts may
   solved_line solvers may (line.Game order) texts solved = absurd solved
   solved_line solvers may (line.Cert order compact) texts solved =
       cert_some below solvers.built_in order compact texts may
   solved_line solvers may (line.Synth asked) texts solved = absurd solved
+  solved_line solvers may line.SynthTlsf texts solved = absurd solved
 
   pub solved_some : (solvers : Solvers) → HasSomeSolved solvers
   solved_some solvers may input asked is_line solved =

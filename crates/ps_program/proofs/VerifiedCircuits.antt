@@ -13,7 +13,7 @@ use Rattle.ps_synthesis.specs.Printing.{PrintsCircuit}
 use Rattle.ps_synthesis.specs.Promises.{SynthesisData}
 use Rattle.ps_synthesis.specs.Reports.{IsWinnersSynthesis}
 use Rattle.ps_traces.specs.Answers.{IsWitness, role_of}
-use Rattle.ps_verify.specs.Judgements.{IsWinning}
+use Rattle.ps_verify.specs.Judgements.{IsLosing, IsWinning}
 use Rattle.ps_program.specs.Automata.{ReadsAutomaton}
 use Rattle.ps_program.specs.Determined.{AgreeAsLosing}
 use Rattle.ps_program.specs.Exchanged.{VerifiesCircuits, role_that_wins}
@@ -65,7 +65,7 @@ module _ (automata : (text : List ℕ) → IsOne (ReadsAutomaton text)) (circuit
     only outcome h = by (verify_one_or automata circuits apart order role outcome (Ok wins_reply) texts h answered)
       where
         by : (outcome ≡ Ok wins_reply) ⊎ ((file : FileData) × (c : CircuitData) × ReadsVerified texts file c ×
-            AgreeAsLosing order role file c (printed outcome) wins_reply) → outcome ≡ Ok wins_reply
+            AgreeAsLosing (IsLosing order role file c) (printed outcome) wins_reply) → outcome ≡ Ok wins_reply
         by (inl same) = same
         by (inr (file, c, reads, agree)) = absurd (not_losing agree.other agree.is_other)
 

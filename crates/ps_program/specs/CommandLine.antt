@@ -1,7 +1,7 @@
 -- What the first line of the input, the command line, asks for.
 use Rattle.std.specs.Prelude.{◌≡◌, ◌⊎◌, ◌==◌, ℕ, Bool, true, false, List, [], length, Option}
 use Rattle.std.specs.Prelude.{None, Some, codes, filter, find, not, IsUtf8, if◌then◌else◌, ◌∷◌, ◌++◌, map}
-use Rattle.std.specs.Prelude.{flat_map}
+use Rattle.std.specs.Prelude.{flat_map, ◌||◌}
 use Rattle.std.specs.List.{slice_split, AllByRecursion}
 use Rattle.std.specs.Option.{option_map_or}
 use Rattle.std.specs.Str.{bytes_eq}
@@ -19,7 +19,8 @@ use Rattle.ps_simulate.specs.declared.role.Role.{Role}
 use Rattle.ps_simulate.specs.declared.role.Role.TheVariants.{Controller, Environment}
 use Rattle.ps_program.specs.declared.commands.Line.{Line}
 use Rattle.ps_program.specs.declared.commands.Line.TheVariants.{Refused, Help, Closed, Check, Judge, Sim, Lasso}
-use Rattle.ps_program.specs.declared.commands.Line.TheVariants.{LassoTlsf, Verify, Shrink, Solve, Game, Cert, Synth}
+use Rattle.ps_program.specs.declared.commands.Line.TheVariants.{LassoTlsf, Verify, VerifyTlsf, Shrink, Solve, Game}
+use Rattle.ps_program.specs.declared.commands.Line.TheVariants.{Cert, Synth, SynthTlsf}
 use Rattle.ps_program.specs.declared.commands.SynthLine.{SynthLine}
 use Rattle.ps_program.specs.declared.commands.TheConstants.{ON_CLOSED, ON_CHECK, ON_JUDGE, ON_SIM, ON_LASSO}
 use Rattle.ps_program.specs.declared.commands.TheConstants.{ON_VERIFY, ON_SHRINK, ON_SOLVE, ON_GAME, ON_CERT}
@@ -73,6 +74,13 @@ lasso_given given = if given tlsf_flag then LassoTlsf (role_given given) else La
 abbrev pub order_given : (Text → Bool) → Order
 order_given given = if given moore_flag then Moore else Mealy
 
+-- what `verify` asks for: the judgement by a specification if the flag `--tlsf` is given, and otherwise by an
+-- automaton; a specification states the order of moves, so `--moore` and `--tlsf` exclude each other
+abbrev pub verify_given : (Text → Bool) → Line
+verify_given given =
+    if given tlsf_flag then (if given moore_flag then Refused else VerifyTlsf (role_given given))
+    else Verify (order_given given) (role_given given)
+
 -- what `synth` is asked for, by its flags: the order of moves, and what is printed besides the circuit
 abbrev pub synth_given : (Text → Bool) → SynthLine
 synth_given given = record {
@@ -81,6 +89,14 @@ synth_given given = record {
   order = order_given given;
   compact = given compact_flag;
 }
+
+-- what `synth` asks for: a circuit for a specification if the flag `--tlsf` is given, and otherwise for an automaton; a
+-- specification states the order of moves, and only its circuit is printed, so `--tlsf` excludes each other flag
+abbrev pub synth_line_given : (Text → Bool) → Line
+synth_line_given given =
+    if given tlsf_flag then
+    (if given full_flag || given cert_flag || given moore_flag || given compact_flag then Refused else SynthTlsf)
+    else Synth (synth_given given)
 
 abbrev pub commands : List Usage
 commands =
@@ -126,11 +142,11 @@ commands =
       says = ON_LASSO.now;
     } ∷ record {
       name = codes "verify";
-      flags = env_flag ∷ moore_flag ∷ [];
+      flags = env_flag ∷ moore_flag ∷ tlsf_flag ∷ [];
       texts = kind.Automaton ∷ kind.Circuit ∷ [];
       added = [];
-      replaced = [];
-      line = λ given. Verify (order_given given) (role_given given);
+      replaced = (tlsf_flag, kind.Specification) ∷ [];
+      line = verify_given;
       says = ON_VERIFY.now;
     } ∷ record {
       name = codes "shrink";
@@ -166,11 +182,11 @@ commands =
       says = ON_CERT.now;
     } ∷ record {
       name = codes "synth";
-      flags = full_flag ∷ cert_flag ∷ moore_flag ∷ compact_flag ∷ [];
+      flags = full_flag ∷ cert_flag ∷ moore_flag ∷ compact_flag ∷ tlsf_flag ∷ [];
       texts = kind.Automaton ∷ [];
       added = (cert_flag, kind.Certificate) ∷ [];
-      replaced = [];
-      line = λ given. Synth (synth_given given);
+      replaced = (tlsf_flag, kind.Specification) ∷ [];
+      line = synth_line_given;
       says = ON_SYNTH.now;
     } ∷ record {
       name = codes "help";
@@ -268,7 +284,8 @@ words_with name flags = name ∷ map (λ flag. codes "--" ++ flag) flags
 abbrev pub AreRead : List Text → Line → Type 0
 AreRead words line = (fault_of table words ≡ []) × (line_said (subcommand_of table words) ≡ line)
 
--- a line with a command's name and some of its own flags, each once, in any order, is accepted as this command
+-- a line with a command's name and some of its own flags, each once, in any order, means what the table of commands
+-- says: this command, or `Refused` if some of the flags exclude each other
 abbrev pub LinesAreRead : Type 0
 LinesAreRead =
     AllByRecursion (λ usage. AllByRecursion (λ flags. AreRead (words_with usage.name flags)

@@ -1,19 +1,22 @@
 -- The program's answer is determined, with four exceptions: which cycle `judge` reports if a player loses, which
--- stimulus `verify` and `shrink` report, which smaller circuit `shrink` prints, and which certificate a solver chooses.
--- Even in the exceptional cases, any two answers have something in common.
+-- stimulus `verify` (also with `--tlsf`) and `shrink` report, which smaller circuit `shrink` prints, and which
+-- certificate a solver, or which circuit `synth --tlsf`, chooses. Even in the exceptional cases, any two answers have
+-- something in common.
 -- - `IsUndetermined line texts`: for these texts, the command in the line may have more than one correct answer
 -- - `IsReplaying solver`: the solver only returns the result of parsing the text that it was fed, unless memory runs
 --   out
+-- - `AgreeInRole text a b`: both answers show circuits of the same role that answer the specification
 -- - `AgreeAsReports order full compact text a b`: both answers show the same winner of the automaton's game
 -- - `AgreeInWinners compact game a b`: the answers a and b print certificates of the game with the same winners
--- - `AgreeAsLosing order role file c a b`: both answers show a stimulus on which the circuit loses
+-- - `AgreeAsLosing Loses a b`: both answers show a stimulus on which the circuit loses
 -- - `AgreeAsSmaller order role file c a b`: both answers print a circuit that wins and is not larger than the circuit
 -- - `AgreeInLoser named given a b`: both answers report a cycle that the same player loses
 -- - `HasOneAnswer solvers`: any two answers to the same input are equal, or the command allows several answers; then
 --   the two agree as `Agree` states, or the command calls a solver and one of the two answers reports a fault
 -- - `HasOneCertified solvers`: with a given certificate, `synth` has one answer if its solver only parses it
--- - `NeedsItsTexts solvers`: a command with fewer texts than it needs has one answer: a text is missing
-use Rattle.std.specs.Prelude.{◌≡◌, ◌<◌, ◌⊎◌, ◌+◌, ◌-◌, ℕ, Bool, true, false, List, Option, Result, Ok, Err, filter}
+-- - `NeedsItsTexts solvers`: a command that is not refused and has fewer texts than it needs has one answer: a text is
+--   missing
+use Rattle.std.specs.Prelude.{◌≡◌, ◌≢◌, ◌<◌, ◌⊎◌, ◌+◌, ◌-◌, ℕ, Bool, true, false, List, Option, Result, Ok, Err, filter}
 use Rattle.std.specs.Prelude.{length}
 use Rattle.std.specs.List.{AllByRecursion}
 use Rattle.clap.specs.Words.{Text}
@@ -25,6 +28,8 @@ use Rattle.ps_simulate.specs.Stimuli.{StimulusData}
 use Rattle.ps_simulate.specs.declared.role.Role.{Role}
 use Rattle.ps_verify.specs.Judgements.{IsLosing, IsWinning}
 use Rattle.ps_solution.specs.Solved.{SolutionData}
+use Rattle.ps_specification.specs.Promises.{KeepsSpecification}
+use Rattle.ps_tlsf.specs.Specifications.{Specification}
 use Rattle.ps_hoa.specs.Files.{FileData}
 use Rattle.ps_machine.specs.FileGames.{IsGameOfFile}
 use Rattle.ps_machine.specs.Solvers.{SolverData}
@@ -41,10 +46,13 @@ use Rattle.ps_program.specs.Replies.{Reply, fault_reply, text_reply}
 use Rattle.ps_program.specs.Shrinking.{IsSmallerReply}
 use Rattle.ps_program.specs.Solvers.{Solvers}
 use Rattle.ps_program.specs.Synthesis.{synthesis_reply}
+use Rattle.ps_program.specs.SynthesisTlsf.{winner_reply}
 use Rattle.ps_program.specs.Verifying.{ReadsVerified, loses_reply}
-use Rattle.ps_program.specs.Texts.{CutsInTwo, ReadsGameText, missing_text}
+use Rattle.ps_program.specs.VerifyingTlsf.{LosesSpecified, ReadsSpecified}
+use Rattle.ps_program.specs.Texts.{CutsInTwo, ReadsGameText, ReadsSpecificationText, missing_text}
 use Rattle.ps_program.specs.declared.commands.Line.{Line}
-use Rattle.ps_program.specs.declared.commands.Line.TheVariants.{Judge, Verify, Shrink, Solve, Cert, Synth}
+use Rattle.ps_program.specs.declared.commands.Line.TheVariants.{Refused, Judge, Verify, VerifyTlsf, Shrink, Solve, Cert}
+use Rattle.ps_program.specs.declared.commands.Line.TheVariants.{Synth, SynthTlsf}
 use Rattle.ps_program.specs.declared.commands.SynthLine.{SynthLine}
 
 abbrev pub HasAutomaton : List ℕ → Type 0
@@ -58,19 +66,24 @@ AsksFor true texts text = (certificate : List ℕ) × CutsInTwo texts (Ok (text,
 -- A command allows several answers in four cases. If a solver is called for a game or an automaton, any winning moves
 -- may be printed. If a judged solution allows a cycle that makes a player lose, any cycle of this kind may be reported.
 -- If a verified circuit loses, any stimulus on which it loses may be reported; and so it is with a circuit that is to
--- be made smaller. If it wins, any circuit that wins and is not larger may be printed.
+-- be made smaller. If it wins, any circuit that wins and is not larger may be printed. For a specification, any circuit
+-- that answers it may be printed, or a fault in its place.
 abbrev pub IsUndetermined : Line → List ℕ → Type 0
 IsUndetermined (Judge compact) texts =
     (named : NamedGameData) × (given : SolutionData) × ReadsSolved texts (Ok (named, given)) × LosesCycle named given
 IsUndetermined (Verify order role) texts =
     (file : FileData) × (c : CircuitData) × ReadsVerified texts file c ×
     ((s : StimulusData) × IsLosing order role file c s)
+IsUndetermined (VerifyTlsf role) texts =
+    (spec : Specification) × (c : CircuitData) × ReadsSpecified texts spec c ×
+    ((s : StimulusData) × LosesSpecified role spec c s)
 IsUndetermined (Shrink order role) texts =
     (file : FileData) × (c : CircuitData) × ReadsVerified texts file c ×
     (IsWinning order role file c ⊎ ((s : StimulusData) × IsLosing order role file c s))
 IsUndetermined (Solve compact) text = (game : NamedGameData) × ReadsGameText text (Ok game)
 IsUndetermined (Cert order compact) text = HasAutomaton text
 IsUndetermined (Synth asked) texts = (text : List ℕ) × AsksFor asked.cert texts text × HasAutomaton text
+IsUndetermined SynthTlsf text = (spec : Specification) × ReadsSpecificationText text (Ok spec)
 IsUndetermined line texts = ⊥
 
 abbrev pub IsReplaying : SolverData → Type 0
@@ -101,11 +114,11 @@ pub record AgreeInWinners (compact : Bool) (game : NamedGameData) (a b : Reply) 
   pub winners : IsGame game.game → (v : ℕ) → v < vertex_count game.game → winner_of one v ≡ winner_of other v
 
 -- each of two answers prints a stimulus on which the circuit loses
-pub record AgreeAsLosing (order : Order) (role : Role) (file : FileData) (c : CircuitData) (a b : Reply) : Type 0 where
+pub record AgreeAsLosing (Loses : StimulusData → Type 0) (a b : Reply) : Type 0 where
   pub one : StimulusData
   pub other : StimulusData
-  pub one_loses : IsLosing order role file c one
-  pub other_loses : IsLosing order role file c other
+  pub one_loses : Loses one
+  pub other_loses : Loses other
   pub is_one : a ≡ loses_reply one
   pub is_other : b ≡ loses_reply other
 
@@ -125,6 +138,17 @@ pub record AgreeInLoser (named : NamedGameData) (given : SolutionData) (a b : Re
   pub is_one : a ≡ fault_reply (cycle_text named one)
   pub is_other : b ≡ fault_reply (cycle_text named other)
 
+-- two answers to `synth --tlsf` print circuits that answer the specification, both as controllers, or both as
+-- environments; so they have the same exit status and the same first line
+pub record AgreeInRole (text : List ℕ) (a b : Reply) : Type 0 where
+  pub role : Role
+  pub one : CircuitData
+  pub other : CircuitData
+  pub one_answers : KeepsSpecification text role one
+  pub other_answers : KeepsSpecification text role other
+  pub is_one : a ≡ winner_reply role one
+  pub is_other : b ≡ winner_reply role other
+
 -- what two answers to a command have in common; `text` or `texts` is the input after its first line. If the command
 -- calls a solver, this is what two answers have in common that report no fault.
 abbrev pub Agree : Line → List ℕ → Reply → Reply → Type 0
@@ -132,15 +156,19 @@ Agree (Judge compact) texts a b =
     (named : NamedGameData) × (given : SolutionData) × ReadsSolved texts (Ok (named, given)) ×
     AgreeInLoser named given a b
 Agree (Verify order role) texts a b =
-    (file : FileData) × (c : CircuitData) × ReadsVerified texts file c × AgreeAsLosing order role file c a b
+    (file : FileData) × (c : CircuitData) × ReadsVerified texts file c × AgreeAsLosing (IsLosing order role file c) a b
+Agree (VerifyTlsf role) texts a b =
+    (spec : Specification) × (c : CircuitData) × ReadsSpecified texts spec c ×
+    AgreeAsLosing (LosesSpecified role spec c) a b
 Agree (Shrink order role) texts a b =
     (file : FileData) × (c : CircuitData) × ReadsVerified texts file c ×
-    (AgreeAsSmaller order role file c a b ⊎ AgreeAsLosing order role file c a b)
+    (AgreeAsSmaller order role file c a b ⊎ AgreeAsLosing (IsLosing order role file c) a b)
 Agree (Solve compact) text a b = (game : NamedGameData) × ReadsGameText text (Ok game) × AgreeInWinners compact game a b
 Agree (Cert order compact) text a b =
     (game : NamedGameData) × ReadsGameOf order text (Ok game) × AgreeInWinners compact game a b
 Agree (Synth asked) texts a b =
     (text : List ℕ) × AsksFor asked.cert texts text × AgreeAsReports asked.order asked.full asked.compact text a b
+Agree SynthTlsf text a b = AgreeInRole text a b
 Agree line texts a b = a ≡ b
 
 abbrev pub IsFaultReply : Reply → Type 0
@@ -150,6 +178,7 @@ IsFaultReply reply = (line : List ℕ) × (reply ≡ fault_reply line)
 abbrev pub AgreeOrFault : Line → List ℕ → Reply → Reply → Type 0
 AgreeOrFault (Judge compact) texts a b = Agree (Judge compact) texts a b
 AgreeOrFault (Verify order role) texts a b = Agree (Verify order role) texts a b
+AgreeOrFault (VerifyTlsf role) texts a b = Agree (VerifyTlsf role) texts a b
 AgreeOrFault (Shrink order role) texts a b = Agree (Shrink order role) texts a b
 AgreeOrFault line texts a b = IsFaultReply a ⊎ IsFaultReply b ⊎ Agree line texts a b
 
@@ -171,9 +200,10 @@ HasOneCertified solvers = IsReplaying solvers.replay → (asked : SynthLine) →
 abbrev pub text_count : Usage → (Text → Bool) → ℕ
 text_count usage given = length usage.texts + length (filter (λ each. given each.0) usage.added)
 
--- a command with fewer texts than it needs has one answer, which reports the missing text
+-- a command with fewer texts than it needs has one answer, which reports the missing text; flags that exclude each
+-- other are refused before any text is read
 abbrev pub NeedsItsTexts : Solvers → Type 0
 NeedsItsTexts solvers =
     AllByRecursion (λ usage. (given : Text → Bool) (texts : List ℕ) (outcome : Result Reply (List ℕ)) →
-    HasFewerSeparators (text_count usage given - 1) texts → AnswersLine solvers (usage.line given) texts outcome →
-    outcome ≡ Err missing_text) commands
+    usage.line given ≢ Refused → HasFewerSeparators (text_count usage given - 1) texts →
+    AnswersLine solvers (usage.line given) texts outcome → outcome ≡ Err missing_text) commands

@@ -1,11 +1,14 @@
 -- What one command prints, and another command reads.
 -- - `ReadsLosing`: `lasso` reads what `verify` prints behind `loses` as the stimulus on which the circuit loses
+-- - `ReadsLosingSpecified`: `lasso --tlsf` reads so what `verify --tlsf` prints behind `loses`
+-- - `ConfirmsLosing`: on this stimulus, `lasso --tlsf` answers `violated`, or with `--env` `satisfied`
 -- - `ChecksCertificates`: `check` answers `valid`, and nothing else, for each certificate that `solve`, `cert`, `judge`
 --   or `synth --full` prints
 -- - `role_that_wins realizable`: the role of the circuit that `synth` prints
 -- - `VerifiesCircuits solver`: `verify` answers `wins`, and nothing else, for each circuit that `synth` prints
+-- - `VerifiesWinners`: `verify --tlsf` answers `wins`, and nothing else, for each circuit that `synth --tlsf` prints
 -- - `VerifiesSmaller`: `verify` answers `wins`, and nothing else, for each circuit that `shrink` prints
-use Rattle.std.specs.Prelude.{◌≡◌, ◌↔◌, ℕ, Bool, true, List, codes, length, Result, Ok, if◌then◌else◌}
+use Rattle.std.specs.Prelude.{◌≡◌, ◌↔◌, ℕ, Bool, true, false, List, codes, length, Result, Ok, if◌then◌else◌}
 use Rattle.ps_certificate.specs.Certificates.{CertificateData}
 use Rattle.ps_certificate.specs.Written.{HasWords, text_in}
 use Rattle.ps_circuit.specs.Circuits.{CircuitData}
@@ -20,18 +23,40 @@ use Rattle.ps_simulate.specs.declared.role.Role.{Role}
 use Rattle.ps_simulate.specs.declared.role.Role.TheVariants.{Controller, Environment}
 use Rattle.ps_synthesis.specs.Printing.{PrintsCircuit}
 use Rattle.ps_synthesis.specs.Promises.{SynthesisData}
+use Rattle.ps_specification.specs.Promises.{KeepsSpecification}
+use Rattle.ps_tlsf.specs.Specifications.{Specification}
 use Rattle.ps_verify.specs.Judgements.{IsLosing}
 use Rattle.ps_program.specs.Checks.{AnswersCheck}
 use Rattle.ps_program.specs.Replies.{Reply, line_reply}
 use Rattle.ps_program.specs.Synthesis.{Synthesises, is_realizable}
-use Rattle.ps_program.specs.Texts.{CutsInTwo, ReadsGameText, ReadsStimulusText}
+use Rattle.ps_program.specs.Texts.{CutsInThree, CutsInTwo, ReadsCircuitText, ReadsGameText, ReadsSpecificationText}
+use Rattle.ps_program.specs.Texts.{ReadsStimulusText}
+use Rattle.ps_program.specs.Satisfying.{AnswersLassoTlsf, satisfaction_of}
 use Rattle.ps_program.specs.Automata.{ReadsAutomaton}
 use Rattle.ps_program.specs.Shrinking.{IsSmallerReply}
 use Rattle.ps_program.specs.Verifying.{AnswersVerify, stimulus_text, wins_reply}
+use Rattle.ps_program.specs.VerifyingTlsf.{AnswersVerifyTlsf, LosesSpecified}
 
 abbrev pub ReadsLosing : Type 0
 ReadsLosing = (order : Order) (role : Role) (file : FileData) (c : CircuitData) (s : StimulusData) →
     IsLosing order role file c s → ReadsStimulusText (length c.inputs) true (stimulus_text s) (Ok s)
+
+abbrev pub ReadsLosingSpecified : Type 0
+ReadsLosingSpecified = (role : Role) (spec : Specification) (c : CircuitData) (s : StimulusData) →
+    LosesSpecified role spec c s → ReadsStimulusText (length c.inputs) true (stimulus_text s) (Ok s)
+
+-- the answer which states that the circuit loses on a stimulus: a controller's trace violates the specification, and an
+-- environment's trace satisfies it
+abbrev pub confirming_reply : Role → StimulusData → Reply
+confirming_reply Controller s = line_reply (satisfaction_of false (length s.stem) (length s.lap))
+confirming_reply Environment s = line_reply (satisfaction_of true (length s.stem) (length s.lap))
+
+-- `texts` are the texts of a specification and of a circuit, and a stimulus on which the circuit loses
+abbrev pub ConfirmsLosing : Type 0
+ConfirmsLosing = (role : Role) (spec : Specification) (c : CircuitData) (s : StimulusData) (tlsf aag texts : List ℕ)
+    (outcome : Result Reply (List ℕ)) → ReadsSpecificationText tlsf (Ok spec) → ReadsCircuitText aag (Ok c) →
+    LosesSpecified role spec c s → CutsInThree texts (Ok (tlsf, aag, stimulus_text s)) →
+    AnswersLassoTlsf role texts outcome ↔ (outcome ≡ Ok (confirming_reply role s))
 
 -- `texts` are the text of a game, and the plain or compact text of a certificate that fits it and is valid; the numbers
 -- of both fit in 64 bits
@@ -58,3 +83,9 @@ VerifiesSmaller = (order : Order) (role : Role) (file : FileData) (c : CircuitDa
     (reply : Reply) (outcome : Result Reply (List ℕ)) → ReadsAutomaton text (Ok file) →
     IsSmallerReply order role file c reply → CutsInTwo texts (Ok (text, reply.text)) →
     AnswersVerify order role texts outcome ↔ (outcome ≡ Ok wins_reply)
+
+-- `texts` are the text of a specification, and a circuit that `synth --tlsf` prints for it
+abbrev pub VerifiesWinners : Type 0
+VerifiesWinners = (text texts : List ℕ) (role : Role) (circuit : CircuitData) (outcome : Result Reply (List ℕ)) →
+    KeepsSpecification text role circuit → PrintsCircuit (text_of circuit) circuit →
+    CutsInTwo texts (Ok (text, text_of circuit)) → AnswersVerifyTlsf role texts outcome ↔ (outcome ≡ Ok wins_reply)

@@ -23,7 +23,9 @@ pub mod Solving
 pub mod StageFaults
 pub mod Streams
 pub mod Synthesis
+pub mod SynthesisTlsf
 pub mod Texts
 pub mod Shrinking
 pub mod Verifying
+pub mod VerifyingTlsf
 pub mod Watched

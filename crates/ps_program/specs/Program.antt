@@ -3,7 +3,9 @@ use Rattle.std.specs.Prelude.{◌≡◌, ◌≤◌, ◌<◌, ◌⊎◌, ℕ, Boo
 use Rattle.std.specs.Io.KnownBytes.{Appends}
 use Rattle.ps_program.specs.declared.commands.Line.{Line}
 use Rattle.ps_program.specs.declared.commands.Line.TheVariants.{Refused, Help, Closed, Check, Judge, Sim, Lasso}
-use Rattle.ps_program.specs.declared.commands.Line.TheVariants.{LassoTlsf, Verify, Shrink, Solve, Game, Cert, Synth}
+use Rattle.ps_program.specs.declared.commands.Line.TheVariants.{LassoTlsf, Verify, VerifyTlsf, Shrink, Solve, Game}
+use Rattle.ps_program.specs.declared.commands.Line.TheVariants.{Cert, Synth, SynthTlsf}
+use Rattle.ps_specification.specs.Translating.{own_translator}
 use Rattle.ps_program.specs.CommandLine.{IsLine}
 use Rattle.ps_program.specs.Checks.{AnswersClosed, AnswersCheck}
 use Rattle.ps_program.specs.Cut.{first_line, behind_line}
@@ -20,7 +22,9 @@ use Rattle.ps_program.specs.Solvers.{Solvers}
 use Rattle.ps_program.specs.Solving.{AnswersSolve}
 use Rattle.ps_program.specs.Streams.{SinkState, AppendsSome, Breaks}
 use Rattle.ps_program.specs.Synthesis.{AnswersSynth}
+use Rattle.ps_program.specs.SynthesisTlsf.{AnswersSynthTlsf}
 use Rattle.ps_program.specs.Verifying.{AnswersVerify}
+use Rattle.ps_program.specs.VerifyingTlsf.{AnswersVerifyTlsf}
 
 -- the answer to a command line and the texts after it; if the command uses a solver, the answer depends on what is
 -- known about the solver
@@ -34,11 +38,13 @@ AnswersLine solvers Sim texts outcome = AnswersSim texts outcome
 AnswersLine solvers (Lasso role) texts outcome = AnswersLasso role texts outcome
 AnswersLine solvers (LassoTlsf role) texts outcome = AnswersLassoTlsf role texts outcome
 AnswersLine solvers (Verify order role) texts outcome = AnswersVerify order role texts outcome
+AnswersLine solvers (VerifyTlsf role) texts outcome = AnswersVerifyTlsf role texts outcome
 AnswersLine solvers (Shrink order role) texts outcome = AnswersShrink order role texts outcome
 AnswersLine solvers (Solve compact) texts outcome = AnswersSolve solvers.built_in compact texts outcome
 AnswersLine solvers (Game order) texts outcome = AnswersGameText order texts outcome
 AnswersLine solvers (Cert order compact) texts outcome = AnswersCert solvers.built_in order compact texts outcome
 AnswersLine solvers (Synth asked) texts outcome = AnswersSynth solvers asked texts outcome
+AnswersLine solvers SynthTlsf text outcome = AnswersSynthTlsf own_translator solvers.built_in text outcome
 
 -- the answer to an input
 abbrev pub AnswersInput : Solvers → List ℕ → Reply → Type 0

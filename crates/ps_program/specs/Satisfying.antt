@@ -21,10 +21,13 @@ use Rattle.ps_program.specs.Replies.{Reply, line_reply}
 use Rattle.ps_program.specs.Texts.{CutsInThree, ReadsCircuitText, ReadsSpecificationText, ReadsStimulusText}
 
 -- whether a word satisfies a specification, and the lengths of the word's stem and lap
+abbrev pub satisfaction_of : (satisfied : Bool) → (stem lap : ℕ) → List ℕ
+satisfaction_of satisfied stem lap =
+    (if satisfied then codes "satisfied" else codes "violated") ++ codes " stem" ++ spaced stem ++ codes " lap" ++
+    spaced lap
+
 abbrev pub satisfaction_text : (satisfied : Bool) → TraceWordData → List ℕ
-satisfaction_text satisfied word =
-    (if satisfied then codes "satisfied" else codes "violated") ++ codes " stem" ++ spaced (length word.stem) ++
-    codes " lap" ++ spaced (length word.lap)
+satisfaction_text satisfied word = satisfaction_of satisfied (length word.stem) (length word.lap)
 
 -- the reply states whether the word satisfies the formula at its first index
 abbrev pub IsToldBy : Formula → TraceWordData → Reply → Type 0

@@ -42,19 +42,27 @@ loses_reply s = text_reply (losing_text s)
 abbrev pub product_line : ProductFault → List ℕ
 product_line fault = line_text (fault_number fault) (fault_name fault) []
 
--- the line for a circuit that can't be judged: its symbols are not those of its role; or else it moves first, but in a
--- step of some trace its outputs depend on the inputs of that step
+-- the line for a circuit that can't be judged: its symbols are not those of its role, which are names of propositions;
+-- or else it moves first, but in a step of some trace its outputs depend on the inputs of that step
+abbrev pub IsUnjudgedLine :
+    Order → Role → (names : List (List ℕ)) → (controllable : List ℕ) → CircuitData → List ℕ → Type 0
+IsUnjudgedLine order role names controllable c line =
+    (¬ HasSymbols role names controllable c × (line ≡ product_line Symbols))
+    ⊎ (HasSymbols role names controllable c × IsTooEarly order role c × (line ≡ product_line Timing))
+
 abbrev pub IsProductLine : Order → Role → FileData → CircuitData → List ℕ → Type 0
-IsProductLine order role file c line =
-    (¬ HasSymbols role file.names file.controllable c × (line ≡ product_line Symbols))
-    ⊎ (HasSymbols role file.names file.controllable c × IsTooEarly order role c × (line ≡ product_line Timing))
+IsProductLine order role file c line = IsUnjudgedLine order role file.names file.controllable c line
+
+-- the reply states that the circuit wins, or has a stimulus on which it loses
+abbrev pub IsToldOf : (Wins : Type 0) → (Loses : StimulusData → Type 0) → Reply → Type 0
+IsToldOf Wins Loses reply =
+    (Wins × (reply ≡ wins_reply)) ⊎ ((s : StimulusData) × Loses s × (reply ≡ loses_reply s))
 
 -- what is printed for a circuit: that it wins; or a stimulus on which it loses; or the line that reports why it can't
 -- be judged
 abbrev pub TellsJudgement : Order → Role → FileData → CircuitData → Result Reply (List ℕ) → Type 0
-TellsJudgement order role file c (Ok reply) = IsCircuit c
-    × ((IsWinning order role file c × (reply ≡ wins_reply))
-    ⊎ ((s : StimulusData) × IsLosing order role file c s × (reply ≡ loses_reply s)))
+TellsJudgement order role file c (Ok reply) =
+    IsCircuit c × IsToldOf (IsWinning order role file c) (IsLosing order role file c) reply
 TellsJudgement order role file c (Err line) = IsProductLine order role file c line
 
 -- parses a text as a circuit, and judges the circuit

@@ -10,7 +10,10 @@ ghost use Rattle.ps_program.specs.Inner.Usages.{usage_of};
 ghost use Rattle.ps_program.specs.CommandLine.{words_of, line_said, Says, IsLine, LinesAreRead, AskForHelp};
 ghost use Rattle.ps_program.specs.Inner.LongWords.{NamesNothing};
 
-use crate::commands::{ENV_FLAG, Line, MOORE_FLAG, TLSF_FLAG, Usage, usages};
+use crate::commands::{
+    CERT_FLAG, COMPACT_FLAG, ENV_FLAG, FULL_FLAG, Line, MOORE_FLAG, SynthLine, TLSF_FLAG, Usage,
+    usages,
+};
 use clap::error::ErrorKind;
 use clap::{Arg, ArgAction, ArgMatches, Command};
 use ps_machine::Order;
@@ -27,8 +30,8 @@ pub fn read_line(alloc: Global, line: &[u8]) -> Result<Line, AllocError>
     }
 }
 
-/// A law. A line with a command's name and some of its own flags, each once, in any order, is accepted as this command.
-/// `--help` and `-h` ask for help.
+/// A law. A line with a command's name and some of its own flags, each once, in any order, is accepted as this command,
+/// unless some of the flags exclude each other: such a line is refused. `--help` and `-h` ask for help.
 pub fn lines_are_read()
     ensures lines { LinesAreRead }
     ensures help { AskForHelp }
@@ -199,6 +202,49 @@ pub fn lasso_given(flags: &ArgMatches) -> Line
         Line::LassoTlsf(role)
     } else {
         Line::Lasso(role)
+    }
+}
+
+/// What `verify` asks for: the judgement by an automaton or, if the flag `--tlsf` is given, by a specification. A
+/// specification states the order of moves, so `--moore` and `--tlsf` exclude each other.
+pub fn verify_given(flags: &ArgMatches) -> Line
+    ensures { result ≡ words.verify_given (λ name. words.is_given name (rows_of (found_of flags.now))) }
+{
+    let role = role_given(flags);
+    let order = order_given(flags);
+    if !is_given(flags, TLSF_FLAG) {
+        Line::Verify { order, role }
+    } else if is_given(flags, MOORE_FLAG) {
+        Line::Refused
+    } else {
+        Line::VerifyTlsf(role)
+    }
+}
+
+/// What `synth` asks for: a circuit for an automaton or, if the flag `--tlsf` is given, for a specification. A
+/// specification states the order of moves, and only its circuit is printed, so `--tlsf` excludes each other flag.
+pub fn synth_given(flags: &ArgMatches) -> Line
+    ensures { result ≡ words.synth_line_given (λ name. words.is_given name (rows_of (found_of flags.now))) }
+{
+    let asked = asked_given(flags);
+    if !is_given(flags, TLSF_FLAG) {
+        Line::Synth(asked)
+    } else if asked.full || asked.cert || is_given(flags, MOORE_FLAG) || asked.compact {
+        Line::Refused
+    } else {
+        Line::SynthTlsf
+    }
+}
+
+/// Which circuit `synth` is asked for, and what is printed with it.
+fn asked_given(flags: &ArgMatches) -> SynthLine
+    ensures { result ≡ words.synth_given (λ name. words.is_given name (rows_of (found_of flags.now))) }
+{
+    SynthLine {
+        full: is_given(flags, FULL_FLAG),
+        cert: is_given(flags, CERT_FLAG),
+        order: order_given(flags),
+        compact: is_given(flags, COMPACT_FLAG),
     }
 }
 

@@ -20,19 +20,25 @@ pub mod shrink;
 pub mod sim;
 pub mod solve;
 pub mod synth;
+pub mod synth_tlsf;
 pub mod verify;
+pub mod verify_tlsf;
 
 use crate::answer::{Answer, Refusal};
-use crate::command_line::{is_given, lasso_given, order_given, role_given};
+use crate::command_line::{
+    is_given, lasso_given, order_given, role_given, synth_given, verify_given,
+};
 use clap::ArgMatches;
 use ps_machine::{Order, Solver};
 use ps_simulate::Role;
+use ps_specification::OwnTranslator;
 use std::alloc::Global;
 
 /// What the first line of the input asks for.
 #[derive(Clone, Copy)]
 pub enum Line {
-    /// No command: a line that is not a command's name with flags of that command, each given at most once.
+    /// No command: a line that is not a command's name with flags of that command, each given at most once, or a line
+    /// with flags that exclude each other.
     Refused,
     /// The input's first line asks for the help text.
     Help,
@@ -62,6 +68,9 @@ pub enum Line {
         /// The role of the circuit.
         role: Role,
     },
+    /// The input's first line asks whether each lasso trace of a circuit that is a controller satisfies a
+    /// specification, or no lasso trace of a circuit that is an environment does.
+    VerifyTlsf(Role),
     /// The input's first line asks for a circuit that wins as a given one does, and is not larger.
     Shrink {
         /// Who moves first.
@@ -85,6 +94,8 @@ pub enum Line {
     },
     /// The input's first line asks for a circuit for an automaton.
     Synth(SynthLine),
+    /// The input's first line asks for a circuit for a specification.
+    SynthTlsf,
 }
 
 /// Which circuit the command `synth` is asked for, and what is printed with the circuit.
@@ -187,7 +198,8 @@ pub const ON_LASSO: &str = " with a line - between a stem and
 pub const ON_VERIFY: &str = "\
 : `wins` where the automaton accepts each lasso
          trace of the circuit, or with --env none; else `loses`, and a stimulus
-         on which that is not so; --moore";
+         on which that is not so; --moore; --tlsf: by a specification, which is
+         the first text in the automaton's place, and names the order of moves";
 
 /// What `help` says about `shrink`, after the kinds of the command's input texts.
 pub const ON_SHRINK: &str = "\
@@ -214,7 +226,9 @@ pub const ON_SYNTH: &str = "\
          against which each trace is rejected; --moore;
          --full: then a line %%, the game, a line %%, its certificate, with
          --compact as a compact text;
-         --cert: by the certificate of that game that is its second text";
+         --cert: by the certificate of that game that is its second text;
+         --tlsf, without another flag: a circuit for a specification in the
+         automaton's place, which names the order of moves";
 
 /// What `help` says about `help`, after the kinds of the command's input texts.
 pub const ON_HELP: &str = "this text";
@@ -268,10 +282,10 @@ const COMMANDS: &[Usage<'static>] = &[
     },
     Usage {
         name: "verify",
-        flags: &[ENV_FLAG, MOORE_FLAG],
+        flags: &[ENV_FLAG, MOORE_FLAG, TLSF_FLAG],
         texts: &[TextKind::Automaton, TextKind::Circuit],
         added: &[],
-        replaced: &[],
+        replaced: &[(TLSF_FLAG, TextKind::Specification)],
         line: Line::Verify {
             order: Order::Mealy,
             role: Role::Controller,
@@ -322,10 +336,10 @@ const COMMANDS: &[Usage<'static>] = &[
     },
     Usage {
         name: "synth",
-        flags: &[FULL_FLAG, CERT_FLAG, MOORE_FLAG, COMPACT_FLAG],
+        flags: &[FULL_FLAG, CERT_FLAG, MOORE_FLAG, COMPACT_FLAG, TLSF_FLAG],
         texts: &[TextKind::Automaton],
         added: &[(CERT_FLAG, TextKind::Certificate)],
-        replaced: &[],
+        replaced: &[(TLSF_FLAG, TextKind::Specification)],
         line: Line::Synth(SynthLine {
             full: false,
             cert: false,
@@ -362,10 +376,7 @@ impl Line {
                 compact: is_given(flags, COMPACT_FLAG),
             },
             Line::Lasso(_) => lasso_given(flags),
-            Line::Verify { .. } => Line::Verify {
-                order: order_given(flags),
-                role: role_given(flags),
-            },
+            Line::Verify { .. } => verify_given(flags),
             Line::Shrink { .. } => Line::Shrink {
                 order: order_given(flags),
                 role: role_given(flags),
@@ -378,12 +389,7 @@ impl Line {
                 order: order_given(flags),
                 compact: is_given(flags, COMPACT_FLAG),
             },
-            Line::Synth(_) => Line::Synth(SynthLine {
-                full: is_given(flags, FULL_FLAG),
-                cert: is_given(flags, CERT_FLAG),
-                order: order_given(flags),
-                compact: is_given(flags, COMPACT_FLAG),
-            }),
+            Line::Synth(_) => synth_given(flags),
             line => line,
         }
     }
@@ -416,10 +422,12 @@ pub(crate) fn answer_line<S: Solver, T: Solver>(
         Line::Lasso(role) => lasso::lasso(alloc, role, texts),
         Line::LassoTlsf(role) => lasso_tlsf::lasso_tlsf(alloc, role, texts),
         Line::Verify { order, role } => verify::verify(alloc, order, role, texts),
+        Line::VerifyTlsf(role) => verify_tlsf::verify_tlsf(alloc, role, texts),
         Line::Shrink { order, role } => shrink::shrink(alloc, order, role, texts),
         Line::Solve { compact } => solve::solve(alloc, texts, built_in, compact),
         Line::Game(order) => game::game(alloc, order, texts),
         Line::Cert { order, compact } => cert::cert(alloc, order, texts, built_in, compact),
         Line::Synth(asked) => synth::synth(alloc, asked, texts, built_in, replay),
+        Line::SynthTlsf => synth_tlsf::synth_tlsf(alloc, texts, &OwnTranslator, built_in),
     }
 }

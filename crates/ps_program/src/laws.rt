@@ -6,7 +6,8 @@ ghost use Rattle.ps_machine.specs.Solving.{own_solver, replay_of};
 ghost use Rattle.ps_program.specs.Answered.{MayCertify, MayReplay};
 ghost use Rattle.ps_program.specs.Answered.{ArePrinted, HasSomeAnswer, HasSomeLine, HasSomeSolved, HasSomeSynthesis};
 ghost use Rattle.ps_program.specs.Determined.{HasOneAnswer, HasOneCertified, NeedsItsTexts};
-ghost use Rattle.ps_program.specs.Exchanged.{ChecksCertificates, ReadsLosing, VerifiesCircuits, VerifiesSmaller};
+ghost use Rattle.ps_program.specs.Exchanged.{ChecksCertificates, ConfirmsLosing, ReadsLosing, ReadsLosingSpecified};
+ghost use Rattle.ps_program.specs.Exchanged.{VerifiesCircuits, VerifiesSmaller, VerifiesWinners};
 ghost use Rattle.ps_program.specs.Solvers.{Solvers, solvers_of};
 
 /// Data of two solvers. The laws of answers hold for any data, and need no solver: a type with an `impl` of this trait
@@ -23,16 +24,16 @@ impl KnownSolvers for OwnSolvers {
     ghost solvers = { solvers_of own_solver (replay_of []) };
 }
 
-/// Whatever the solvers, an input has at most one answer, unless its command is `judge`, `verify`, `shrink`, `solve`,
-/// `cert` or `synth`. If there is only one answer, each program that meets the definitions writes the same bytes and
-/// ends with the same exit status, unless it runs out of memory. Two answers to one of the six commands may differ, as
-/// follows.
-/// If `judge` finds cycles that make a player lose, the law does not say which of them the answer names, but all of
-/// them are lost by the same player. If `verify` or `shrink` finds that the circuit loses, the law does not say which
-/// losing stimulus the answer shows. If `shrink` finds that the circuit wins, the answer is any circuit that wins and is
-/// not larger. If `solve`, `cert` or `synth` accepts its text, any two answers that do not report a
-/// fault agree on the winners. Two answers to `synth` without a fault have the same status, first line and game; two
-/// answers to `solve` or `cert` without a fault have the same regions. With `synth --cert`, the whole answer is
+/// Whatever the solvers, an input has at most one answer, unless its command is `judge`, `verify` (also with `--tlsf`),
+/// `shrink`, `solve`, `cert` or `synth` (also with `--tlsf`). If there is only one answer, each program that meets the
+/// definitions writes the same bytes and ends with the same exit status, unless it runs out of memory. Two answers to
+/// one of the six commands may differ, as follows. If `judge` finds cycles that make a player lose, the law does not
+/// say which of them the answer names, but all of them are lost by the same player. If `verify` or `shrink` finds that
+/// the circuit loses, the law does not say which losing stimulus the answer shows. If `shrink` finds that the circuit
+/// wins, the answer is any circuit that wins and is not larger. If `solve`, `cert` or `synth` accepts its text, any two
+/// answers that do not report a fault agree on the winners. Two answers to `synth` without a fault have the same
+/// status, first line and game; two answers to `solve` or `cert` without a fault have the same regions. Two answers to
+/// `synth --tlsf` without a fault have the same status and first line. With `synth --cert`, the whole answer is
 /// determined if the second solver only returns the certificate whose text it was fed.
 pub fn one_answer<S: KnownSolvers>()
     ensures answer { HasOneAnswer S.solvers }
@@ -55,17 +56,19 @@ pub fn one_answer<S: KnownSolvers>()
     ps_referee::one_certificate();
     ps_referee::one_verdict();
     ps_verify::judgement_is_one();
+    ps_models::laws::judgement_is_one();
+    ps_specification::no_specification_has_both();
 }
 
 /// A command reads as many texts as the table of commands says. If the input lacks one of a command's texts, the answer
-/// reports the missing text.
+/// reports the missing text, unless the flags exclude each other.
 pub fn missing_text_is_told<S: KnownSolvers>()
     ensures { NeedsItsTexts S.solvers }
 {}
 
 /// Each first line has a meaning, and each input has an answer, except that the law says nothing about the commands
-/// `verify` and `shrink`. Without the law `some_answer`, nobody would notice if the definition of an answer excluded everything that
-/// the program can print. The law states which answers are right, not what a call returns, so lack of memory is not one
+/// `verify` (also with `--tlsf`) and `shrink`. Without the law `some_answer`, nobody would notice if the definition of
+/// an answer excluded everything that the program can print. The law states which answers are right, not what a call returns, so lack of memory is not one
 /// of the answers.
 ///
 /// Whatever the solvers, an input has an answer if its first line is refused, or asks for `help`, `closed`, `check`,
@@ -83,7 +86,7 @@ pub fn missing_text_is_told<S: KnownSolvers>()
 /// `fitting_texts_are_printed` states when this condition is met.
 ///
 /// The commands `verify` and `shrink` are left out, because a proof for them would have to decide, as the code does,
-/// whether an automaton accepts all lasso traces of a circuit.
+/// whether an automaton accepts all lasso traces of a circuit, or all of them satisfy a specification.
 pub fn some_answer<S: KnownSolvers>()
     ensures line { HasSomeLine }
     ensures answer { HasSomeAnswer S.solvers }
@@ -136,10 +139,23 @@ pub fn fitting_texts_are_printed<S: KnownSolvers>()
 }
 
 /// What `verify` prints after the line `loses` is the text of a stimulus for the circuit. `lasso` reads this text as
-/// the stimulus on which the circuit loses.
+/// the stimulus on which the circuit loses. `lasso --tlsf` reads so what `verify --tlsf` prints.
 pub fn losing_stimulus_is_read()
-    ensures { ReadsLosing }
+    ensures automaton { ReadsLosing }
+    ensures specification { ReadsLosingSpecified }
 {}
+
+/// For a stimulus on which a circuit loses by a specification, as `verify --tlsf` prints it, `lasso --tlsf` answers that
+/// the trace of a controller violates the specification, or with `--env` that the trace of an environment satisfies it,
+/// and nothing else.
+pub fn losing_stimulus_is_confirmed()
+    ensures { ConfirmsLosing }
+{
+    ps_circuit::one_answer();
+    ps_circuit::read_circuit_is_circuit();
+    ps_simulate::stimulus_text_has_one_answer();
+    ps_simulate::word_is_one();
+}
 
 /// Whatever the solver, `verify` answers `wins`, and nothing else, for each circuit that `synth` prints, if it is given
 /// the same automaton and order of moves, and, for the circuit of an environment, the flag `--env`.
@@ -163,6 +179,15 @@ pub fn smaller_circuits_are_verified()
     ps_circuit::read_circuit_is_circuit();
     ps_hoa::one_answer();
     ps_verify::judgement_is_one();
+}
+
+/// `verify --tlsf` answers `wins`, and nothing else, for each circuit that `synth --tlsf` prints, if it is given the same
+/// specification, and, for the circuit of an environment, the flag `--env`.
+pub fn specified_circuits_are_verified()
+    ensures { VerifiesWinners }
+{
+    ps_circuit::one_answer();
+    ps_models::laws::judgement_is_one();
 }
 
 /// `check` answers `valid`, and nothing else, for the text of each valid certificate, if the text of its game precedes

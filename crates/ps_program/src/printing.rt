@@ -7,12 +7,14 @@ ghost use Rattle.ps_circuit.specs.Written.{text_of};
 ghost use Rattle.ps_game.specs.Games.{vertex_count};
 ghost use Rattle.ps_pgsolver.specs.Written.{game_text};
 ghost use Rattle.ps_program.specs.Replies.{reply_of};
-ghost use Rattle.ps_program.specs.Synthesis.{IsPrinted, is_realizable, proof_text, synthesis_reply, verdict_line, verdict_status};
+ghost use Rattle.ps_program.specs.Synthesis.{IsPrinted, is_realizable, proof_text, synthesis_reply, verdict_line};
+ghost use Rattle.ps_program.specs.Synthesis.{verdict_status};
 ghost use Rattle.ps_synthesis.specs.Printing.{PrintsCertificate, PrintsCircuit, PrintsGame};
 
 use crate::answer::{Answer, REALIZABLE, UNREALIZABLE};
 use crate::commands::SynthLine;
 use ps_certificate::Certificate;
+use ps_circuit::Circuit;
 use ps_game::NamedGame;
 use ps_synthesis::{Synthesis, certificate_text};
 use std::alloc::{AllocError, Global};
@@ -35,7 +37,8 @@ pub fn print(
     ensures printed { IfOk result (λ _. IsPrinted asked.full asked.compact
         (record { game = game.now; certificate = synthesis.now.certificate; circuit = synthesis.now.circuit })) }
 {
-    let mut answer = print_circuit(alloc, synthesis)?;
+    let realizable = synthesis.certificate.winner(0) == 0;
+    let mut answer = print_circuit(alloc, realizable, &synthesis.circuit)?;
     if asked.full {
         let certificate = &synthesis.certificate;
         add_proof(alloc, &mut answer.text, game, certificate, asked.compact)?;
@@ -44,17 +47,18 @@ pub fn print(
 }
 
 /// The line that states the winner, and then the winner's circuit. Fails if memory runs out.
-fn print_circuit(alloc: Global, synthesis: &Synthesis) -> Result<Answer, AllocError>
-    requires { 0 < length synthesis.now.certificate.entries }
-    ensures text { IfOk result (λ answer. answer.text.items ≡
-        verdict_line (is_realizable synthesis.now.certificate) ++ text_of synthesis.now.circuit) }
-    ensures status { IfOk result (λ answer. answer.status ≡
-        verdict_status (is_realizable synthesis.now.certificate)) }
-    ensures printed { IfOk result (λ _. PrintsCircuit (text_of synthesis.now.circuit) synthesis.now.circuit) }
+pub(crate) fn print_circuit(
+    alloc: Global,
+    realizable: bool,
+    circuit: &Circuit,
+) -> Result<Answer, AllocError>
+    ensures text { IfOk result (λ answer. answer.text.items ≡ verdict_line realizable ++ text_of circuit.now) }
+    ensures status { IfOk result (λ answer. answer.status ≡ verdict_status realizable) }
+    ensures printed { IfOk result (λ _. PrintsCircuit (text_of circuit.now) circuit.now) }
 {
-    let (word, status) = verdict(synthesis.certificate.winner(0) == 0);
+    let (word, status) = verdict(realizable);
     let mut text = word.as_bytes().to_vec(alloc)?;
-    text.extend_from_slice(&ps_aiger::write(alloc, &synthesis.circuit)?)?;
+    text.extend_from_slice(&ps_aiger::write(alloc, circuit)?)?;
     Ok(Answer { text, status })
 }
 

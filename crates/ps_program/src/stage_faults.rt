@@ -3,6 +3,7 @@
 use crate::answer::Refusal;
 use crate::fault::{FaultLine, Place};
 use ps_automaton::AutomatonFault;
+use ps_specification::SpecificationFault;
 use ps_synthesis::SynthFault;
 
 /// What the program prints if a file has no automaton: a line that reports the reason. If the reason is lack of memory,
@@ -50,6 +51,28 @@ impl From<SynthFault> for Refusal {
             SynthFault::BadCycle(ids) => Place::Cycle(ids),
             SynthFault::NotCertified | SynthFault::CircuitTooLarge => Place::Nowhere,
             SynthFault::OutOfMemory => return Refusal::OutOfMemory,
+        };
+        Refusal::Fault(FaultLine {
+            number,
+            name,
+            place,
+        })
+    }
+}
+
+/// The reason why a specification gets no circuit is reported by a line, or as lack of memory.
+impl From<SpecificationFault> for Refusal {
+    ghost use Rattle.ps_program.specs.SynthesisTlsf.{IsSpecificationTold};
+
+    ghost from_gives = { IsSpecificationTold };
+
+    fn from(fault: SpecificationFault) -> Self {
+        let (number, name) = (fault.number(), fault.name());
+        let place = match fault {
+            SpecificationFault::Text { cause: _, offset } => Place::Byte(offset),
+            SpecificationFault::NotTranslated | SpecificationFault::NotJudged => Place::Nowhere,
+            SpecificationFault::Synthesis(fault) => return Refusal::from(fault),
+            SpecificationFault::OutOfMemory => return Refusal::OutOfMemory,
         };
         Refusal::Fault(FaultLine {
             number,

@@ -17,7 +17,8 @@ def run(request):
     if len(files) % count:
         raise Refused(f"each {command.name} reads {' '.join(command.wanted(request.given))} at a time, and got {len(files)} files")
     for at in range(0, len(files), count):
-        one = Request(command, request.given, files[at : at + count], request.table)
+        those = files[at : at + count]
+        one = Request(command, command.recognised(request.given, those), those, request.table)
         outcome = running.captured(one)
         console.write_text(line_of(one, outcome))
         status = status or (0 if outcome.status in ANSWERED else outcome.status)
@@ -31,6 +32,7 @@ def checked(request):
     command, *files = request.words
     command = words.command_of(command, request.table)
     words.check_flags(command, request.given, request.table)
+    words.check_apart(command, command.recognised(request.given, files))
     kinds = command.kinds(request.given)
     if not kinds or not all(isinstance(kind, Kind) and kind is not Kind.FILE for kind in kinds):
         raise Refused(f"{request.command.name} is not for {command.name}, which reads {' '.join(command.wanted(request.given)) or 'no file'}")

@@ -1,8 +1,8 @@
-"""`synth`: a circuit for an automaton, or for a specification in parts. With -o, the circuit, the game and the
-certificate go to separate files; with --small, the circuit is made smaller; with --by, another solver solves the
-game."""
+"""`synth`: a circuit for an automaton, for a specification in parts, or for one in temporal logic. With -o, the circuit,
+the game and the certificate go to separate files; with --small, the circuit is made smaller; with --by, another solver
+solves the game."""
 from psyntool import asking, console, files, outputs, program
-from psyntool.command import BY, CERT, FULL, KEEP, MOORE, OF_PARTS, PARTS, PICTURE, SMALL, TO_FILES
+from psyntool.command import BY, CERT, FULL, KEEP, MOORE, OF_PARTS, PARTS, PICTURE, SMALL, TLSF, TO_FILES
 from psyntool.ends import FAULT, Refused
 from psyntool.kinds import Kind
 from psyntool.texts import Unreadable, report
@@ -15,7 +15,9 @@ def run(request):
     request.refuse_without(KEEP, BY)
     if any(request.has(flag) for flag in (PARTS, *OF_PARTS)):
         return run_on_parts(request)
-    paths = paths_of(request, ENDINGS) if request.has(TO_FILES) else []
+    # of a specification in temporal logic, the circuit alone is printed
+    endings = ENDINGS[:1] if request.has(TLSF) else ENDINGS
+    paths = paths_of(request, endings) if request.has(TO_FILES) else []
     if not paths and not request.has(BY):
         return hand_on(request, request.texts())
     solving, texts = Solving(request) if request.has(BY) else None, request.texts()
@@ -121,7 +123,8 @@ def paths_of(request, endings):
 def to_files(request, texts, paths, others, passed=()):
     """Writes the circuit, the game, the certificate and other given texts to files, and then prints the first line of
     the answer."""
-    flags = list(dict.fromkeys([*(passed or request.passed), FULL.name]))
+    full = [] if request.has(TLSF) else [FULL.name]
+    flags = list(dict.fromkeys([*(passed or request.passed), *full]))
     answer = smaller(request, texts, program.ask(files.joined("synth", flags, texts)))
     if answer.is_fault:
         return asking.hand_on(request, texts, answer)

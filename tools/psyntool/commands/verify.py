@@ -1,6 +1,6 @@
 """`verify`: whether the automaton accepts each lasso trace of a controller's circuit, or no lasso trace of an
-environment's circuit. If the circuit loses, the output has a stimulus on which it loses, and the run on this stimulus
-step by step."""
+environment's circuit; or whether they satisfy a specification. If the circuit loses, the output has a stimulus on which
+it loses, and the run on this stimulus step by step."""
 import os
 
 from psyntool import asking, console, files, outputs, program

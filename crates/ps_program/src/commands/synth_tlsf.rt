@@ -1,0 +1,53 @@
+//! The command `synth --tlsf`, which makes a circuit for a specification.
+
+ghost use Rattle.std.specs.Prelude.{◌≡◌, IfOk};
+ghost use Rattle.ps_circuit.specs.Written.{text_of};
+ghost use Rattle.ps_program.specs.Outcomes.{Gives};
+ghost use Rattle.ps_program.specs.Replies.{reply_of};
+ghost use Rattle.ps_program.specs.SynthesisTlsf.{AnswersSynthTlsf, is_controller, winner_reply};
+ghost use Rattle.ps_synthesis.specs.Printing.{PrintsCircuit};
+
+use crate::answer::{Answer, Refusal};
+use crate::printing::print_circuit;
+use ps_machine::Solver;
+use ps_simulate::Role;
+use ps_specification::{Translator, Winner, synthesise_specification};
+use std::alloc::{AllocError, Global};
+
+/// The circuit for the specification of a text, made with the given translator and solver, and judged by the
+/// specification.
+///
+/// # Errors
+///
+/// Fails with the fault of synthesis for the specification, or if memory runs out.
+pub fn synth_tlsf<T: Translator, S: Solver>(
+    alloc: Global,
+    text: &[u8],
+    translator: &T,
+    solver: &mut S,
+) -> Result<Answer, Refusal>
+    ensures answer { Gives reply_of (AnswersSynthTlsf (T.may_give translator.now) (S.known solver.old) text.now)
+        result }
+    ensures kept { (S.known solver.new).is_sure ≡ (S.known solver.old).is_sure }
+{
+    let winner = synthesise_specification(alloc, text, translator, solver)?;
+    Ok(print_winner(alloc, &winner)?)
+}
+
+/// The line that states the winner, and then the winner's circuit. Fails if memory runs out.
+fn print_winner(alloc: Global, winner: &Winner) -> Result<Answer, AllocError>
+    ensures answer { IfOk result (λ answer. reply_of answer ≡ winner_reply winner.now.role winner.now.circuit) }
+    ensures printed { IfOk result (λ _. PrintsCircuit (text_of winner.now.circuit) winner.now.circuit) }
+{
+    print_circuit(alloc, is_controller(winner.role), &winner.circuit)
+}
+
+/// Whether the circuit is a controller.
+fn is_controller(role: Role) -> bool
+    ensures { result ≡ is_controller role }
+{
+    match role {
+        Role::Controller => true,
+        Role::Environment => false,
+    }
+}

@@ -1,0 +1,80 @@
+//! The command `verify --tlsf`. The answer of `verify --tlsf` states whether each lasso trace of a controller satisfies a
+//! specification, or no lasso trace of an environment does.
+
+ghost use Rattle.std.specs.Prelude.{map};
+ghost use Rattle.ps_circuit.specs.Circuits.{IsCircuit};
+ghost use Rattle.ps_simulate.specs.Symbols.{AreDistinct};
+ghost use Rattle.ps_tlsf.specs.NameViews.{name_data};
+ghost use Rattle.ps_tlsf.specs.Names.{names_in};
+ghost use Rattle.ps_tlsf.specs.SpecificationViews.{HasRoots, specification_data};
+ghost use Rattle.ps_program.specs.Outcomes.{Gives};
+ghost use Rattle.ps_program.specs.Replies.{reply_of};
+ghost use Rattle.ps_program.specs.VerifyingTlsf.{AnswersVerifyTlsf, TellsSpecified, VerifiesSpecified};
+
+use crate::answer::{Answer, Refusal};
+use crate::commands::verify::losing_text;
+use crate::fault::{FaultLine, Place};
+use crate::texts::{read_circuit, read_specification, two_texts};
+use ps_circuit::Circuit;
+use ps_product::ProductFault;
+use ps_simulate::Role;
+use ps_specification::judged;
+use ps_tlsf::Specification;
+use ps_verify::Judgement;
+use std::alloc::Global;
+
+/// Whether each lasso trace of a controller satisfies a specification, or none of an environment; if not, a stimulus on
+/// which the circuit loses.
+///
+/// # Errors
+///
+/// Fails with the first of these faults: a missing text, an error in the specification's text, an error in the
+/// circuit's text, wrong symbols for its role (`Symbols`), outputs that depend on inputs which come later (`Timing`).
+/// Fails at any time if memory runs out.
+pub fn verify_tlsf(alloc: Global, role: Role, texts: &[u8]) -> Result<Answer, Refusal>
+    ensures { Gives reply_of (AnswersVerifyTlsf role texts.now) result }
+{
+    let (tlsf, aag) = two_texts(texts)?;
+    let specification = read_specification(alloc, tlsf)?;
+    verify_text(alloc, role, &specification, aag)
+}
+
+/// Parses a text as a circuit, and judges the circuit.
+fn verify_text(
+    alloc: Global,
+    role: Role,
+    specification: &Specification,
+    aag: &[u8],
+) -> Result<Answer, Refusal>
+    requires roots { HasRoots specification.now }
+    requires distinct { AreDistinct (names_in (map name_data specification.now.propositions.items)) }
+    ensures { Gives reply_of (VerifiesSpecified role (specification_data specification.now) aag.now) result }
+{
+    let circuit = read_circuit(alloc, aag)?;
+    tell(alloc, role, specification, &circuit)
+}
+
+/// The judgement on a circuit, or a fault: the circuit's symbols are wrong, or the circuit moves first but its outputs
+/// depend on its inputs.
+fn tell(
+    alloc: Global,
+    role: Role,
+    specification: &Specification,
+    circuit: &Circuit,
+) -> Result<Answer, Refusal>
+    requires circuit { IsCircuit circuit.now }
+    requires roots { HasRoots specification.now }
+    requires distinct { AreDistinct (names_in (map name_data specification.now.propositions.items)) }
+    ensures { Gives reply_of (TellsSpecified role (specification_data specification.now) circuit.now) result }
+{
+    match judged(alloc, circuit, specification, role) {
+        Ok(Judgement::Wins) => Ok(Answer::line(alloc, "wins")?),
+        Ok(Judgement::Loses(stimulus)) => Ok(Answer::text(losing_text(alloc, &stimulus)?)),
+        Err(ProductFault::OutOfMemory) => Err(Refusal::OutOfMemory),
+        Err(fault) => Err(Refusal::Fault(FaultLine {
+            number: fault.number(),
+            name: fault.name(),
+            place: Place::Nowhere,
+        })),
+    }
+}
