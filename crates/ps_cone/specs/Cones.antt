@@ -26,7 +26,7 @@ pub record ReadsVariable (c : CircuitData) (v w : ℕ) : Type 0 where
 
 abbrev pub IsNeededVariable : CircuitData → ℕ → Type 0
 IsNeededVariable c v =
-  (output : ℕ) × Contains c.outputs output × ((variable output ≡ v) ⊎ Way (ReadsVariable c) (variable output) v)
+    (output : ℕ) × Contains c.outputs output × ((variable output ≡ v) ⊎ Way (ReadsVariable c) (variable output) v)
 
 pub record IsCone (c cone : CircuitData) : Type 0 where
   pub kept : List Bool
