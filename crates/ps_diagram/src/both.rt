@@ -1,4 +1,4 @@
-//! Joins two diagrams into one diagram, whose leaf at a letter is the index of the pair of the two diagrams' leaves.
+//! Joins two diagrams: the leaf at a letter is the index of the pair of their leaves.
 
 ghost use Rattle.std.specs.Prelude.{◌≡◌, ℕ, ◌+◌, IfOk, Some};
 ghost use Rattle.ps_diagram.specs.Inner.Kept.{result_for};
@@ -16,8 +16,8 @@ use indexmap::IndexSet;
 use std::alloc::AllocError;
 
 impl Store {
-    /// The diagram whose leaf at a letter is the index, in `pairs`, of the pair of the two nodes' leaves. The resulting
-    /// diagram has no leaf at letters at which one of the two nodes has none. New pairs are appended to `pairs`.
+    /// The diagram whose leaf at a letter is the index, in `pairs`, of the pair of the two nodes' leaves, or none where
+    /// either has none. New pairs are appended to `pairs`.
     pub fn both(
         &mut self,
         first: Node,
@@ -35,7 +35,7 @@ impl Store {
         self.paired(first, second, pairs, &mut known)
     }
 
-    /// Like `both`, but with a memo table of the pairs of nodes that were joined before.
+    /// As `both`, with a memo table.
     fn paired(
         &mut self,
         first: Node,
@@ -76,7 +76,7 @@ impl Store {
         Ok(made)
     }
 
-    /// Like `paired`, but for two diagrams that test no proposition.
+    /// As `paired`, for diagrams that test no proposition.
     fn paired_leaves(
         &mut self,
         first: Node,

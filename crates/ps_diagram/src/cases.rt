@@ -1,4 +1,4 @@
-//! Makes a diagram from a list of cases: products of literals, each with a leaf.
+//! The diagram of a list of cases: products of literals, each with a leaf.
 
 ghost use Rattle.std.specs.Prelude.{◌≡◌, ℕ, ◌<◌, ◌≤◌, Bool, true, false, Contains, IfNone, IfOk, IfSome, length};
 ghost use Rattle.std.specs.Prelude.{Some, filter, take};
@@ -16,28 +16,28 @@ use crate::store::Store;
 use crate::view::Node;
 use std::alloc::AllocError;
 
-/// How many steps `of_cases` may take for each case, on average, before it gives up. A step looks at one case of a list
-/// that is split, or goes from one proposition to the next for a case that is left alone.
+/// How many steps `of_cases` may take for each case, on average. A step looks at one case of a list that is split, or
+/// goes to the next proposition for a case that is alone.
 const STEPS: usize = 256;
 
-/// One case of a diagram: the leaf at letters at which a product of literals is true.
+/// One case of a diagram: its leaf at letters at which the product is true.
 #[derive(Clone, Copy)]
 pub struct Case {
     /// The product.
     pub product: Product,
     /// The leaf.
     pub leaf: u64,
-    /// A second number, which tells cases with the same leaf apart.
+    /// A number that tells cases with the same leaf apart.
     pub kind: u64,
 }
 
 impl Store {
-    /// The diagram that has, at each letter, the leaf of the cases whose products are true there, or the leaf `other`
-    /// if there is no such case. The call reorders the list of cases.
+    /// The diagram that has, at each letter, the leaf of the cases whose products are true there, or else `other`. The
+    /// call reorders the cases.
     ///
-    /// The result is None if cases that differ in their leaves or kinds are true at a common letter. The contract
-    /// allows None for every list: the call gives up after a number of steps that is proportional to the number of
-    /// cases. It needs more steps if many products leave out propositions that other products test first.
+    /// The result is None if cases that differ in their leaves or kinds are true at one letter, or after a number of
+    /// steps proportional to that of the cases; it needs more if many products leave out propositions that others test
+    /// first.
     pub fn of_cases(&mut self, cases: &mut [Case], other: u64) -> Result<Option<Node>, AllocError>
         ensures keeps { Keeps self.old self.new }
         ensures same { IsPermutation cases.old cases.new }
@@ -51,8 +51,8 @@ impl Store {
         self.split_cases(cases, 0, other, &mut steps)
     }
 
-    /// The diagram by cases, of whose products only the literals on propositions from `level` on count. `other` is the
-    /// diagram of a constant. The number `steps` says how many steps the call may still take.
+    /// The diagram by cases, whose literals count from the proposition `level` on; `other` is constant, and `steps` are
+    /// left.
     fn split_cases(
         &mut self,
         cases: &mut [Case],
@@ -90,7 +90,7 @@ impl Store {
         Ok(Some(self.test(proposition, low, high)?))
     }
 
-    /// The diagram by at most one case, of whose product only the literals on propositions from `level` on count.
+    /// The same for at most one case.
     fn of_few(&mut self, cases: &[Case], level: u32, other: Node) -> Result<Node, AllocError>
         requires few { length cases.now < 2 }
         requires within { level ≤ self.old.propositions }
@@ -106,8 +106,7 @@ impl Store {
         self.path(case.product, level, leaf, other)
     }
 
-    /// The common leaf of the cases, or None if two cases differ in their leaves or kinds. No case has a literal on a
-    /// proposition from `level` on.
+    /// The common leaf of the cases, without literals from `level` on; None if two cases differ.
     fn of_untested(&mut self, cases: &[Case]) -> Result<Option<Node>, AllocError>
         requires some { 0 < length cases.now }
         ensures keeps { Keeps self.old self.new }
@@ -123,7 +122,7 @@ impl Store {
         Ok(Some(self.constant(Some(first.leaf))?))
     }
 
-    /// The first proposition from `level` on on which a case has a literal, if there is one.
+    /// The first proposition, from `level` on, of which a case has a literal.
     fn first_tested(&self, cases: &[Case], level: u32) -> Option<u32>
         ensures none { IfNone result (AreUntested level self.now.propositions cases.now) }
         ensures few { IfSome result (λ p. p < 64) }
@@ -140,8 +139,7 @@ impl Store {
     }
 }
 
-/// The number of steps that it takes to split a list of `count` cases, or to make the diagram of a single case over the
-/// last `propositions` propositions.
+/// The number of steps to split `count` cases, or to make the diagram of one case over the last `propositions`.
 fn steps_for(count: usize, propositions: u32) -> usize {
     match count {
         1 => propositions as usize,
@@ -149,7 +147,7 @@ fn steps_for(count: usize, propositions: u32) -> usize {
     }
 }
 
-/// The propositions on which the cases have literals.
+/// The propositions of the cases' literals.
 fn tested_by(cases: &[Case]) -> u64
     ensures { (case : Case) → Contains cases.now case → (p : ℕ) → p < 64 → is_in p result ≡ false → (b : Bool) →
         allows case.product p b ≡ true }
@@ -161,8 +159,7 @@ fn tested_by(cases: &[Case]) -> u64
     tested
 }
 
-/// Moves the cases whose products allow the proposition to have the given truth value to the front, and returns their
-/// number.
+/// Moves the cases that allow the proposition this value to the front, and returns their number.
 fn partition(cases: &mut [Case], proposition: u32, value: bool) -> usize
     requires named { proposition < 64 }
     ensures same { IsPermutation cases.old cases.new }

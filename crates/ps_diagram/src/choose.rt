@@ -17,19 +17,17 @@ use std::alloc::AllocError;
 /// The sides of three nodes at the first proposition that one of them tests.
 #[derive(Clone, Copy)]
 pub(crate) struct Cut {
-    /// The proposition.
     pub proposition: u32,
-    /// The sides of the first node, which decides between the second and the third node.
+    /// Those of the first node, which decides between the others.
     pub truth: Sides,
-    /// The sides of the second node, whose leaf is taken at each letter at which the first node has a leaf.
+    /// Those of the second, which is taken where the first has a leaf.
     pub one: Sides,
-    /// The sides of the third node, whose leaf is taken at each letter at which the first node has no leaf.
+    /// Those of the third, which is taken where the first has none.
     pub other: Sides,
 }
 
 impl Store {
-    /// A diagram that chooses between two others: at a letter at which `truth` has a leaf it agrees with `one`, and at
-    /// every other letter it agrees with `other`.
+    /// The diagram that agrees with `one` at letters at which `truth` has a leaf, and with `other` at all others.
     pub fn choose(&mut self, truth: Node, one: Node, other: Node) -> Result<Node, AllocError>
         requires truth { IsNode self.old truth }
         requires one { IsNode self.old one }
@@ -42,7 +40,7 @@ impl Store {
         self.chosen(truth, one, other, &mut known)
     }
 
-    /// Like `choose`, but with a memo table of the results for three nodes that were computed before.
+    /// As `choose`, with a memo table.
     fn chosen(
         &mut self,
         truth: Node,
@@ -82,7 +80,7 @@ impl Store {
         Ok(made)
     }
 
-    /// The sides of three nodes at `first`, the first proposition that one of them tests; the node `truth` tests it.
+    /// The sides of three nodes at `first`, which `truth` tests.
     fn cut(&self, first: u32, truth: Node, one: Node, other: Node) -> Cut
         requires truth { IsNode self.now truth }
         requires one { IsNode self.now one }

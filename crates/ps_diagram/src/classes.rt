@@ -19,17 +19,16 @@ use crate::store::Store;
 use crate::view::{Node, View};
 use std::alloc::{AllocError, Global};
 
-/// If letters over at most this many propositions are divided into classes, each of these letters is tried.
+/// If `split` has at most this many propositions, each letter over them is tried.
 const FEW: u32 = 4;
 
-/// A class of letters over some propositions. Two letters are in one class if, for all truth values of the other
-/// propositions, they lead to the same leaf, or both to none.
+/// A class of letters over some propositions: whatever the values of the others, they lead to the same leaf, or all to
+/// none.
 #[derive(Debug, Clone, Copy, PartialEq, Eq)]
 pub struct Class {
     /// The least letter of the class.
     pub letter: u64,
-    /// What remains after a letter of the class, the same for each of its letters: a diagram that tests only the other
-    /// propositions.
+    /// What remains after any of its letters: a diagram that tests only the other propositions.
     pub rest: Node,
 }
 
@@ -38,14 +37,13 @@ pub struct Class {
 pub struct Classes {
     /// The classes, in the order of their letters.
     pub list: Vec<Class>,
-    /// The diagram whose leaf at a letter is the index of the letter's class in the list of classes.
+    /// The diagram whose leaf at a letter is the index of its class.
     pub places: Node,
 }
 
 impl Store {
-    /// Divides the letters over the propositions of `split` into classes. Two letters are in one class exactly if, for
-    /// all truth values of the other propositions, they lead to the same leaf, or both to none. This call copies the
-    /// store to read the node from it; `classes_in_copy` reads the node from a borrowed store.
+    /// Divides the letters over the propositions of `split` into the classes of a node. This call copies the store, to
+    /// read the node from the copy.
     pub fn classes(&mut self, node: Node, split: u64) -> Result<Classes, AllocError>
         requires held { IsNode self.old node }
         ensures keeps { Keeps self.old self.new }
@@ -56,9 +54,8 @@ impl Store {
         Ok(classes)
     }
 
-    /// Like `classes`, but for a node of the store `other`, of which this store is a copy, perhaps with more nodes. A
-    /// node of `other` that depends on no proposition of `split` is a node of this store, too, so its diagram is not
-    /// made again.
+    /// As `classes`, for a node of the store `other`, which this store began as a copy of. A node of `other` that
+    /// depends on no proposition of `split` is one of this store too, so its diagram isn't made again.
     pub fn classes_in_copy(
         &mut self,
         other: &Store,
@@ -77,8 +74,7 @@ impl Store {
         Ok(classes)
     }
 
-    /// A diagram over the propositions of `split`. The leaf at a letter is the number of a node: what remains of the
-    /// given node after the letter has been read.
+    /// A diagram over `split`, whose leaf at a letter is the number of the node that remains after it.
     fn rests(&mut self, other: &Store, node: Node, split: u64) -> Result<Node, AllocError>
         requires lent { IsLent self.old other.now node }
         requires kept { Keeps other.now self.old }
@@ -93,8 +89,7 @@ impl Store {
         self.divided(other, node, split, &mut known, &mut tests)
     }
 
-    /// Makes a class of each leaf of a diagram, and the diagram whose leaf at a letter is the index of the letter's
-    /// class.
+    /// A class for each leaf, and the diagram of the classes' indices.
     fn classes_of_leaves(
         &mut self,
         divided: Node,
@@ -116,9 +111,8 @@ impl Store {
         Ok(Classes { list, places })
     }
 
-    /// Like `rests`, but with memo tables of the nodes that were made before. The resulting diagram's leaf at a letter
-    /// x is the number of a node, the cofactor for x. At each letter y, this cofactor has the leaf that the given node
-    /// has at the letter that agrees with x on `split`, and with y elsewhere.
+    /// As `rests`, with memo tables. At each letter y, the node that remains after x has the leaf that `node` has at
+    /// the letter that agrees with x on `split`, and with y elsewhere.
     fn divided(
         &mut self,
         other: &Store,
@@ -168,7 +162,7 @@ impl Store {
         self.intern(View::Leaf(node.place as u64))
     }
 
-    /// Like `divided`, but for a node that tests a proposition, given the results for its two sides.
+    /// As `divided` for a test, by the results for its sides.
     fn divided_test(
         &mut self,
         proposition: u32,
@@ -192,9 +186,8 @@ impl Store {
         self.tested(proposition, low, high, tests)
     }
 
-    /// The diagram whose leaf at a letter is the number of a node. If the proposition is false, this node has the
-    /// leaves of the node to which `low` leads the letter, and otherwise the leaves of the node to which `high` leads
-    /// it.
+    /// The diagram whose leaf is the number of a test: of the nodes to which `low` and `high` lead a letter, by the
+    /// proposition.
     fn tested(
         &mut self,
         proposition: u32,
@@ -230,7 +223,7 @@ impl Store {
         Ok(made)
     }
 
-    /// Like `tested`, but for two diagrams that test no proposition.
+    /// As `tested`, for diagrams that test no proposition.
     fn tested_leaves(&mut self, proposition: u32, low: Node, high: Node) -> Result<Node, AllocError>
         requires leading { AreLeading self.old proposition low high }
         requires constant { AreConstants self.old low high }
@@ -243,7 +236,7 @@ impl Store {
         self.intern(View::Leaf(made.place as u64))
     }
 
-    /// The node to which a diagram that tests no proposition leads every letter.
+    /// The node to which a diagram that tests no proposition leads.
     fn node_at(&self, node: Node) -> Node
         requires held { IsNode self.now node }
         requires constant { IsConstant (tree_of self.now node) }
@@ -258,7 +251,7 @@ impl Store {
     }
 }
 
-/// Makes a list with one class for each leaf; the class has the leaf's least letter.
+/// One class for each leaf, with its least letter.
 fn listed(alloc: Global, leaves: &[(u64, u64)]) -> Result<Vec<Class>, AllocError>
     requires { All (λ pair. pair.0 < 2 ^ 32) leaves.now }
     ensures { IfOk result (λ list. AreOf leaves.now (length leaves.now) list.items) }

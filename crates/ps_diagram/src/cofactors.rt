@@ -1,4 +1,4 @@
-//! Computes what remains of a diagram after each letter over a few propositions has been read.
+//! What remains of a diagram after each letter over a few propositions.
 
 ghost use Rattle.std.specs.Prelude.{◌≡◌, ℕ, ◌+◌, ◌^◌, ◌<◌, ◌≤◌, IfOk, IsTrue, nat_eq};
 ghost use Rattle.ps_diagram.specs.Inner.Kept.{result_for};
@@ -13,9 +13,8 @@ use crate::view::{Node, View};
 use std::alloc::AllocError;
 
 impl Store {
-    /// A diagram over the propositions of `split`, whose leaf at a letter is the number of a node: the node that
-    /// remains of the given node after this letter has been read. The propositions less than `level` have been read
-    /// already, with the values that they have in `letter`. Each letter is tried, so `split` should have few
+    /// The diagram over `split` whose leaf at a letter is the number of the node that remains after it. The
+    /// propositions less than `level` have the values in `letter`. Each letter is tried, so `split` should have few
     /// propositions.
     pub(crate) fn spread(
         &mut self,
@@ -45,8 +44,7 @@ impl Store {
         self.spread(other, node, split, level + 1, letter)
     }
 
-    /// A diagram that has the same leaf at every letter: the number of the node that remains of the given node after
-    /// `letter` has been read.
+    /// The diagram of one leaf: the number of the node that remains after `letter`.
     fn spread_leaf(
         &mut self,
         other: &Store,
@@ -66,8 +64,7 @@ impl Store {
         self.intern(View::Leaf(rest.place as u64))
     }
 
-    /// The diagram of a node of the store `other`, in which the propositions of `split` are fixed to their values in
-    /// `letter`.
+    /// The diagram of a node of `other`, with the propositions of `split` fixed as in `letter`.
     fn cofactor(
         &mut self,
         other: &Store,
@@ -111,7 +108,7 @@ impl Store {
         }
     }
 
-    /// Whether the first proposition that a node tests comes after all of `split`.
+    /// Whether a node's first test comes after all of `split`.
     pub(crate) fn is_shared(&self, node: Node, split: u64) -> bool
         requires { IsNode self.now node }
         ensures { IsTrue result → IsUnread split (tree_of self.now node) }

@@ -13,10 +13,9 @@ use crate::view::{Node, View};
 use std::alloc::AllocError;
 
 impl Store {
-    /// The diagram of a node of another store, in which the function at the index p of `truths` replaces the
-    /// proposition p. A function is true at the letters at which its node in `truths` has a leaf. At each letter, the
-    /// values of these functions form a second letter, and the result has the leaf of the given node at the second
-    /// letter.
+    /// The diagram of a node of another store, in which the function `truths[p]`, true where this node has a leaf,
+    /// replaces the proposition p: at each letter, the functions' values form the letter at which the given node has
+    /// the result's leaf.
     pub fn composed_from(
         &mut self,
         other: &Store,
@@ -34,7 +33,7 @@ impl Store {
         self.composed_by(other, node, truths, &mut known)
     }
 
-    /// Like `composed_from`, but with a memo table of the nodes in which propositions were replaced before.
+    /// As `composed_from`, with a memo table.
     fn composed_by(
         &mut self,
         other: &Store,
@@ -73,8 +72,7 @@ impl Store {
         Ok(made)
     }
 
-    /// The only side of a test that is needed: the high side if the function `truth` is true at every letter, and the
-    /// low side if it is true at none.
+    /// The only side of a test that is needed: `high` if `truth` is true at every letter, `low` if at none.
     fn only_side(&self, truth: Node, low: Node, high: Node) -> Option<Node>
         requires held { IsNode self.now truth }
         ensures { IfSome result (IsOnlySide self.now truth low high) }

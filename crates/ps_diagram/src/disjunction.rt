@@ -1,4 +1,4 @@
-//! Disjunctions of diagrams of truth values, which have the leaf 1 for true and no leaf for false.
+//! Disjunctions of diagrams of truth values, which have the leaf 1 for true and none for false.
 
 ghost use Rattle.std.specs.Prelude.{◌≡◌, ℕ, ◌+◌, ◌<◌, IfSome};
 ghost use Rattle.ps_diagram.specs.Inner.Kept.{result_for};
@@ -16,7 +16,7 @@ use crate::view::{Node, View};
 use std::alloc::AllocError;
 
 impl Store {
-    /// The diagram that has the leaf 1 at letters at which at least one of the two nodes has the leaf 1.
+    /// The disjunction of two nodes.
     pub(crate) fn either(&mut self, first: Node, second: Node) -> Result<Node, AllocError>
         requires first { IsNode self.old first }
         requires second { IsNode self.old second }
@@ -29,7 +29,7 @@ impl Store {
         self.united(first, second, &mut known)
     }
 
-    /// Like `either`, but with a memo table of the pairs of nodes whose disjunctions were made before.
+    /// As `either`, with a memo table.
     fn united(
         &mut self,
         first: Node,
@@ -66,7 +66,7 @@ impl Store {
         Ok(node)
     }
 
-    /// The disjunction of two nodes, if the nodes are equal or one of them tests no proposition.
+    /// The disjunction, if the nodes are equal or one of them tests no proposition.
     fn united_at_once(&self, first: Node, second: Node) -> Option<Node>
         requires first { IsNode self.now first }
         requires second { IsNode self.now second }
@@ -91,7 +91,7 @@ impl Store {
         }
     }
 
-    /// Like `united`, but for two diagrams that test no proposition.
+    /// As `united`, for diagrams that test no proposition.
     fn united_leaves(&self, first: Node, second: Node) -> Node
         requires { AreConstants self.now first second }
         ensures held { IsNode self.now result }

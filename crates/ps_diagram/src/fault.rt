@@ -6,15 +6,15 @@ ghost use Rattle.std.specs.Prelude.{◌≡◌};
 use std::alloc::{AllocError, AllocFailed};
 use thiserror::Error;
 
-/// The reason why two diagrams can't be joined into one.
+/// Why two diagrams can't be joined.
 #[derive(Debug, Drop, Error)]
 pub enum OverlayError {
-    /// At some letter the two diagrams have different leaves.
+    /// At some letter they have different leaves.
     #[error("two different leaves, {first} and {second}, at one letter")]
     Clash {
-        /// The leaf of the first diagram.
+        /// The first diagram's leaf.
         first: u64,
-        /// The leaf of the second diagram.
+        /// The second diagram's leaf.
         second: u64,
     },
     /// Memory ran out.

@@ -10,15 +10,13 @@ use crate::view::View;
 use std::alloc::{AllocError, Global};
 use std::marker::Model;
 
-/// The entry, in the table of leaves, for a leaf whose cell's index is not known.
+/// The entry, in the table of leaves, of a leaf whose cell's index is not known.
 const UNKNOWN: u32 = u32::MAX;
 
-/// A list of different cells. A hash table finds the index of a cell in this list. Half of the cells that are looked up
-/// are leaves, and most leaves are small numbers, so a second table, indexed by the leaf, has the indices of small
-/// leaves' cells.
+/// A list of different cells, found by a hash table. Half of the cells that are looked up are leaves, mostly small
+/// numbers, whose cells are found by a table indexed by the leaf.
 #[derive(Debug, Drop)]
 pub(crate) struct Cells {
-    /// The cells.
     list: PackedCells,
     /// For each small leaf, the index of its cell, or `UNKNOWN`.
     leaves: Vec<u32>,
@@ -37,7 +35,6 @@ impl Model for Cells {
 }
 
 impl Cells {
-    /// No cells.
     pub(crate) fn new(alloc: Global) -> Self
         ensures { result ≡ [] }
     {
@@ -47,7 +44,6 @@ impl Cells {
         }
     }
 
-    /// The same cells.
     pub(crate) fn copy(&self) -> Result<Self, AllocError>
         ensures { IfOk result (λ cells. cells ≡ self.now) }
     {
@@ -56,7 +52,7 @@ impl Cells {
         Ok(Cells { list, leaves })
     }
 
-    /// The cell at an index of the list.
+    /// The cell at an index.
     #[inline(always)]
     pub(crate) fn at(&self, place: u32) -> View
         requires { place < length self.now }
@@ -65,7 +61,6 @@ impl Cells {
         self.list.at(place)
     }
 
-    /// The number of cells.
     pub(crate) fn len(&self) -> usize
         ensures value { result ≡ length self.now }
         ensures few { result < 2 ^ 32 }
@@ -74,7 +69,7 @@ impl Cells {
         self.list.len()
     }
 
-    /// The index of a cell in the list. A cell that is not in the list is appended.
+    /// The index of a cell, which is appended if it is new.
     pub(crate) fn place_of(&mut self, cell: View) -> Result<u32, AllocError>
         requires { CanPack cell }
         ensures { PlacesCell self.old self.new cell result }
@@ -85,7 +80,7 @@ impl Cells {
         }
     }
 
-    /// The index of a leaf's cell in the list; a new cell is appended.
+    /// The same for a leaf's cell.
     fn place_of_leaf(&mut self, leaf: u64) -> Result<u32, AllocError>
         ensures { PlacesCell self.old self.new (Leaf leaf) result }
     {
@@ -98,7 +93,7 @@ impl Cells {
         Ok(place)
     }
 
-    /// The index of a cell in the list, found by its hash; a new cell is appended.
+    /// The same by the cell's hash.
     fn place_by_hash(&mut self, cell: View) -> Result<u32, AllocError>
         requires { CanPack cell }
         ensures { PlacesCell self.old self.new cell result }
@@ -116,7 +111,7 @@ impl Cells {
         }
     }
 
-    /// Makes room for a leaf in the table of small leaves, unless the leaf is larger than the number of cells.
+    /// Makes room for a leaf there, unless it is larger than the number of cells.
     fn make_room(&mut self, leaf: u64) -> Result<(), AllocError>
         ensures { self.new ≡ self.old }
     {
@@ -127,7 +122,7 @@ impl Cells {
         Ok(())
     }
 
-    /// Records the index of a leaf's cell, if the table of small leaves has room for the leaf.
+    /// Records the index of a leaf's cell there, if there is room.
     fn note(&mut self, leaf: u64, place: u32)
         requires { slice_get self.old place ≡ Some (Leaf leaf) }
         ensures { self.new ≡ self.old }

@@ -1,4 +1,4 @@
-//! Makes the diagrams of labels.
+//! The diagrams of labels.
 
 ghost use Rattle.std.specs.Prelude.{◌≡◌, ℕ, ◌<◌, All, Bool, List, IfOk, length};
 ghost use Rattle.ps_label.specs.Expression.{AreOverFrom, Expression, IsOver, expression};
@@ -13,9 +13,8 @@ use ps_label::{Label, Labels};
 use std::alloc::AllocError;
 
 impl Store {
-    /// The diagram that has the leaf 1 at letters at which the label is true, and no leaf elsewhere. The diagram of
-    /// each alias is made once. If many labels have the same aliases, make the diagrams of the aliases once, by
-    /// `of_aliases`.
+    /// The diagram with the leaf 1 at letters at which the label is true. It makes the diagrams of all aliases: for
+    /// many labels with the same aliases, make these once, by `of_aliases`.
     pub fn of_label(&mut self, labels: &Labels, label: &Label) -> Result<Node, AllocError>
         requires aliases { AreOverFrom 0 self.old.propositions (expressions labels.now) }
         requires within { IsOver (length labels.now) self.old.propositions (expression label.now) }
@@ -40,7 +39,7 @@ impl Store {
         Ok(nodes)
     }
 
-    /// The diagram of a label, made from the diagrams of its aliases.
+    /// As `of_label`, by the diagrams of the aliases.
     pub fn of_label_by(&mut self, aliases: &[Node], label: &Label) -> Result<Node, AllocError>
         requires aliases { (names : List Expression) × AreNodesOf self.old names aliases.now }
         requires within { IsOver (length aliases.now) self.old.propositions (expression label.now) }
@@ -54,9 +53,7 @@ impl Store {
         }
     }
 
-    /// The diagram that has the leaf `value` at letters at which the label is true, made from the diagrams of its
-    /// aliases. Calling `of_label_by`, and `guard` on its result, would give the same diagram; for a product of
-    /// literals, this call makes it in one step.
+    /// As `guard` on the result of `of_label_by`, but a product of literals takes one step.
     pub fn of_label_as(
         &mut self,
         aliases: &[Node],
@@ -78,7 +75,7 @@ impl Store {
         }
     }
 
-    /// The diagram of a label in which each alias has the truth values that its node in `aliases` has.
+    /// The diagram of a label, with the truth values of the aliases' nodes.
     fn truth_by(&mut self, aliases: &[Node], label: &Label) -> Result<Node, AllocError>
         requires aliases { (known : ℕ → List Bool) × HaveTruths self.old aliases.now known }
         requires within { IsOver (length aliases.now) self.old.propositions (expression label.now) }
@@ -119,8 +116,8 @@ impl Store {
         }
     }
 
-    /// The diagram that has the leaf 1 at letters at which at least one of the nodes has the leaf 1. Each half of the
-    /// list is joined first, so each given node takes part in only logarithmically many joins.
+    /// The disjunction of the nodes. Each half of the list is joined first, so each node takes part in logarithmically
+    /// many joins.
     fn union_of(&mut self, nodes: &[Node]) -> Result<Node, AllocError>
         requires truths { All (IsTruth self.old) nodes.now }
         ensures { MakesDiagram self.old self.new result (λ letter. first_leaf (leaves_of self.old nodes.now letter)) }
@@ -138,14 +135,14 @@ impl Store {
         self.either(one, other)
     }
 
-    /// The diagram of a constant truth value: the leaf 1 at every letter, or no leaf.
+    /// The leaf 1 at every letter, or no leaf.
     fn of_truth(&mut self, value: bool) -> Result<Node, AllocError>
         ensures { MakesDiagram self.old self.new result (λ _. one_where value) }
     {
         if value { self.leaf(1) } else { self.none() }
     }
 
-    /// The diagram that has the leaf 1 at letters at which the proposition is true, and no leaf elsewhere.
+    /// The diagram with the leaf 1 at letters at which the proposition is true.
     pub fn of_proposition(&mut self, proposition: u32) -> Result<Node, AllocError>
         requires named { proposition < self.old.propositions }
         ensures { MakesDiagram self.old self.new result (λ letter. one_where (is_in proposition letter)) }

@@ -7,16 +7,15 @@ use ps_keys::KeyList;
 use std::alloc::{AllocError, Global};
 use std::marker::Model;
 
-/// The number of leaves that are searched one by one. Most diagrams have no more leaves than this.
+/// How many leaves are searched one by one; most diagrams have no more.
 const FEW: usize = 8;
 
-/// Different leaves, each with a letter, in the order in which they were added. The first `FEW` leaves are found by
-/// comparing each of them, and the others by their hashes.
+/// Different leaves, each with a letter, in the order in which they were added. The first `FEW` are compared, the
+/// others found by their hashes.
 #[derive(Drop)]
 pub(crate) struct LeafTable {
-    /// The leaves, each with its letter.
     pairs: Vec<(u64, u64)>,
-    /// The leaves after the first `FEW`.
+    /// Those after the first `FEW`.
     others: KeyList<u64>,
 }
 
@@ -32,7 +31,6 @@ impl Model for LeafTable {
 }
 
 impl LeafTable {
-    /// No leaves.
     pub(crate) fn new(alloc: Global) -> Self
         ensures { result ≡ [] }
     {
@@ -42,21 +40,18 @@ impl LeafTable {
         }
     }
 
-    /// The leaves, each with its letter.
     pub(crate) fn as_slice(&self) -> &[(u64, u64)]
         ensures { result.now ≡ self.now }
     {
         &self.pairs
     }
 
-    /// The leaves, each with its letter, as a list.
     pub(crate) fn into_list(self) -> Vec<(u64, u64)>
         ensures { result.items ≡ self }
     {
         self.pairs
     }
 
-    /// The index of a leaf.
     pub(crate) fn find(&self, leaf: u64) -> Option<usize>
         ensures { result ≡ place_in self.now leaf }
     {
@@ -69,7 +64,7 @@ impl LeafTable {
         }
     }
 
-    /// Adds a leaf that the table lacks.
+    /// Adds a new leaf.
     pub(crate) fn push(&mut self, leaf: u64, letter: u64) -> Result<(), AllocError>
         requires { place_in self.old leaf ≡ None }
         ensures ok { OnOk result (self.new ≡ self.old ++ (leaf, letter) ∷ []) }
@@ -84,7 +79,7 @@ impl LeafTable {
     }
 }
 
-/// The index of a leaf, if it is one of the first `FEW` leaves of a list.
+/// The index of a leaf, if it is among the first `FEW`.
 fn early_place(pairs: &[(u64, u64)], leaf: u64) -> Option<usize>
     ensures { MatchOption result (LacksBefore 8 pairs.now leaf) (λ place. IsPlace pairs.now leaf place) }
 {

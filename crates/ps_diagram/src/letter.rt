@@ -1,4 +1,4 @@
-//! Makes the diagram of one letter.
+//! The diagram of one letter.
 
 ghost use Rattle.std.specs.Prelude.{◌≡◌, ℕ, ◌^◌, ◌<◌, IfOk, nat_eq};
 ghost use Rattle.ps_diagram.specs.Labels.{one_where};
@@ -9,7 +9,7 @@ use crate::view::Node;
 use std::alloc::AllocError;
 
 impl Store {
-    /// The diagram that has the leaf 1 at the given letter, and no leaf elsewhere.
+    /// The diagram with the leaf 1 at the given letter alone.
     pub fn of_letter(&mut self, letter: u64) -> Result<Node, AllocError>
         requires within { letter < 2 ^ self.old.propositions }
         ensures { MakesNode self.old self.new result

@@ -16,7 +16,7 @@ use crate::store::Store;
 use crate::view::{Node, View};
 use std::alloc::AllocError;
 
-/// A rule that states by what each leaf, or a missing leaf, of a diagram is replaced.
+/// By what each leaf, or a missing one, is replaced.
 trait LeafRule {
     ghost fits: { Self → Option ℕ → Type 0 };
 
@@ -27,7 +27,7 @@ trait LeafRule {
         ensures { result ≡ rule self.now leaf };
 }
 
-/// The rule that replaces each leaf by the leaf that it stores.
+/// Each leaf, by this one.
 #[derive(Drop)]
 struct Guarded(u64);
 
@@ -44,7 +44,7 @@ impl LeafRule for Guarded {
     }
 }
 
-/// The rule that gives letters without a leaf the leaf that it stores.
+/// A missing leaf, by this one.
 #[derive(Drop)]
 struct Filled(u64);
 
@@ -61,7 +61,7 @@ impl LeafRule for Filled {
     }
 }
 
-/// The rule that replaces the leaf k by the value at the index k of a list.
+/// The leaf k, by the value at the index k.
 #[derive(Drop)]
 struct Relabelled<'a>(&'a [u64]);
 
@@ -78,7 +78,7 @@ impl LeafRule for Relabelled<'_> {
     }
 }
 
-/// The rule that replaces the leaf k by the value at the index k of a list, and a missing leaf by another leaf.
+/// The same, and a missing leaf by `other`.
 #[derive(Drop)]
 struct Replaced<'a> {
     values: &'a [u64],
@@ -98,7 +98,7 @@ impl LeafRule for Replaced<'_> {
     }
 }
 
-/// The rule that replaces the leaf k by the index of k in a table.
+/// The leaf k, by its index in the table.
 #[derive(Drop)]
 struct Placed<'a>(&'a LeafTable);
 
@@ -118,7 +118,7 @@ impl LeafRule for Placed<'_> {
     }
 }
 
-/// The rule that gives letters without a leaf the leaf 1, and letters with a leaf none.
+/// A missing leaf by 1, and a leaf by none.
 #[derive(Drop)]
 struct Negated;
 
@@ -140,7 +140,7 @@ impl LeafRule for Negated {
 impl Store {
     ghost use Rattle.ps_diagram.specs.Leaves.{opposite};
 
-    /// The diagram that has the leaf `value` at letters at which the node has a leaf.
+    /// The diagram with the leaf `value` where the node has a leaf.
     pub fn guard(&mut self, node: Node, value: u64) -> Result<Node, AllocError>
         requires held { IsNode self.old node }
         ensures { MakesDiagram self.old self.new result
@@ -149,7 +149,7 @@ impl Store {
         self.mapped(None, node, &Guarded(value))
     }
 
-    /// The diagram that has the node's leaves, and the leaf `value` at letters at which the node has none.
+    /// The diagram with the node's leaves, and `value` where it has none.
     pub fn fill(&mut self, node: Node, value: u64) -> Result<Node, AllocError>
         requires held { IsNode self.old node }
         ensures { MakesDiagram self.old self.new result
@@ -158,7 +158,7 @@ impl Store {
         self.mapped(None, node, &Filled(value))
     }
 
-    /// The diagram that has the leaf `values[k]` at letters at which the node has the leaf k.
+    /// The diagram with the leaf `values[k]` where the node has the leaf k.
     pub fn relabel(&mut self, node: Node, values: &[u64]) -> Result<Node, AllocError>
         requires held { IsNode self.old node }
         requires within { (letter : ℕ) → letter < 2 ^ self.old.propositions →
@@ -170,8 +170,7 @@ impl Store {
         self.mapped(None, node, &Relabelled(values))
     }
 
-    /// The diagram that has the leaf `values[k]` at letters at which the node has the leaf k, and the leaf `other` at
-    /// letters at which it has none.
+    /// As `relabel`, but with the leaf `other` where the node has none.
     pub fn relabel_or(&mut self, node: Node, values: &[u64], other: u64) -> Result<Node, AllocError>
         requires held { IsNode self.old node }
         requires within { (letter : ℕ) → letter < 2 ^ self.old.propositions →
@@ -184,7 +183,7 @@ impl Store {
         self.mapped(None, node, &Replaced { values, other })
     }
 
-    /// The diagram that has the leaf `values[k]` at letters at which a node of another store has the leaf k.
+    /// As `relabel`, for a node of another store.
     pub fn relabel_from(
         &mut self,
         other: &Store,
@@ -202,7 +201,7 @@ impl Store {
         self.mapped(Some(other), node, &Relabelled(values))
     }
 
-    /// The diagram that has the leaf 1 at letters at which the node has none, and no leaf elsewhere.
+    /// The diagram with the leaf 1 where the node has none, and no leaf elsewhere.
     pub fn negated(&mut self, node: Node) -> Result<Node, AllocError>
         requires held { IsNode self.old node }
         ensures { MakesDiagram self.old self.new result (λ letter. opposite (leaf_of self.old node letter)) }
@@ -210,7 +209,7 @@ impl Store {
         self.mapped(None, node, &Negated)
     }
 
-    /// The diagram that has, at each letter, the index in the table of the node's leaf.
+    /// The diagram of the indices of the node's leaves.
     pub(crate) fn placed(&mut self, node: Node, leaves: &LeafTable) -> Result<Node, AllocError>
         requires held { IsNode self.old node }
         ensures { MakesTree self.old self.new result
@@ -219,8 +218,7 @@ impl Store {
         self.mapped(None, node, &Placed(leaves))
     }
 
-    /// The diagram of a node of the store `other`, or of this store if `other` is None, with its leaves replaced by the
-    /// rule.
+    /// A node's diagram, of `other` or else of this store, with its leaves replaced.
     fn mapped<R: LeafRule>(
         &mut self,
         other: Option<&Store>,
@@ -235,7 +233,7 @@ impl Store {
         self.mapped_by(other, node, rule, &mut known)
     }
 
-    /// Like `mapped`, but with a memo table of the nodes whose leaves were replaced before.
+    /// As `mapped`, with a memo table.
     fn mapped_by<R: LeafRule>(
         &mut self,
         other: Option<&Store>,
@@ -271,7 +269,7 @@ impl Store {
         }
     }
 
-    /// The cell of a node of the store `other`, or of this store if `other` is None.
+    /// The cell of a node, of `other` or else of this store.
     fn cell_of(&self, other: Option<&Store>, node: Node) -> View
         requires held { IsNode (unwrap_or (option_copied other) self.now) node }
         ensures part { IsPart (unwrap_or (option_copied other.entry) self.now) node result }
@@ -282,7 +280,7 @@ impl Store {
         }
     }
 
-    /// The diagram that has the given leaf at every letter, or no leaf at any letter if `leaf` is `None`.
+    /// The diagram with this leaf, or none, at every letter.
     pub(crate) fn constant(&mut self, leaf: Option<u64>) -> Result<Node, AllocError>
         ensures { MakesTree self.old self.new result (λ tree. (f : ℕ → Bool) → leaf_at tree f ≡ leaf) }
     {

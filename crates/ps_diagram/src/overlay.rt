@@ -15,12 +15,8 @@ use crate::store::Store;
 use crate::view::Node;
 
 impl Store {
-    /// The diagram that has, at each letter, the leaf of the first node, or the leaf of the second node if the first
-    /// has none.
-    ///
-    /// # Errors
-    ///
-    /// Fails if the two nodes have different leaves at some letter, or if memory runs out.
+    /// The diagram that has, at each letter, the leaf of the first node, or else of the second. Fails if they have
+    /// different leaves at some letter, or if out of memory.
     pub fn overlay(&mut self, first: Node, second: Node) -> Result<Node, OverlayError>
         requires first { IsNode self.old first }
         requires second { IsNode self.old second }
@@ -34,7 +30,7 @@ impl Store {
         self.overlaid(first, second, &mut known)
     }
 
-    /// Like `overlay`, but with a memo table of the pairs of nodes that were overlaid before.
+    /// As `overlay`, with a memo table.
     fn overlaid(
         &mut self,
         first: Node,
@@ -73,7 +69,7 @@ impl Store {
         Ok(node)
     }
 
-    /// Like `overlaid`, but for two diagrams that test no proposition.
+    /// As `overlaid`, for diagrams that test no proposition.
     fn overlaid_leaves(&self, first: Node, second: Node) -> Result<Node, OverlayError>
         requires { AreConstants self.now first second }
         ensures held { IfOk result (λ node. IsNode self.now node) }

@@ -12,13 +12,13 @@ use ps_keys::{Hashed, KeyList, mixed};
 use std::alloc::{AllocError, Global};
 use std::marker::Model;
 
-/// What stands in place of a proposition in a leaf's cell.
+/// Stands for the proposition in a leaf's cell.
 const LEAF: u32 = 64;
 
-/// What stands in place of a proposition in the cell for no leaf.
+/// Stands for it in the cell without a leaf.
 const NOTHING: u32 = 65;
 
-/// A cell in 12 bytes: a test; or `LEAF`, and the lower and the upper half of a leaf; or `NOTHING`, and two zeros.
+/// A cell in 12 bytes: a test; `LEAF` and a leaf's lower and upper half; or `NOTHING` and two zeros.
 #[derive(Debug, Clone, Copy, PartialEq, Eq)]
 struct Packed {
     proposition: u32,
@@ -27,7 +27,6 @@ struct Packed {
 }
 
 impl Packed {
-    /// A cell in 12 bytes.
     #[inline(always)]
     fn of(cell: View) -> Self
         ensures { result ≡ packed cell }
@@ -55,7 +54,6 @@ impl Packed {
         }
     }
 
-    /// The cell.
     #[inline(always)]
     fn view(self) -> View
         ensures { result ≡ view_of self }
@@ -87,7 +85,7 @@ impl Hashed for Packed {
     }
 }
 
-/// A list of different cells. A hash table finds the index of a cell in this list.
+/// A list of different cells, found by a hash table.
 #[derive(Debug, Drop)]
 pub(crate) struct PackedCells {
     list: KeyList<Packed>,
@@ -106,7 +104,6 @@ impl Model for PackedCells {
 }
 
 impl PackedCells {
-    /// No cells.
     pub(crate) fn new(alloc: Global) -> Self
         ensures { result ≡ [] }
     {
@@ -115,7 +112,6 @@ impl PackedCells {
         }
     }
 
-    /// The same cells.
     pub(crate) fn copy(&self) -> Result<Self, AllocError>
         ensures { IfOk result (λ cells. cells ≡ self.now) }
     {
@@ -123,7 +119,7 @@ impl PackedCells {
         Ok(PackedCells { list })
     }
 
-    /// The cell at an index of the list.
+    /// The cell at an index.
     #[inline(always)]
     pub(crate) fn at(&self, place: u32) -> View
         requires { place < length self.now }
@@ -132,7 +128,6 @@ impl PackedCells {
         self.list.as_slice()[place as usize].view()
     }
 
-    /// The number of cells.
     #[inline(always)]
     pub(crate) fn len(&self) -> usize
         ensures value { result ≡ length self.now }
@@ -141,7 +136,7 @@ impl PackedCells {
         self.list.len()
     }
 
-    /// The index of a cell in the list; a new cell is appended.
+    /// The index of a cell, which is appended if it is new.
     #[inline(always)]
     pub(crate) fn place_of(&mut self, cell: View) -> Result<u32, AllocError>
         requires { CanPack cell }

@@ -13,12 +13,12 @@ use crate::store::Store;
 use crate::view::{Node, View};
 use std::alloc::{AllocError, Global};
 
-/// The number of last propositions whose tests are not put into the set of visited nodes. A test of one of these has at
-/// most eight leaves, so visiting it again takes about as long as finding it in the set.
+/// A test of one of this many last propositions is not put into the set of visited nodes: it has at most eight leaves,
+/// so that visiting it again takes about as long as finding it.
 const LAST: u32 = 3;
 
 impl Store {
-    /// The different leaves of a node, each with the least letter that leads to it, in the order of the letters.
+    /// The leaves of a node, each with the least letter that leads to it, in the order of these letters.
     pub fn leaves(&self, node: Node) -> Result<Vec<(u64, u64)>, AllocError>
         requires held { IsNode self.now node }
         ensures { IfOk result (λ found. AreLeaves self.now node found.items) }
@@ -27,7 +27,7 @@ impl Store {
         Ok(found.into_list())
     }
 
-    /// The least letter that leads from the node to the leaf, if any letter does.
+    /// The least letter that leads from the node to the leaf.
     pub fn path_to(&self, node: Node, leaf: u64) -> Result<Option<u64>, AllocError>
         requires held { IsNode self.now node }
         ensures { IfOk result
@@ -41,7 +41,7 @@ impl Store {
         }
     }
 
-    /// The leaves of a node, in the order of their least letters.
+    /// The table of these leaves, in the same order.
     pub(crate) fn found_below(&self, node: Node) -> Result<LeafTable, AllocError>
         requires held { IsNode self.now node }
         ensures { IfOk result (λ found. IsGathered self.now node found) }
@@ -52,8 +52,7 @@ impl Store {
         Ok(found)
     }
 
-    /// Collects the leaves of a node that were not found before; `letter` has the truth values that lead to the node.
-    /// All leaves of each node in the set `seen` have been found already.
+    /// Adds the leaves of a node, to which `letter` leads. All leaves of the nodes in `seen` are found.
     fn gather(
         &self,
         node: Node,

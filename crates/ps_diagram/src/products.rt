@@ -1,4 +1,4 @@
-//! The diagrams of products, which are conjunctions of literals.
+//! The diagrams of products: conjunctions of literals.
 
 ghost use Rattle.std.specs.Prelude.{◌≡◌, ◌&&◌, ℕ, ◌<◌, ◌≤◌, Bool, true, false, List, IfNone, IfOk, IfSome, cond};
 ghost use Rattle.std.specs.Prelude.{is_some};
@@ -16,19 +16,19 @@ use crate::view::Node;
 use ps_label::{Label, Literal};
 use std::alloc::AllocError;
 
-/// A conjunction of literals, as two sets of propositions; proposition p is bit p of a set.
+/// A conjunction of literals, as two sets whose bit p is proposition p.
 #[derive(Clone, Copy)]
 pub struct Product {
-    /// The propositions whose literals in the product are not negated.
+    /// The propositions of literals that are not negated.
     pub positive: u64,
-    /// The propositions whose literals in the product are negated.
+    /// Those of negated literals.
     pub negative: u64,
 }
 
 impl Product {
     ghost use Rattle.ps_diagram.specs.Products.{allows};
 
-    /// The product without literals, which is true at every letter.
+    /// True at every letter.
     fn empty() -> Product
         ensures { (n letter : ℕ) → meets n result letter ≡ true }
     {
@@ -38,7 +38,7 @@ impl Product {
         }
     }
 
-    /// Whether this product allows the proposition to have the given truth value.
+    /// Whether the proposition may have this value.
     pub(crate) fn allows(&self, proposition: u32, value: bool) -> bool
         requires named { proposition < 64 }
         ensures { result ≡ allows self.now proposition value }
@@ -47,7 +47,7 @@ impl Product {
         refused >> proposition & 1 == 0
     }
 
-    /// This product, extended by the literal that a proposition is true.
+    /// And the proposition.
     fn with(self, proposition: u32) -> Product
         requires named { proposition < 64 }
         ensures { (n letter : ℕ) → proposition < n →
@@ -59,7 +59,7 @@ impl Product {
         }
     }
 
-    /// This product, extended by the literal that a proposition is false.
+    /// And its negation.
     fn without(self, proposition: u32) -> Product
         requires named { proposition < 64 }
         ensures { (n letter : ℕ) → proposition < n →
@@ -71,7 +71,6 @@ impl Product {
         }
     }
 
-    /// This product, extended by a literal.
     fn with_literal(self, literal: Literal) -> Product
         ensures { (aliases n letter : ℕ) (known : List Bool) → IsOver aliases n (literal_expression literal) →
             meets n result letter ≡ (meets n self letter && truth known letter (literal_expression literal)) }
@@ -83,7 +82,6 @@ impl Product {
         }
     }
 
-    /// This product, extended by literals.
     fn with_all(self, literals: &[Literal]) -> Product
         ensures { (aliases n : ℕ) → AreOver aliases n (operands_in (literal_expressions literals.now)) →
             (known : List Bool) (letter : ℕ) → meets n result letter ≡
@@ -98,8 +96,7 @@ impl Product {
 }
 
 impl Store {
-    /// The diagram that has the leaf `value` at letters at which the label is true; `None` unless the label is a
-    /// product of literals.
+    /// The diagram with the leaf `value` where the label is true, if it is a product of literals.
     pub(crate) fn of_literals(
         &mut self,
         label: &Label,
@@ -118,8 +115,7 @@ impl Store {
         Ok(Some(node))
     }
 
-    /// The label as a product of literals; `None` unless the label is a conjunction of literals. Aliases are not
-    /// replaced by what they stand for.
+    /// The label, if it is a conjunction of literals. Aliases are not replaced by what they stand for.
     pub fn product_of(&self, label: &Label) -> Option<Product>
         requires within { (aliases : ℕ) × IsOver aliases self.now.propositions (expression label.now) }
         ensures value { IfSome result (λ product. (known : List Bool) (letter : ℕ) →
@@ -129,7 +125,7 @@ impl Store {
         self.with_label(Product::empty(), label)
     }
 
-    /// The product, extended by the literals of a label; `None` unless the label is a product of literals.
+    /// The product with a label's literals, if it is a product of them.
     fn with_label(&self, product: Product, label: &Label) -> Option<Product>
         requires within { (aliases : ℕ) × IsOver aliases self.now.propositions (expression label.now) }
         ensures value { IfSome result (λ more. (known : List Bool) (letter : ℕ) →
@@ -155,7 +151,7 @@ impl Store {
         }
     }
 
-    /// The diagram that has the leaf 1 at letters at which all literals are true.
+    /// The diagram with the leaf 1 where all literals are true.
     pub(crate) fn of_conjunction(&mut self, literals: &[Literal]) -> Result<Node, AllocError>
         requires within { (aliases : ℕ) ×
             AreOver aliases self.old.propositions (operands_in (literal_expressions literals.now)) }
@@ -166,7 +162,7 @@ impl Store {
         self.of_product(Product::empty().with_all(literals), 1)
     }
 
-    /// The diagram that has the leaf `value` at letters at which the product is true.
+    /// The diagram with the leaf `value` where the product is true.
     fn of_product(&mut self, product: Product, value: u64) -> Result<Node, AllocError>
         ensures { MakesDiagram self.old self.new result
             (λ letter. leaf_where value (meets self.old.propositions product letter)) }
@@ -176,8 +172,8 @@ impl Store {
         self.path(product, 0, leaf, none)
     }
 
-    /// The diagram that leads to the constant `hit` if the literals of the product on propositions from `level` on are
-    /// true, and otherwise to the constant `miss`.
+    /// The diagram that leads to `hit` if the product's literals on propositions from `level` on are true, and else to
+    /// `miss`.
     pub(crate) fn path(
         &mut self,
         product: Product,
@@ -203,7 +199,7 @@ impl Store {
     }
 }
 
-/// The first node if the proposition is in the set `some`, and otherwise the second.
+/// The first node if the proposition is in `some`, and else the second.
 fn side(some: u64, proposition: u32, first: Node, second: Node) -> Node
     requires named { proposition < 64 }
     ensures { result ≡ cond (is_in proposition some) first second }
@@ -215,7 +211,7 @@ fn side(some: u64, proposition: u32, first: Node, second: Node) -> Node
     }
 }
 
-/// The proposition, if the label is a single proposition.
+/// The label's proposition, if it is only that.
 fn atom_of(label: &Label) -> Option<u32>
     ensures some { IfSome result (λ p. expression label.now ≡ proposition p) }
     ensures none { IfNone result (is_proposition (expression label.now) ≡ false) }

@@ -1,6 +1,6 @@
-//! Makes the diagram of a list of leaves by rows of nodes: one row for the last proposition, then a row half as long
-//! for the proposition before it, and so on. A long list is first divided into parts, one for each letter over the first
-//! few propositions, so that the cells of each part's diagram lie together.
+//! Makes the diagram of a list of leaves by rows of nodes, one for each proposition from the last on, each half as long
+//! as the one before. A long list is first divided into parts, one for each letter over the first few propositions, so
+//! that the cells of a part's diagram lie together.
 
 ghost use Rattle.std.specs.Prelude.{◌≡◌, ℕ, ◌+◌, ◌-◌, ◌*◌, ◌%◌, ◌^◌, ◌<◌, ◌≤◌, IfOk, OnOk, length, slice_get};
 ghost use Rattle.std.specs.Prelude.{slice_index_or};
@@ -11,18 +11,18 @@ use crate::store::Store;
 use crate::view::Node;
 use std::alloc::{AllocError, Global};
 
-/// A list with more entries than this is divided into parts.
+/// A list with more entries is divided into parts.
 const MANY: usize = 4096;
 
-/// How many propositions the letters of the parts have.
+/// How many propositions these parts' letters have.
 const DEPTH: u32 = 4;
 
-/// The number of parts: one for each letter over `DEPTH` propositions.
+/// The number of parts.
 const PARTS: usize = 16;
 
 impl Store {
-    /// The diagram whose leaf at a letter is the list's entry at the index `letter` (letters are numbers). Letters past
-    /// the end of the list have no leaf. The call reads each entry of `leaves` only once.
+    /// The diagram whose leaf at a letter, taken as a number, is the list's entry there, or none past its end. Each
+    /// entry is read once.
     pub fn of_leaves(&mut self, leaves: &[u64]) -> Result<Node, AllocError>
         ensures { MakesDiagram self.old self.new result
             (λ letter. slice_get leaves.now (letter % 2 ^ self.old.propositions)) }
@@ -32,7 +32,7 @@ impl Store {
         self.joined(nodes, 0, none)
     }
 
-    /// For each leaf, the node that has this leaf at every letter.
+    /// For each leaf, the node that has it at every letter.
     fn leaf_nodes(&mut self, leaves: &[u64]) -> Result<Vec<Node>, AllocError>
         ensures keeps { Keeps self.old self.new }
         ensures nodes { IfOk result (λ nodes. AreLeafNodes self.new leaves.now (length leaves.now) nodes.items) }
@@ -44,7 +44,7 @@ impl Store {
         Ok(nodes)
     }
 
-    /// The diagram that leads to the entry of a list to which the propositions from `first` on lead.
+    /// The diagram that leads to the entry to which the propositions from `first` on lead.
     #[cycle(joined)]
     fn joined(&mut self, nodes: Vec<Node>, first: u32, none: Node) -> Result<Node, AllocError>
         requires within { first ≤ self.old.propositions }
@@ -60,7 +60,7 @@ impl Store {
         self.halved(made, first, DEPTH, none)
     }
 
-    /// The diagrams of the parts of a list: one diagram for each letter over the `DEPTH` propositions from `first` on.
+    /// The diagrams of the parts, by the letters over the `DEPTH` propositions from `first` on.
     #[cycle(joined)]
     fn parts(&mut self, nodes: &[Node], first: u32, none: Node) -> Result<Vec<Node>, AllocError>
         requires within { first + 4 ≤ self.old.propositions }
@@ -78,7 +78,7 @@ impl Store {
         Ok(made)
     }
 
-    /// The diagram that leads to the node of a row to which the `depth` propositions from `first` on lead.
+    /// The diagram that leads to the entry to which the `depth` propositions from `first` on lead.
     fn halved(
         &mut self,
         nodes: Vec<Node>,
@@ -97,8 +97,7 @@ impl Store {
         Ok(node_or(&nodes, 0, none))
     }
 
-    /// Makes the row of nodes that test the proposition `first + height` from the row of nodes that depend only on later
-    /// propositions.
+    /// From the row of later propositions, the row that tests `first + height`.
     fn halve(
         &mut self,
         nodes: &mut Vec<Node>,
@@ -125,7 +124,7 @@ impl Store {
     }
 }
 
-/// The part of a list that has the entries whose indices have the remainder `rest` when they are divided by `PARTS`.
+/// The entries whose indices have the remainder `rest` by `PARTS`.
 fn part_of(alloc: Global, nodes: &[Node], rest: usize, none: Node) -> Result<Vec<Node>, AllocError>
     requires { rest < 16 }
     ensures { IfOk result (λ part. (i : ℕ) →
@@ -139,14 +138,14 @@ fn part_of(alloc: Global, nodes: &[Node], rest: usize, none: Node) -> Result<Vec
     Ok(part)
 }
 
-/// The node at an index of a row, or `other` if the row is too short.
+/// The node at an index, or `other` past the end.
 fn node_or(nodes: &[Node], place: usize, other: Node) -> Node
     ensures { result ≡ slice_index_or nodes.now place other }
 {
     nodes.get(place).copied().unwrap_or(other)
 }
 
-/// The number of letters over `propositions` propositions.
+/// The number of letters over `propositions`.
 fn power(propositions: u32) -> usize
     requires few { propositions < 64 }
     ensures value { result ≡ 2 ^ propositions }

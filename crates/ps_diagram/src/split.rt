@@ -1,4 +1,4 @@
-//! Splits nodes into their two sides at the first proposition that they test.
+//! The sides of nodes at the first proposition that they test.
 
 ghost use Rattle.std.specs.Prelude.{◌≡◌, ℕ, ◌+◌, ◌≤◌, ◌<◌, ◌↔◌, IsTrue, MatchOption};
 ghost use Rattle.ps_diagram.specs.Tree.{empty};
@@ -7,30 +7,27 @@ ghost use Rattle.ps_diagram.specs.Table.{IsNode, IsSoundTable, tree_of};
 use crate::store::Store;
 use crate::view::{Node, View};
 
-/// The two sides of a node at a proposition: the diagrams of the node if the proposition is false, and if it is true.
+/// What a node is if a proposition is false, and if it is true.
 #[derive(Clone, Copy)]
 pub(crate) struct Sides {
-    /// The diagram if the proposition is false.
     pub low: Node,
-    /// The diagram if the proposition is true.
     pub high: Node,
 }
 
 /// The sides of two nodes at the first proposition that one of them tests.
 #[derive(Clone, Copy)]
 pub(crate) struct Split {
-    /// The proposition.
     pub proposition: u32,
-    /// The sides of the first node.
+    /// Those of the first node.
     pub left: Sides,
-    /// The sides of the second node.
+    /// Those of the second.
     pub right: Sides,
 }
 
 impl Store {
     ghost use Rattle.ps_diagram.specs.Split.{AreConstants, IsSides, IsSplit, root_of};
 
-    /// The first proposition that a node tests, or the number of propositions if it tests none.
+    /// The first proposition that a node tests, or else the number of propositions.
     pub(crate) fn level(&self, node: Node) -> u32
         requires held { IsNode self.now node }
         ensures root { result ≡ root_of self.now.propositions (tree_of self.now node) }
@@ -43,7 +40,7 @@ impl Store {
         }
     }
 
-    /// The sides of a node at a proposition. The node must test no proposition that comes before the given one.
+    /// The sides of a node at a proposition, which comes after none that it tests.
     pub(crate) fn sides(&self, node: Node, proposition: u32) -> Sides
         requires held { IsNode self.now node }
         requires later { proposition ≤ root_of self.now.propositions (tree_of self.now node) }
@@ -73,7 +70,7 @@ impl Store {
         }
     }
 
-    /// The sides of two nodes at the first proposition that one of them tests; `None` if neither tests any.
+    /// The sides of two nodes at the first proposition that one of them tests, if there is one.
     pub(crate) fn split(&self, first: Node, second: Node) -> Option<Split>
         requires first { IsNode self.now first }
         requires second { IsNode self.now second }

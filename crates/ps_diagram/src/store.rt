@@ -1,4 +1,4 @@
-//! The store: the table of nodes, and the leaf of a node at a letter.
+//! The table of nodes, and their leaves.
 
 ghost use Rattle.std.specs.Prelude.{◌≡◌, ◌↔◌, IsTrue, ℕ, ◌+◌, ◌^◌, ◌≤◌, ◌<◌, [], IfOk, OnOk, length, slice_index_or};
 ghost use Rattle.std.specs.Prelude.{Option, Some, None, cond};
@@ -14,9 +14,8 @@ use crate::view::{Node, View};
 use std::alloc::{AllocError, Global};
 use std::marker::Model;
 
-/// Reduced ordered decision diagrams over at most 64 propositions, with numbers as leaves. Equal diagrams in a store
-/// are one node. Calls of a store that return a `Result` fail if memory runs out; `overlay` also fails if the diagrams
-/// have different leaves at some letter.
+/// Diagrams over at most 64 propositions, of which equal ones are one node. Calls that return a `Result` fail if out of
+/// memory; `overlay` also if the diagrams have different leaves at some letter.
 #[derive(Debug, Drop)]
 pub struct Store {
     alloc: Global,
@@ -35,7 +34,7 @@ impl Model for Store {
 }
 
 impl Store {
-    /// A store without nodes, over the given number of propositions.
+    /// A store without nodes.
     pub fn new(alloc: Global, propositions: u32) -> Self
         requires few { propositions ≤ 64 }
         ensures propositions { result.propositions ≡ propositions }
@@ -66,7 +65,7 @@ impl Store {
         self.cells.len()
     }
 
-    /// The diagram that has the given leaf at every letter.
+    /// The diagram with this leaf at every letter.
     pub fn leaf(&mut self, value: u64) -> Result<Node, AllocError>
         ensures { MakesDiagram self.old self.new result (λ _. Some value) }
     {
@@ -103,14 +102,13 @@ impl Store {
         }
     }
 
-    /// The allocator of the store.
     pub(crate) fn allocator(&self) -> Global
         ensures sound { IsSoundTable self.now }
     {
         self.alloc
     }
 
-    /// Whether two diagrams have the same leaf at each letter.
+    /// Whether they have the same leaf at each letter.
     pub fn same(&self, first: Node, second: Node) -> bool
         requires first { IsNode self.now first }
         requires second { IsNode self.now second }
@@ -122,7 +120,7 @@ impl Store {
         first == second
     }
 
-    /// What a node is: no leaf, one leaf, or a test of a proposition with two nodes.
+    /// What a node is.
     pub fn view(&self, node: Node) -> View
         requires held { IsNode self.now node }
         ensures { Sees self.now node result }
@@ -130,7 +128,7 @@ impl Store {
         self.cell(node)
     }
 
-    /// A copy of this store, with the same nodes.
+    /// A store with the same nodes.
     pub fn copy(&self) -> Result<Self, AllocError>
         ensures same { IfOk result (λ store. store ≡ self.now) }
         ensures sound { IsSoundTable self.now }
@@ -143,7 +141,7 @@ impl Store {
         })
     }
 
-    /// The cell of a node; the child nodes in this cell are earlier nodes of the store.
+    /// The cell of a node, whose child nodes are earlier ones.
     pub(crate) fn cell(&self, node: Node) -> View
         requires held { IsNode self.now node }
         ensures sound { IsSoundTable self.now }
@@ -152,7 +150,7 @@ impl Store {
         self.cells.at(node.place)
     }
 
-    /// The diagram that tests the proposition, and leads to `low` if it is false, and to `high` if it is true.
+    /// The diagram that leads to `low` if the proposition is false, and to `high` if it is true.
     pub(crate) fn test(
         &mut self,
         proposition: u32,
@@ -178,7 +176,7 @@ impl Store {
         })
     }
 
-    /// The node with this cell, which is added to the store if it has no such node.
+    /// The node with this cell, which is added if it is new.
     pub(crate) fn intern(&mut self, cell: View) -> Result<Node, AllocError>
         requires within { IsCellWithin (length self.old.cells) cell }
         requires ordered { IsFrom 0 self.old.propositions (tree_in self.old.cells cell) }

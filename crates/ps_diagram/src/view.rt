@@ -1,4 +1,4 @@
-//! Nodes of a store, and what a caller sees of a node.
+//! Nodes, and what a caller sees of them.
 
 ghost use Rattle.std.specs.Prelude.{◌≡◌};
 ghost use Rattle.std.specs.Cmp.Rules.{hashing};
@@ -8,8 +8,7 @@ use ps_keys::{Hashed, Word, mixed};
 use std::hash::Hash;
 use std::marker::Model;
 
-/// A decision diagram, as a node of a store. A node may be used with the store that made it, and with later copies of
-/// this store.
+/// A decision diagram, as a node of the store that made it and of its later copies.
 #[derive(Debug, Clone, Copy, PartialEq, Eq, Hash)]
 pub struct Node {
     pub(crate) place: u32,
@@ -26,7 +25,7 @@ impl Model for Node {
 }
 
 impl Node {
-    /// The number of the node. The nodes of a store are numbered from 0, in the order in which they were made.
+    /// The node's number; nodes are numbered from 0, in the order in which they were made.
     pub fn number(self) -> usize
         ensures { result ≡ self }
     {
@@ -41,8 +40,7 @@ pub enum View {
     Nothing,
     /// Every letter has this leaf.
     Leaf(u64),
-    /// A test: the least proposition on which the leaf depends, the diagram if it is false, and the diagram if it is
-    /// true.
+    /// A test: the least proposition on which the leaf depends, and the diagrams if it is false and if it is true.
     Test {
         proposition: u32,
         low: Node,
