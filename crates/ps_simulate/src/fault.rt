@@ -9,13 +9,13 @@ use ps_text::faults::{Cause, Fault};
 /// What is wrong with the text of a stimulus.
 #[derive(Clone, Copy, Debug, PartialEq, Eq)]
 pub enum StimulusCause {
-    /// The length of a line differs from the number of inputs.
+    /// A line's length is not the number of inputs.
     Width,
     /// A byte is not a digit 0 or 1, or the line `-` is missing.
     Stimulus,
 }
 
-/// Why a stimulus was not parsed: an error in the text, or out of memory.
+/// An error in the text of a stimulus, or out of memory.
 pub type StimulusFault = Fault<StimulusCause>;
 
 impl Cause for StimulusCause {
@@ -39,7 +39,6 @@ impl Cause for StimulusCause {
 }
 
 impl StimulusCause {
-    /// The fault with the given cause at an offset.
     pub(crate) fn at(self, offset: usize) -> StimulusFault
         ensures { result ≡ Text self offset }
     {

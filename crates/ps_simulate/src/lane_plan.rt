@@ -1,4 +1,4 @@
-//! The plan of a circuit's gates for 256 simultaneous runs.
+//! The plan of a circuit's gates for 256 runs at once.
 
 ghost use Rattle.std.specs.Prelude.{◌≡◌, ℕ, ◌+◌, ◌^◌, ◌<◌, ◌≤◌, length, map, All, IfOk};
 ghost use Rattle.ps_simulate.specs.Inner.Moving.{CanMove, CanMoveRow};
@@ -9,7 +9,7 @@ use crate::plan::{Plan, Row, Wire};
 use ps_circuit::{Circuit, Literal};
 use std::alloc::{AllocError, Global};
 
-/// The two literals that a gate reads. The variable of each literal is an index into the table of values.
+/// The literals that a gate reads, whose variables are indices into the table of values.
 #[derive(Clone, Copy)]
 pub struct Operands {
     /// The first literal.
@@ -18,22 +18,20 @@ pub struct Operands {
     pub second: Literal,
 }
 
-/// What a step evaluates in 256 runs at once: the gates, the outputs and the next values of the latches. The table has
-/// the values of the gates in the order of evaluation, so the plan need not store their indices. In the plan for 256
-/// runs, a gate takes only eight bytes, for the two literals that it reads, and a step writes the table from front to
-/// back. The table of a large circuit does not fit into the processor's fastest caches, so the time of a step depends
-/// on how much it reads from and writes to the table.
+/// What a step evaluates in 256 runs at once. The table has the gates' values in the order of evaluation, so that a
+/// gate takes only the eight bytes of its two literals, and a step writes the table from front to back: the table of a
+/// large circuit does not fit into the fastest caches, and what a step reads and writes there decides its time.
 #[derive(Drop)]
 pub struct LanePlan {
-    /// The length of the table of values, which has an entry for each variable of the circuit, the constant 0 included.
+    /// The table's length: one entry for each variable, the constant 0 included.
     pub size: usize,
-    /// The number of values before those of the gates: the constant 0, the inputs and the latches.
+    /// How many values stand before those of the gates: the constant 0, the inputs and the latches.
     pub front: usize,
-    /// The two literals that each gate reads, in the order of evaluation.
+    /// The gates, in the order of evaluation.
     pub gates: Vec<Operands>,
-    /// The literals of the outputs, whose variables are indices into the table of values.
+    /// The literals of the outputs.
     pub outputs: Vec<Literal>,
-    /// The literals of the latches' next values, whose variables are indices into the table of values.
+    /// Those of the latches' next values.
     pub nexts: Vec<Literal>,
 }
 
@@ -42,7 +40,7 @@ impl LanePlan {
     ghost use Rattle.ps_simulate.specs.LanePlans.{IsLanePlan};
     ghost use Rattle.ps_simulate.specs.declared.plan.Plan.{Plan};
 
-    /// The plan of a circuit for 256 simultaneous runs. Fails if out of memory.
+    /// The plan of a circuit. Fails if out of memory.
     pub fn new(alloc: Global, circuit: &Circuit) -> Result<Self, AllocError>
         ensures { IfOk result (λ p. (plan : Plan) × (places : List ℕ) × IsLanePlan circuit.now plan places p) }
     {
@@ -60,9 +58,8 @@ impl LanePlan {
     }
 }
 
-/// A renumbering of the indices of a table of values: the new index for each old one. Indices below `front` stay the
-/// same; the gates get the new indices `front`, `front + 1` and so on, in the order of their rows. Fails if out of
-/// memory.
+/// The new index for each index of the table: the same below `front`; from there on, the gates in the order of their
+/// rows.
 fn moved_places(
     alloc: Global,
     rows: &[Row],
@@ -83,8 +80,7 @@ fn moved_places(
     Ok(places)
 }
 
-/// Makes a literal of a wire, which is a table index with a sign: the literal's variable is the renumbered index, and
-/// the literal has the same sign.
+/// A wire as a literal whose variable is its new index.
 fn literal(places: &[usize], wire: Wire) -> Literal
     requires { CanMove places.now wire }
     ensures { wire_in result ≡ move_wire places.now wire }
@@ -97,8 +93,6 @@ fn literal(places: &[usize], wire: Wire) -> Literal
     }
 }
 
-/// Returns the literal that `literal` makes of each wire, in the order of the wires. The literal's variable is the
-/// wire's renumbered index, and the literal has the wire's sign. Fails if out of memory.
 fn literals(alloc: Global, places: &[usize], wires: &[Wire]) -> Result<Vec<Literal>, AllocError>
     requires { All (CanMove places.now) wires.now }
     ensures { IfOk result (λ literals. map wire_in literals.items ≡ map (move_wire places.now) wires.now) }
@@ -110,7 +104,7 @@ fn literals(alloc: Global, places: &[usize], wires: &[Wire]) -> Result<Vec<Liter
     Ok(literals)
 }
 
-/// The operands of the given rows, with each index replaced by its entry in `places`. Fails if out of memory.
+/// The rows' operands, with new indices.
 fn gates_of(alloc: Global, places: &[usize], rows: &[Row]) -> Result<Vec<Operands>, AllocError>
     requires { All (CanMoveRow places.now) rows.now }
     ensures { IfOk result (λ gates. (front : ℕ) → AreInOrder front places.now rows.now →

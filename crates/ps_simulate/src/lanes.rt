@@ -15,7 +15,7 @@ use std::alloc::{AllocError, Global};
 use std::marker::Model;
 use std::simd::prelude::*;
 
-/// A circuit, and the current values of its latches in 256 runs. The value in run 64·w + b is bit b of word w.
+/// A circuit, and the values of its latches in 256 runs (lanes); that of run 64·w + b is bit b of word w.
 #[derive(Drop)]
 pub struct LaneSimulator<'a> {
     circuit: &'a Circuit,
@@ -37,7 +37,7 @@ impl<'a> Model for LaneSimulator<'a> {
 impl<'a> LaneSimulator<'a> {
     ghost use Rattle.ps_simulate.specs.LaneRuns.{StepsInLanes};
 
-    /// Starts a circuit 256 times, with the latches at their resets. Fails if out of memory.
+    /// Starts a circuit 256 times. Fails if out of memory.
     pub fn new(alloc: Global, circuit: &'a Circuit) -> Result<Self, AllocError>
         ensures circuit { IfOk result (λ s. s.circuit ≡ circuit.now) }
         ensures latches { IfOk result (λ s. (lane : ℕ) → lane < 256 → lane_of s.latches lane ≡ resets circuit.now) }
@@ -53,8 +53,7 @@ impl<'a> LaneSimulator<'a> {
         })
     }
 
-    /// Takes one letter in each run: stores the values of the outputs in `outputs`, and updates the latches. Allocates
-    /// no memory.
+    /// Takes one letter in each run: stores the values of the outputs, and updates the latches. Allocates no memory.
     pub fn step_lanes(&mut self, inputs: &[[u64; 4]], outputs: &mut [[u64; 4]])
         requires inputs_fit { length inputs.now ≡ length self.old.circuit.inputs }
         requires outputs_fit { length outputs.old ≡ length self.old.circuit.outputs }
@@ -72,7 +71,7 @@ impl<'a> LaneSimulator<'a> {
         read_words(&self.plan.nexts, &self.values, &mut self.latches);
     }
 
-    /// The current value of a latch in a run. Allocates no memory.
+    /// The value of a latch in a run.
     pub fn latch(&self, lane: usize, number: usize) -> bool
         requires lane { lane < 256 }
         requires number { number < length self.now.circuit.latches }
@@ -83,7 +82,7 @@ impl<'a> LaneSimulator<'a> {
     }
 }
 
-/// The reset values of the latches, the same for each of 256 runs.
+/// The latches' resets, the same in each run.
 fn first_words(alloc: Global, circuit: &Circuit) -> Result<Vec<[u64; 4]>, AllocError>
     ensures { IfOk result (λ words. (lane : ℕ) → lane < 256 → lane_of words.items lane ≡ resets circuit.now) }
 {
@@ -94,7 +93,6 @@ fn first_words(alloc: Global, circuit: &Circuit) -> Result<Vec<[u64; 4]>, AllocE
     Ok(words)
 }
 
-/// A word whose bits are all ones if `is_set` is true, and all zeros otherwise.
 fn mask(is_set: bool) -> u64
     ensures { result ≡ all_or_none is_set }
 {
@@ -114,7 +112,7 @@ fn put_words(values: &mut [[u64; 4]], start: usize, words: &[[u64; 4]])
     }
 }
 
-/// The values of a literal in all runs.
+/// A literal's values in all runs.
 fn bits(values: &[[u64; 4]], literal: Literal) -> u64x4
     requires { variable literal < length values.now }
     ensures { (lane : ℕ) → lane < 256 → lane_bit result lane ≡ read (lane_of values.now lane) (wire_in literal) }
@@ -123,7 +121,7 @@ fn bits(values: &[[u64; 4]], literal: Literal) -> u64x4
     words ^ u64x4::splat(mask(literal.is_negated()))
 }
 
-/// Evaluates each gate once. The values of the gates are in the table from index `front` on.
+/// Evaluates each gate once, and stores the values from `front` on.
 fn work_words(gates: &[Operands], front: usize, values: &mut [[u64; 4]])
     requires within { All (IsRowInTable (length values.old)) (rows_from front gates.now) }
     requires fit { front + length gates.now ≤ length values.old }
@@ -136,8 +134,7 @@ fn work_words(gates: &[Operands], front: usize, values: &mut [[u64; 4]])
     }
 }
 
-/// Fills the table of values in a step: copies the inputs and the latches, and evaluates the gates. The constant 0 is
-/// already in the table.
+/// Fills the table, which begins with the constant 0: the inputs, the latches and the gates.
 fn fill_words(
     gates: &[Operands],
     front: usize,
@@ -154,7 +151,7 @@ fn fill_words(
     work_words(gates, front, values);
 }
 
-/// Evaluates literals, and stores the words of each literal.
+/// Stores the values of literals.
 fn read_words(literals: &[Literal], values: &[[u64; 4]], words: &mut [[u64; 4]])
     requires within { All (λ literal. variable literal < length values.now) literals.now }
     requires fit { length words.old ≡ length literals.now }

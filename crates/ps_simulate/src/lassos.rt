@@ -1,5 +1,4 @@
-//! Runs of a circuit on a lasso: the circuit reads a stem once and then a lap repeatedly, until its latch values
-//! repeat.
+//! Runs of a circuit on a lasso: a stem once, and then a lap again and again, until the latch values repeat.
 
 ghost use Rattle.std.specs.Prelude.{◌≡◌, ◌+◌, ◌*◌, ◌<◌, ◌≤◌, Bool, List, [], false, length, map, All, IfOk, IfErr};
 ghost use Rattle.std.specs.Prelude.{IsTrue, OnOk, vec_len};
@@ -28,29 +27,28 @@ use std::alloc::{AllocError, Global};
 use std::collections::BTreeMap;
 use thiserror::Error;
 
-/// Whether an automaton accepts a lasso, and the lengths of the stem and the lap of this lasso.
+/// Whether an automaton accepts a trace, and the lengths of its stem and lap.
 #[derive(Clone, Copy, Debug, PartialEq, Eq)]
 pub struct Verdict {
-    /// Whether the trace is accepted.
+    /// Whether it does.
     pub accepted: bool,
-    /// The number of letters before the first of two readings of the lap that begin with the same latch values.
+    /// The letters before the first of two readings of the lap that begin with the same latch values.
     pub stem: usize,
-    /// The number of letters from the first to the second of two readings of the lap that begin with the same latch
-    /// values.
+    /// The letters between the beginnings of these two.
     pub lap: usize,
 }
 
-/// Why a circuit has no word on a stem and a lap, or an automaton gives no verdict on it.
+/// Why a circuit has no word on a stem and a lap, or an automaton no verdict.
 #[derive(Clone, Copy, Debug, PartialEq, Eq, Error)]
 pub enum LassoFault {
-    /// The length of a letter differs from the number of inputs.
+    /// A letter does not have a bit for each input.
     #[error("a letter does not have a bit for each input")]
     Width,
     /// The lap has no letters.
     #[error("the lap is empty")]
     EmptyLap,
-    /// The names of the circuit's inputs or outputs are not what its role (controller or environment) requires: each
-    /// proposition that it reads or sets, once, and no other name.
+    /// The names of the circuit's inputs or outputs are not what its role requires: each proposition that it reads or
+    /// sets, once, and no others.
     #[error("the symbols are not the names of the propositions")]
     Symbols,
     /// Out of memory.
@@ -61,7 +59,7 @@ pub enum LassoFault {
 impl LassoFault {
     ghost use Rattle.ps_simulate.specs.LassoFaultNames.{fault_number, fault_name};
 
-    /// The fault's number in psyn's list of faults.
+    /// Its number in psyn's list of faults.
     pub fn number(self) -> u8
         ensures { result ≡ fault_number self }
     {
@@ -73,7 +71,7 @@ impl LassoFault {
         }
     }
 
-    /// The fault's name.
+    /// Its name there.
     pub fn name(self) -> &'static str
         ensures { result.now ≡ fault_name self }
     {
@@ -94,14 +92,8 @@ impl From<AllocError> for LassoFault {
     }
 }
 
-/// Runs a circuit through a stem and then repeatedly through a lap, until two readings of the lap begin with the same
-/// latch values. The result states whether the automaton accepts the infinite word of this run, in which the letters
-/// between the starts of the two readings of the lap repeat for ever. Letters have a bit for each input, in the
-/// circuit's order.
-///
-/// # Errors
-///
-/// Fails with the first of `Width`, `EmptyLap` and `Symbols` that applies, or if out of memory.
+/// Whether the automaton accepts the word that `trace_word` gives. Fails with the first of `Width`, `EmptyLap` and
+/// `Symbols` that applies, or if out of memory.
 pub fn lasso(
     alloc: Global,
     circuit: &Circuit,
@@ -127,15 +119,10 @@ pub fn lasso(
     })
 }
 
-/// Runs a circuit through a stem and then repeatedly through a lap, until two readings of the lap begin with the same
-/// latch values. The result is the infinite word of this run, in which the letters between the starts of the two
-/// readings of the lap repeat for ever. The letters that are read have a bit for each input, in the circuit's order; the
-/// letters of the word have a bit for each proposition. The propositions are given by their names, and by the indices
-/// of those that are controllable; each is the input or the output that has its name.
-///
-/// # Errors
-///
-/// Fails with the first of `Width`, `EmptyLap` and `Symbols` that applies, or if out of memory.
+/// The infinite word of a circuit that reads a stem and then the lap again and again: from the first of two readings of
+/// the lap that begin with the same latch values, it repeats for ever. The letters read have a bit for each input, in
+/// the circuit's order; those of the word, a bit for each proposition, which is the input or output of its name. Fails
+/// as `lasso`.
 pub fn trace_word(
     alloc: Global,
     circuit: &Circuit,
@@ -167,7 +154,7 @@ pub fn trace_word(
     Ok(word_of(alloc, circuit, &naming, stem, lap)?)
 }
 
-/// The word of a circuit whose inputs and outputs were matched with the propositions by name. Fails if out of memory.
+/// The word of a circuit whose symbols were matched with the propositions.
 fn word_of(
     alloc: Global,
     circuit: &Circuit,
@@ -184,7 +171,6 @@ fn word_of(
     Ok(TraceWord::new(run.letters, start))
 }
 
-/// Whether each letter has `width` bits.
 fn are_wide(width: usize, letters: &[Vec<bool>]) -> bool
     ensures yes { IsTrue result → All (λ letter. length letter ≡ width) (letters_of letters.now) }
     ensures not { result ≡ false → ¬ All (λ letter. length letter ≡ width) (letters_of letters.now) }
@@ -197,7 +183,7 @@ fn are_wide(width: usize, letters: &[Vec<bool>]) -> bool
     true
 }
 
-/// A running circuit, and the letters of its steps so far.
+/// A running circuit, and the letters of its steps.
 #[derive(Drop)]
 struct Run<'a> {
     simulator: Simulator<'a>,
@@ -206,7 +192,6 @@ struct Run<'a> {
 }
 
 impl<'a> Run<'a> {
-    /// The state before the first letter: the latches have their reset values. Fails if out of memory.
     fn new(alloc: Global, circuit: &'a Circuit) -> Result<Run<'a>, AllocError>
         ensures circuit { IfOk result (λ run. run.simulator.circuit ≡ circuit.now) }
         ensures latches { IfOk result (λ run. run.simulator.latches ≡ resets circuit.now) }
@@ -222,8 +207,8 @@ impl<'a> Run<'a> {
         })
     }
 
-    /// Reads the stem once, and then the lap repeatedly, until a reading of the lap begins with the same latch values
-    /// as an earlier reading. Returns the number of this earlier reading, counted from 0. Fails if out of memory.
+    /// Reads the stem, and then the lap until a reading begins with the latch values of an earlier one, whose number,
+    /// from 0, is returned.
     fn first_repetition(
         &mut self,
         alloc: Global,
@@ -261,8 +246,7 @@ impl<'a> Run<'a> {
     }
 }
 
-/// Adds a list of latch values to the lists that were seen, or returns its index if it was seen before. The lists of
-/// latch values are in a search tree, so that every search is fast. Fails if out of memory.
+/// Adds latch values to those that were seen, in a search tree; returns their index if they were seen before.
 fn see(
     alloc: Global,
     seen: &mut BTreeMap<Vec<bool>, usize>,
@@ -280,7 +264,7 @@ fn see(
     Ok(None)
 }
 
-/// Runs a circuit through a word, and appends the letter of each step to `letters`.
+/// Runs through a word, and appends the letters of its steps.
 fn read_word(
     naming: &Naming,
     simulator: &mut Simulator,

@@ -9,21 +9,20 @@ ghost use Rattle.ps_simulate.specs.Lassos.{HasOneVerdict, HasOneWord};
 ghost use Rattle.ps_simulate.specs.Symbols.{HasSymbols};
 ghost use Rattle.ps_simulate.specs.declared.role.Role.{Role};
 
-/// For given inputs and latches, a circuit has values, and any two lists of values agree at each literal whose variable
+/// For given inputs and latches, a circuit has values, and any two lists of them agree at each literal whose variable
 /// is 0 or defined.
 pub fn circuit_has_one_values()
     ensures { (c : CircuitData) → IsCircuit c → HasOneValues c }
 {}
 
-/// If a circuit takes letters in 256 lanes at once, each lane behaves like a single run on the letters of that lane.
+/// Each of 256 lanes does what a single run does on its letters.
 pub fn lanes_are_plain_runs()
     ensures { (c : CircuitData) → IsCircuit c → AreLanesPlain c }
 {
     circuit_has_one_values();
 }
 
-/// A circuit has at most one word on a stem and a lap, if it has the inputs and outputs that its role (controller or
-/// environment) requires.
+/// A circuit with the inputs and outputs that its role requires has at most one word on a stem and a lap.
 pub fn word_is_one()
     ensures { (role : Role) (names : List (List ℕ)) (controllable : List ℕ) (c : CircuitData)
         (stem lap : List (List Bool)) → IsCircuit c → HasSymbols role names controllable c →
@@ -32,8 +31,7 @@ pub fn word_is_one()
     circuit_has_one_values();
 }
 
-/// An automaton gives at most one verdict on a circuit, a stem and a lap, if the circuit has the inputs and outputs
-/// that its role (controller or environment) requires.
+/// It has at most one verdict there.
 pub fn verdict_is_one()
     ensures { (role : Role) (file : FileData) (c : CircuitData) (stem lap : List (List Bool)) → IsCircuit c →
         HasSymbols role file.names file.controllable c → HasOneVerdict file c stem lap }
@@ -41,7 +39,7 @@ pub fn verdict_is_one()
     circuit_has_one_values();
 }
 
-/// A circuit has the inputs and outputs that a role (controller or environment) requires, or it does not.
+/// Whether a circuit has the inputs and outputs that a role requires is decidable.
 pub fn symbols_are_decided()
     ensures { (role : Role) (names : List (List ℕ)) (controllable : List ℕ) (c : CircuitData) →
         HasSymbols role names controllable c ⊎ ¬ HasSymbols role names controllable c }

@@ -1,4 +1,4 @@
-//! Letters of a stimulus in a single list, and their parser.
+//! Letters in a single list, and their parser.
 
 ghost use Rattle.std.specs.Prelude.{◌≡◌, ◌*◌, ◌<◌, ◌↔◌, IsTrue, Some, [], length, slice_get};
 ghost use Rattle.ps_simulate.specs.StimulusTexts.{IsLettersAnswer};
@@ -8,7 +8,7 @@ use crate::stimulus::{line_end, read_letter};
 use std::alloc::Global;
 use std::marker::Model;
 
-/// Letters, each with a bit for each input of a circuit. All bits are in a single list.
+/// Letters with a bit for each input, all in one list.
 #[derive(Debug, Drop)]
 pub struct Letters {
     bits: Vec<bool>,
@@ -35,7 +35,7 @@ impl Letters {
         self.count
     }
 
-    /// Whether the list is empty.
+    /// Whether there are none.
     pub fn is_empty(&self) -> bool
         ensures { IsTrue result ↔ (self.now ≡ []) }
     {
@@ -52,11 +52,8 @@ impl Letters {
     }
 }
 
-/// Parses a stimulus without a lap: a line of digits for each letter.
-///
-/// # Errors
-///
-/// [`StimulusFault::Text`] with the first error in the text and its offset, or out of memory.
+/// Parses a stimulus without a lap, a line of digits for each letter. Fails with the first error in the text and its
+/// offset, or if out of memory.
 pub fn parse_letters(alloc: Global, text: &[u8], width: usize) -> Result<Letters, StimulusFault>
     ensures { IsLettersAnswer text.now width result }
 {

@@ -1,4 +1,4 @@
-//! The inputs and outputs of a circuit, and the propositions that have the same names.
+//! The propositions that have the names of inputs and outputs.
 
 ghost use Rattle.std.specs.Prelude.{◌≡◌, ◌≢◌, ◌^◌, ◌<◌, ◌≤◌, ◌||◌, ℕ, true, false, None, Some, IfOk, IfSome, IfNone};
 ghost use Rattle.std.specs.Prelude.{length, map, slice_index_or};
@@ -17,17 +17,16 @@ use std::alloc::{AllocError, Global};
 /// For each proposition, the input or output that has its name.
 #[derive(Drop)]
 pub(crate) struct Naming<'a> {
-    /// The names of the propositions.
+    /// The propositions' names.
     pub names: &'a [Vec<u8>],
-    /// For each proposition, the index of the input that has its name, if there is one.
+    /// For each, the index of the input of this name.
     pub inputs: Vec<Option<usize>>,
-    /// For each proposition, the index of the output that has its name, if there is one.
+    /// For each, the index of the output of this name.
     pub outputs: Vec<Option<usize>>,
 }
 
 impl<'a> Naming<'a> {
-    /// The naming of a circuit with the given role, or `None` if the circuit's symbols are not the names of the
-    /// propositions that the role requires. Fails if out of memory.
+    /// The naming of a circuit, or `None` if its symbols are not those that its role requires.
     pub fn new(
         alloc: Global,
         circuit: &Circuit,
@@ -61,7 +60,7 @@ impl<'a> Naming<'a> {
         }))
     }
 
-    /// The letter of a step, given the values of the inputs and of the outputs.
+    /// The letter of a step, by its inputs and outputs.
     pub fn letter(&self, inputs: &[bool], outputs: &[bool]) -> u64
         requires few { length self.now.names.now ≤ 64 }
         requires inputs_within { (p k : ℕ) → slice_index_or self.now.inputs.items p None ≡ Some k →
@@ -78,9 +77,8 @@ impl<'a> Naming<'a> {
     }
 }
 
-/// For each proposition, the index of the symbol that names it. The result is `None` unless the symbols are exactly the
-/// names of the wanted propositions, each once. The wanted propositions are the controllable ones if `wanted` is true,
-/// and all others if it is false.
+/// For each proposition, the index of its symbol; `None` unless the symbols name, once each, exactly those propositions
+/// that are controllable (or not, as `wanted` says).
 fn places_of(
     alloc: Global,
     names: &[Vec<u8>],
@@ -98,8 +96,7 @@ fn places_of(
     }
 }
 
-/// Stores the index of each symbol at the proposition that it names. The result is `None` if a symbol does not name a
-/// proposition of the wanted kind (controllable or not), or if two symbols name the same proposition.
+/// The same, but propositions may be without symbols.
 fn put_places(
     alloc: Global,
     names: &[Vec<u8>],
@@ -126,8 +123,7 @@ fn put_places(
     Ok(Some(places))
 }
 
-/// If `wanted` is true, whether each controllable proposition has an index; otherwise, whether each proposition that is
-/// not controllable has an index.
+/// Whether each proposition that is wanted has an index.
 fn is_full(controllable: &[u32], wanted: bool, places: &[Option<usize>]) -> bool
     ensures full { result ≡ true → (p : ℕ) → p < length places.now → is_among p controllable.now ≡ wanted →
         slice_index_or places.now p None ≢ None }
@@ -142,8 +138,7 @@ fn is_full(controllable: &[u32], wanted: bool, places: &[Option<usize>]) -> bool
     true
 }
 
-/// The letter in which each proposition p has the bit of `bits` at the index `places[p]`. A proposition without an
-/// index has the bit 0.
+/// The letter of the bits at the propositions' indices, and 0 without one.
 fn part_of(places: &[Option<usize>], bits: &[bool]) -> u64
     requires few { length places.now ≤ 64 }
     requires within { (p k : ℕ) → slice_index_or places.now p None ≡ Some k → k < length bits.now }
@@ -157,7 +152,6 @@ fn part_of(places: &[Option<usize>], bits: &[bool]) -> u64
     letter
 }
 
-/// The bit at an index, or 0 if there is no index.
 fn bit_at(bits: &[bool], place: Option<usize>) -> bool
     requires { IfSome place (λ k. k < length bits.now) }
     ensures { result ≡ bit_at_place bits.now place }
@@ -168,7 +162,6 @@ fn bit_at(bits: &[bool], place: Option<usize>) -> bool
     }
 }
 
-/// A letter in which the bit of one more proposition is set if `bit` is true.
 fn with_bit(letter: u64, p: usize, bit: bool) -> u64
     requires { p < 64 }
     ensures at { is_in p letter ≡ false → is_in p result ≡ bit }

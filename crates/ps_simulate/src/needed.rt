@@ -21,7 +21,7 @@ pub fn plan_of_needed(alloc: Global, circuit: &Circuit) -> Result<Plan, AllocErr
     Ok(plan)
 }
 
-/// For each index of the table, whether a step needs its value. Fails if out of memory.
+/// Which values of the table a step needs.
 fn needed_places(alloc: Global, plan: &Plan) -> Result<Vec<bool>, AllocError>
     requires rows { All (IsRowInTable plan.now.size) plan.now.rows.items }
     requires outputs { All (λ w. w.place < plan.now.size) plan.now.outputs.items }
@@ -36,7 +36,7 @@ fn needed_places(alloc: Global, plan: &Plan) -> Result<Vec<bool>, AllocError>
     Ok(needed)
 }
 
-/// Records that the values of the given wires (literals) are needed.
+/// Records what the wires need.
 fn need_each(wires: &[Wire], needed: &mut [bool])
     requires within { All (λ w. w.place < length needed.old) wires.now }
     ensures { AddsNeeds NeedsWire needed.old needed.new wires.now }
@@ -46,7 +46,7 @@ fn need_each(wires: &[Wire], needed: &mut [bool])
     }
 }
 
-/// Records that the values that the needed rows of the plan read are needed, from the last row to the first.
+/// Records what the needed rows read, from the last row to the first.
 fn need_what_is_read(rows: &[Row], needed: &mut [bool])
     requires within { All (IsRowInTable (length needed.old)) rows.now }
     requires scheduled { IsScheduled rows.now }

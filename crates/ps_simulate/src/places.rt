@@ -11,8 +11,7 @@ use std::alloc::{AllocError, Global};
 use std::iter::once;
 use std::marker::Model;
 
-/// The index of each variable of a circuit: first variable 0, then the variables of the inputs, the latches and the
-/// gates.
+/// The index of each variable: first variable 0, then the inputs, the latches and the gates.
 #[derive(Drop)]
 pub struct Places<'a> {
     circuit: &'a Circuit,
@@ -35,7 +34,7 @@ impl<'a> Places<'a> {
     ghost use Rattle.ps_circuit.specs.Circuits.{IsKnown, definitions};
     ghost use Rattle.ps_simulate.specs.Plans.{variables, wire_of};
 
-    /// The indices of the variables of a circuit. Fails if out of memory.
+    /// The indices of a circuit. Fails if out of memory.
     pub fn new(alloc: Global, circuit: &'a Circuit) -> Result<Self, AllocError>
         ensures { IfOk result (λ places. places ≡ circuit.now) }
     {
@@ -72,7 +71,7 @@ impl<'a> Places<'a> {
     }
 }
 
-/// The variables in the order of their indices. Fails if out of memory.
+/// The variables in the order of their indices.
 fn variables_of(alloc: Global, circuit: &Circuit) -> Result<Vec<u32>, AllocError>
     ensures variables { IfOk result (λ all. all.items ≡ variables circuit.now) }
     ensures well_formed { IsCircuit circuit.now }
@@ -86,7 +85,7 @@ fn variables_of(alloc: Global, circuit: &Circuit) -> Result<Vec<u32>, AllocError
         .collect(alloc)
 }
 
-/// A list of variables, with a search for their indices. Fails if out of memory.
+/// The same, with a search for their indices.
 fn ids_of(alloc: Global, variables: &[u32]) -> Result<Ids, AllocError>
     requires { AllPairs (λ v w. v ≢ w) variables.now }
     ensures { IfOk result (λ ids. ids ≡ variables.now) }

@@ -7,46 +7,45 @@ use crate::places::Places;
 use ps_circuit::Circuit;
 use std::alloc::{AllocError, Global};
 
-/// A literal of a circuit, with the index of its variable in the table of values. An index has only 4 bytes, since a
-/// circuit has fewer than 2^31 variables, and a step reads three indices for each gate.
+/// A literal whose variable is an index into the table of values. It has only 4 bytes, since a circuit has fewer than
+/// 2^31 variables, and a step reads three of them for each gate.
 #[derive(Clone, Copy)]
 pub struct Wire {
-    /// The index of the literal's variable.
+    /// The index.
     pub place: u32,
     /// Whether the literal is negated.
     pub is_negated: bool,
 }
 
-/// A gate: the index of its value, and the two literals that it reads.
+/// A gate: the index of its value, and what it reads.
 #[derive(Clone, Copy)]
 pub struct Row {
-    /// The index of the gate's value in the table of values.
+    /// The index of its value.
     pub target: u32,
-    /// The first literal that the gate reads.
+    /// The first literal.
     pub first: Wire,
-    /// The second literal that the gate reads.
+    /// The second literal.
     pub second: Wire,
 }
 
-/// What a step of a circuit evaluates: the gates, each after the gates that it reads, and then the outputs and the next
-/// values of the latches. Indices refer to a table of `size` values: the constant 0, the inputs, the latches and the
-/// gates.
+/// What a step evaluates: the gates, the outputs and the latches' next values. The table has `size` values: the
+/// constant 0, the inputs, the latches and the gates.
 #[derive(Drop)]
 pub struct Plan {
-    /// The length of the table of values, which has an entry for each variable of the circuit, the constant 0 included.
+    /// The table's length.
     pub size: usize,
-    /// The gates, each after the gates that it reads.
+    /// The gates, each after those that it reads.
     pub rows: Vec<Row>,
     /// The literals of the outputs.
     pub outputs: Vec<Wire>,
-    /// The literals of the latches' next values.
+    /// Those of the latches' next values.
     pub nexts: Vec<Wire>,
 }
 
 impl Plan {
     ghost use Rattle.ps_simulate.specs.Plans.{IsPlan};
 
-    /// The plan of a circuit: what a simulator evaluates in each step. Fails if out of memory.
+    /// The plan of a circuit. Fails if out of memory.
     pub fn new(alloc: Global, circuit: &Circuit) -> Result<Self, AllocError>
         ensures { IfOk result (IsPlan circuit.now) }
     {
@@ -54,8 +53,7 @@ impl Plan {
         Plan::by_places(alloc, &places)
     }
 
-    /// The plan of a circuit, which lists the gates that a step evaluates, in order. `places` gives each variable's index
-    /// in the table of values. Fails if out of memory.
+    /// The same, by the variables' indices.
     fn by_places(alloc: Global, places: &Places) -> Result<Self, AllocError>
         ensures { IfOk result (IsPlan places.now) }
     {
@@ -68,7 +66,7 @@ impl Plan {
     }
 }
 
-/// A row for each gate, in an order in which each gate comes after the gates that it reads. Fails if out of memory.
+/// A row for each gate, after those that it reads.
 fn rows_of(alloc: Global, places: &Places) -> Result<Vec<Row>, AllocError>
     ensures { IfOk result (λ rows. AreGateRows places.now rows.items) }
 {
@@ -87,11 +85,7 @@ fn rows_of(alloc: Global, places: &Places) -> Result<Vec<Row>, AllocError>
     Ok(rows)
 }
 
-/// The literals of the outputs, with indices into the table.
-///
-/// # Errors
-///
-/// Fails if out of memory.
+/// The wires of the outputs. Fails if out of memory.
 pub fn output_wires(alloc: Global, places: &Places) -> Result<Vec<Wire>, AllocError>
     ensures { IfOk result (λ wires. wires.items ≡ map (wire_of places.now) places.now.outputs) }
 {
@@ -103,11 +97,7 @@ pub fn output_wires(alloc: Global, places: &Places) -> Result<Vec<Wire>, AllocEr
     Ok(wires)
 }
 
-/// The literals of the latches' next values, with indices into the table.
-///
-/// # Errors
-///
-/// Fails if out of memory.
+/// The wires of the latches' next values. Fails if out of memory.
 pub fn next_wires(alloc: Global, places: &Places) -> Result<Vec<Wire>, AllocError>
     ensures { IfOk result (λ wires. wires.items ≡ map (λ l. wire_of places.now l.next) places.now.latches) }
 {

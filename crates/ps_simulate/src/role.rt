@@ -1,11 +1,11 @@
-//! The role of a circuit.
+//! Controllers and environments.
 
-/// The role of a circuit, which is a controller or an environment.
+/// The role of a circuit.
 #[derive(Clone, Copy, Debug, PartialEq, Eq)]
 pub enum Role {
-    /// The inputs are the propositions that are not controllable, and the outputs are the controllable propositions.
+    /// Its outputs are the controllable propositions, its inputs the others.
     Controller,
-    /// The inputs are the controllable propositions, and the outputs are those that are not controllable.
+    /// The reverse.
     Environment,
 }
 

@@ -11,7 +11,7 @@ use ps_circuit::Circuit;
 use std::alloc::{AllocError, Global};
 use std::marker::Model;
 
-/// A circuit, and the current values of its latches.
+/// A circuit, and the values of its latches.
 #[derive(Drop)]
 pub struct Simulator<'a> {
     circuit: &'a Circuit,
@@ -54,7 +54,7 @@ impl<'a> Simulator<'a> {
         })
     }
 
-    /// Takes a letter: stores the values of the outputs in `outputs`, and updates the latches. Allocates no memory.
+    /// Takes a letter: stores the values of the outputs, and updates the latches. Allocates no memory.
     pub fn step(&mut self, inputs: &[bool], outputs: &mut [bool])
         requires inputs_fit { length inputs.now ≡ length self.old.circuit.inputs }
         requires outputs_fit { length outputs.old ≡ length self.old.circuit.outputs }
@@ -66,14 +66,14 @@ impl<'a> Simulator<'a> {
         read_all(&self.plan.nexts, &self.values, &mut self.latches);
     }
 
-    /// The current values of all latches. Allocates no memory.
+    /// The values of all latches.
     pub fn latches(&self) -> &[bool]
         ensures { result.now ≡ self.now.latches }
     {
         self.latches.as_slice()
     }
 
-    /// The current value of a latch. Allocates no memory.
+    /// The value of a latch.
     pub fn latch(&self, number: usize) -> bool
         requires { number < length self.now.circuit.latches }
         ensures { slice_get self.now.latches number ≡ Some result }
@@ -82,7 +82,6 @@ impl<'a> Simulator<'a> {
     }
 }
 
-/// The reset values of the latches. Fails if out of memory.
 fn first_latches(alloc: Global, circuit: &Circuit) -> Result<Vec<bool>, AllocError>
     ensures { IfOk result (λ bits. bits.items ≡ map (λ l. l.reset) circuit.now.latches) }
 {
@@ -93,7 +92,6 @@ fn first_latches(alloc: Global, circuit: &Circuit) -> Result<Vec<bool>, AllocErr
         .collect(alloc)
 }
 
-/// Copies bits into a table, from an index on.
 fn put(values: &mut [bool], start: usize, bits: &[bool])
     requires { start + length bits.now ≤ length values.old }
     ensures put { (k : ℕ) → k < length bits.now → slice_index_or values.new (start + k) false ≡ slice_index_or
@@ -106,7 +104,6 @@ fn put(values: &mut [bool], start: usize, bits: &[bool])
     }
 }
 
-/// The value of a literal.
 fn bit(values: &[bool], wire: Wire) -> bool
     requires { wire.place < length values.now }
     ensures { result ≡ read values.now wire }
@@ -126,8 +123,7 @@ fn work(rows: &[Row], values: &mut [bool])
     }
 }
 
-/// Fills the table of values in a step: copies the inputs and the latches, and evaluates the gates. The constant 0 is
-/// already in the table.
+/// Fills the table, which begins with the constant 0: the inputs, the latches and the gates.
 fn fill(rows: &[Row], inputs: &[bool], latches: &[bool], values: &mut [bool])
     requires { IsTableFor rows.now inputs.now latches.now values.old }
     ensures { IsWorkedOut rows.now inputs.now latches.now (length values.old) values.new }
@@ -137,7 +133,7 @@ fn fill(rows: &[Row], inputs: &[bool], latches: &[bool], values: &mut [bool])
     work(rows, values);
 }
 
-/// Evaluates literals, and stores the value of each literal.
+/// Stores the values of literals.
 fn read_all(wires: &[Wire], values: &[bool], bits: &mut [bool])
     requires within { All (λ w. w.place < length values.now) wires.now }
     requires fit { length bits.old ≡ length wires.now }

@@ -1,4 +1,4 @@
-//! Stimuli, which are the letters that a circuit reads, and their parser.
+//! Stimuli (the letters that a circuit reads), and their parser.
 
 ghost use Rattle.std.specs.Prelude.{◌≡◌, ◌+◌, ◌-◌, ◌^◌, ◌<◌, ◌≤◌, ◌↔◌, ◌∷◌, ℕ, Bool, List, length, take, drop};
 ghost use Rattle.std.specs.Prelude.{slice_index, All, IsTrue, IfOk, IfSome, IfNone};
@@ -11,12 +11,12 @@ use ps_text::cursor::{Class, run_length};
 use std::alloc::{AllocError, Global};
 use std::marker::Model;
 
-/// Letters, each with a bit for each input of a circuit, in the circuit's order.
+/// Letters with a bit for each input, in the circuit's order.
 #[derive(Debug, Drop)]
 pub struct Stimulus {
-    /// The letters that are read once.
+    /// Read once.
     pub stem: Vec<Vec<bool>>,
-    /// The letters that are read repeatedly.
+    /// Read again and again.
     pub lap: Vec<Vec<bool>>,
 }
 
@@ -28,12 +28,8 @@ impl Model for Stimulus {
     ghost view = { λ s. record { stem = letters_of s.stem.items; lap = letters_of s.lap.items } };
 }
 
-/// Parses a stimulus: a line of digits for each letter. With `split`, a line `-` separates the stem from the lap;
-/// without it, all letters belong to the stem.
-///
-/// # Errors
-///
-/// [`StimulusFault::Text`] with the first error in the text and its offset, or out of memory.
+/// Parses a stimulus, a line of digits for each letter. With `split`, a line `-` separates the stem from the lap;
+/// without it, all letters are the stem's. Fails with the first error in the text and its offset, or if out of memory.
 pub fn parse_stimulus(
     alloc: Global,
     text: &[u8],
@@ -67,18 +63,17 @@ pub fn parse_stimulus(
     Ok(Stimulus { stem, lap })
 }
 
-/// The text of a stimulus has at most one answer: its letters, or its first error.
+/// A text of a stimulus has at most one answer: its letters, or its first error.
 pub fn stimulus_text_has_one_answer()
     ensures { (text : List ℕ) (width : ℕ) (split : Bool) → HasOneAnswer text width split }
 {}
 
-/// The text of a stimulus has an answer: its letters, or its first error. The law is about texts, not about calls: a
-/// call may also fail because it is out of memory.
+/// It has an answer. This is about texts: a call may also run out of memory.
 pub fn stimulus_text_has_some_answer()
     ensures { (text : List ℕ) (width : ℕ) (split : Bool) → HasSomeAnswer text width split }
 {}
 
-/// The end of the line that begins at `start`: the offset of the next newline, or the end of the text.
+/// The next newline's offset, or else the text's end.
 pub(crate) fn line_end(text: &[u8], start: usize) -> usize
     requires { start < length text.now }
     ensures { IsLineEnd text.now start result }
@@ -93,7 +88,7 @@ fn is_divider(line: &[u8]) -> bool
     line.len() == 1 && line[0] == b'-'
 }
 
-/// The index, in a line, of the first byte that is not a digit.
+/// The index of the first byte that is not a digit.
 fn first_wrong(line: &[u8]) -> Option<usize>
     ensures digits { IfNone result (All IsDigit line.now) }
     ensures wrong { IfSome result (λ j. (j < length line.now) × ¬ IsDigit (slice_index line.now j)) }
@@ -107,7 +102,6 @@ fn first_wrong(line: &[u8]) -> Option<usize>
     None
 }
 
-/// The letter that a line of digits represents. Fails if out of memory.
 fn bits_of(alloc: Global, line: &[u8]) -> Result<Vec<bool>, AllocError>
     requires { All IsDigit line.now }
     ensures { IfOk result (λ bits. digits_of bits.items ≡ line.now) }
@@ -119,7 +113,7 @@ fn bits_of(alloc: Global, line: &[u8]) -> Result<Vec<bool>, AllocError>
     Ok(bits)
 }
 
-/// Parses the line of a letter. The line begins at the offset `start`.
+/// Parses a letter's line, which begins at the offset `start`.
 pub(crate) fn read_letter(
     alloc: Global,
     line: &[u8],

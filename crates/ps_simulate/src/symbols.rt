@@ -45,8 +45,7 @@ pub fn is_in_list(list: &[u32], proposition: usize) -> bool
     false
 }
 
-/// The proposition that a symbol names. If `wanted` is true, the proposition must be controllable; otherwise it must
-/// not be controllable.
+/// The proposition that a symbol names, if it is controllable, or not, as `wanted` says.
 pub fn proposition_of(
     names: &[Vec<u8>],
     controllable: &[u32],

@@ -1,11 +1,10 @@
-//! The infinite word of a circuit's trace, as a stem and a lap of letters.
+//! The infinite word of a circuit's trace.
 
 ghost use Rattle.std.specs.Prelude.{◌≡◌, ◌≤◌, length, take, drop};
 
 use std::marker::Model;
 
-/// The letters of the trace of a circuit that reads a lasso: those of a stem, and those of a lap that repeats for ever.
-/// In a letter, bit p is the value of proposition p.
+/// The letters of a trace on a lasso: a stem, and a lap that repeats for ever. Bit p of a letter is proposition p.
 #[derive(Debug, Drop)]
 pub struct TraceWord {
     letters: Vec<u64>,
@@ -24,7 +23,7 @@ impl Model for TraceWord {
 }
 
 impl TraceWord {
-    /// The word whose lap begins at the index `start` of the letters.
+    /// The word whose lap begins at `start`.
     pub(crate) fn new(letters: Vec<u64>, start: usize) -> Self
         requires { start ≤ length letters.items }
         ensures stem { result.stem ≡ take start letters.items }
@@ -33,14 +32,14 @@ impl TraceWord {
         TraceWord { letters, start }
     }
 
-    /// The letters of the stem.
+    /// The stem.
     pub fn stem(&self) -> &[u64]
         ensures { result.now ≡ self.now.stem }
     {
         &self.letters[..self.start]
     }
 
-    /// The letters of the lap.
+    /// The lap.
     pub fn lap(&self) -> &[u64]
         ensures { result.now ≡ self.now.lap }
     {
