@@ -1,4 +1,4 @@
-//! A builder of circuits of and-gates, which makes each gate only once.
+//! A builder of circuits, which makes each gate only once.
 
 ghost use Rattle.std.specs.Prelude.{◌≡◌, ℕ, ◌+◌, ◌*◌, ◌^◌, ◌<◌, ◌≤◌, ◌&&◌, ◌||◌, Bool, not, cond, [], ◌∷◌, length};
 ghost use Rattle.std.specs.Prelude.{slice_get, All, Some, IfOk};
@@ -15,11 +15,10 @@ use ps_keys::{Hashed, KeyList, mixed};
 use std::alloc::Global;
 use std::marker::Model;
 
-/// The largest number of variables of a circuit: the number of the greatest literal, twice this number plus one, still
-/// fits into 32 bits.
+/// The most variables of a circuit, so that the greatest literal fits into 32 bits.
 const MOST_VARIABLES: u32 = 2147483647;
 
-/// The two literals that a gate reads, with the greater literal first.
+/// What a gate reads, with the greater literal first.
 #[derive(Debug, Clone, Copy, PartialEq, Eq, Hash)]
 pub struct Sides {
     /// The greater literal.
@@ -45,11 +44,10 @@ impl Hashed for Sides {
     }
 }
 
-/// A circuit builder, which makes and-gates over some given variables. If a gate with the same two literals exists, it
-/// is used again; a new gate takes the next variable.
+/// Makes and-gates over given variables. A gate that reads two literals is made once, and takes the next variable.
 ///
-/// Every call of a builder, even one that fails, leaves the existing gates unchanged. A builder's call fails only if
-/// out of memory, or if 2147483647 variables exist and another gate is needed.
+/// No call changes an existing gate. A call fails only if out of memory, or if 2147483647 variables exist and another
+/// gate is needed.
 #[derive(Drop)]
 pub struct Builder {
     given: u32,
@@ -65,7 +63,7 @@ impl Model for Builder {
 }
 
 impl Builder {
-    /// A builder without gates. The variables that the builder is given have the numbers from 1 to `given`.
+    /// A builder without gates, over the variables from 1 to `given`.
     pub fn new(alloc: Global, given: u32) -> Self
         requires { given < 2 ^ 31 }
         ensures given { result.given ≡ given }
@@ -77,7 +75,7 @@ impl Builder {
         }
     }
 
-    /// The number of variables in the builder: the given ones and one for each gate, without variable 0.
+    /// How many variables there are, the given ones and the gates, without variable 0.
     pub fn variables(&self) -> u32
         ensures variables { result ≡ variables_of self.now }
         ensures sound { IsSoundDraft self.now }
@@ -85,7 +83,7 @@ impl Builder {
         self.given + self.gates.len() as u32
     }
 
-    /// The number of variables that the builder was given.
+    /// How many were given.
     pub fn given(&self) -> u32
         ensures given { result ≡ self.now.given }
         ensures sound { IsSoundDraft self.now }
@@ -101,7 +99,7 @@ impl Builder {
         self.gates.as_slice()
     }
 
-    /// Returns a literal that is true exactly if both given literals are true.
+    /// A literal that is true exactly if both are.
     #[tactic(auto, unfolding(crate::specs::Gates::and_of))]
     pub fn and(&mut self, x: Literal, y: Literal) -> Result<Literal, EncodeFault>
         requires { All (IsHeld self.old) (x ∷ y ∷ []) }
@@ -130,7 +128,7 @@ impl Builder {
         }
     }
 
-    /// Returns a literal that is true exactly if at least one of the two given literals is true.
+    /// A literal that is true exactly if one of them is.
     #[tactic(auto, unfolding(crate::specs::Gates::or_of))]
     pub fn or(&mut self, x: Literal, y: Literal) -> Result<Literal, EncodeFault>
         requires { All (IsHeld self.old) (x ∷ y ∷ []) }
@@ -141,8 +139,7 @@ impl Builder {
         Ok(neither.negated())
     }
 
-    /// Returns a literal that has the value of `high` if `s` is true, and the value of `low` if `s` is false (a
-    /// multiplexer).
+    /// A literal with the value of `high` if `s` is true, and else of `low` (a multiplexer).
     #[tactic(auto, unfolding(crate::specs::Gates::mux_of))]
     pub fn mux(&mut self, s: Literal, high: Literal, low: Literal) -> Result<Literal, EncodeFault>
         requires { All (IsHeld self.old) (s ∷ high ∷ low ∷ []) }
@@ -173,7 +170,7 @@ impl Builder {
         self.chosen(s, high, low)
     }
 
-    /// The literal that `mux` returns, if `high` and `low` differ and neither of them is constant.
+    /// The same, if `high` and `low` differ and neither is constant.
     #[tactic(auto, unfolding(crate::specs::Gates::chosen_of))]
     fn chosen(&mut self, s: Literal, high: Literal, low: Literal) -> Result<Literal, EncodeFault>
         requires { All (IsHeld self.old) (s ∷ high ∷ low ∷ []) }
@@ -185,7 +182,7 @@ impl Builder {
         self.or(where_true, where_false)
     }
 
-    /// The literal of the gate that reads the two given literals. If no gate reads these two literals yet, one is made.
+    /// The gate that reads these literals, which is made if it is new.
     fn gate(&mut self, sides: Sides) -> Result<Literal, EncodeFault>
         requires { AreSides (variables_of self.old + 1) sides }
         ensures { MakesGates self.old self.new result (gate_of self.old sides)
@@ -200,7 +197,6 @@ impl Builder {
     }
 }
 
-/// Whether one of the gates reads the two given literals.
 fn contains(gates: &KeyList<Sides>, sides: &Sides) -> bool
     ensures { result ≡ list_any (has_sides sides.now) gates.now }
 {

@@ -15,13 +15,13 @@ use std::alloc::{AllocError, Global};
 use std::marker::Model;
 use thiserror::Error;
 
-/// Why no circuit could be made from given parts.
+/// Why parts make no circuit.
 #[derive(Clone, Copy, Debug, PartialEq, Eq, Error)]
 pub enum CircuitFault {
     /// A gate depends on itself.
     #[error("the gate at place {gate} depends on itself")]
     Cyclic {
-        /// The index of the first gate that depends on itself.
+        /// The index of the first gate that does.
         gate: usize,
     },
     /// Out of memory.
@@ -40,9 +40,8 @@ impl From<AllocError> for CircuitFault {
     }
 }
 
-/// A circuit of and-gates and latches. In a circuit, no variable is defined twice, the variable of each used literal is
-/// defined or 0, and no gate depends on itself. The circuit stores an order of its gates in which each gate comes after
-/// the gates that it reads.
+/// A circuit of and-gates and latches: no variable is defined twice, the variable of each used literal is defined or 0,
+/// and no gate depends on itself. It stores an order of its gates, each after those that it reads.
 #[derive(Drop)]
 pub struct Circuit {
     parts: Parts,
@@ -59,8 +58,7 @@ impl Model for Circuit {
 }
 
 impl Circuit {
-    /// Makes a circuit from its parts: inputs, latches, outputs, gates and names. Making the circuit fails if a gate
-    /// depends on itself, or if out of memory.
+    /// The circuit of these parts. Fails if a gate depends on itself, or if out of memory.
     pub(crate) fn new(alloc: Global, parts: Parts) -> Result<Self, CircuitFault>
         requires { IsDraft (data_of parts) }
         ensures made { IfOk result (IsMadeOf (data_of parts)) }
@@ -76,7 +74,7 @@ impl Circuit {
         }
     }
 
-    /// Makes a circuit from parts in which each gate comes after the gates that it reads. Fails if out of memory.
+    /// The circuit of parts in which each gate comes after those that it reads. Fails if out of memory.
     pub fn in_order(alloc: Global, parts: Parts) -> Result<Self, AllocError>
         requires draft { IsDraft (data_of parts) }
         requires ordered { (i j : ℕ) → ReadsGate parts.gates.items i j → j < i }
@@ -86,7 +84,7 @@ impl Circuit {
         Ok(Circuit { parts, order })
     }
 
-    /// The greatest variable that the circuit may use.
+    /// The greatest variable that it may use.
     pub fn most(&self) -> u32
         ensures most { result ≡ self.now.most }
         ensures well_formed { IsCircuit self.now }
@@ -118,7 +116,7 @@ impl Circuit {
         &self.parts.outputs
     }
 
-    /// The gates of the circuit, in the order of the text or of the parts from which the circuit was made.
+    /// The gates, in the order of the text or of the parts.
     pub fn gates(&self) -> &[Gate]
         ensures gates { result.now ≡ self.now.gates }
         ensures well_formed { IsCircuit self.now }
@@ -126,35 +124,32 @@ impl Circuit {
         &self.parts.gates
     }
 
-    /// The indices of the gates, in an order in which each gate comes after the gates that it reads.
+    /// The indices of the gates, each after those that it reads.
     pub fn order(&self) -> &[usize]
         ensures { IsOrder (ReadsGate self.now.gates) (length self.now.gates) result.now }
     {
         &self.order
     }
 
-    /// The optional names of the inputs, in the order of the inputs.
     pub(crate) fn input_names(&self) -> &[Option<Vec<u8>>]
         ensures { map name_bytes result.now ≡ self.now.input_names }
     {
         &self.parts.input_names
     }
 
-    /// The optional names of the latches, in the order of the latches.
     pub(crate) fn latch_names(&self) -> &[Option<Vec<u8>>]
         ensures { map name_bytes result.now ≡ self.now.latch_names }
     {
         &self.parts.latch_names
     }
 
-    /// The optional names of the outputs, in the order of the outputs.
     pub(crate) fn output_names(&self) -> &[Option<Vec<u8>>]
         ensures { map name_bytes result.now ≡ self.now.output_names }
     {
         &self.parts.output_names
     }
 
-    /// The name of an input, if it has one.
+    /// An input's name, if it has one.
     pub fn input_name(&self, input: usize) -> Option<&[u8]>
         requires { input < length self.now.inputs }
         ensures { option_copied result ≡ slice_index_or self.now.input_names input None }
@@ -165,7 +160,7 @@ impl Circuit {
         }
     }
 
-    /// The name of a latch, if it has one.
+    /// A latch's name, if it has one.
     pub fn latch_name(&self, latch: usize) -> Option<&[u8]>
         requires { latch < length self.now.latches }
         ensures { option_copied result ≡ slice_index_or self.now.latch_names latch None }
@@ -176,7 +171,7 @@ impl Circuit {
         }
     }
 
-    /// The name of an output, if it has one.
+    /// An output's name, if it has one.
     pub fn output_name(&self, output: usize) -> Option<&[u8]>
         requires { output < length self.now.outputs }
         ensures { option_copied result ≡ slice_index_or self.now.output_names output None }

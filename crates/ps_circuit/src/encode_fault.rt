@@ -1,4 +1,4 @@
-//! Why no circuit was made for a machine.
+//! The faults of a builder.
 
 ghost use Rattle.std.specs.Prelude.{◌≡◌};
 ghost use Rattle.ps_circuit.specs.declared.encode_fault.EncodeFault.TheVariants.{OutOfMemory};
@@ -7,10 +7,10 @@ use crate::fault::AigFault;
 use std::alloc::{AllocError, AllocFailed};
 use thiserror::Error;
 
-/// Why no circuit was made for a machine: too many variables, or out of memory.
+/// Why a builder made no gate, and so a machine gets no circuit.
 #[derive(Debug, Clone, Copy, PartialEq, Eq, Error)]
 pub enum EncodeFault {
-    /// 2147483647 variables exist, and another variable is needed.
+    /// 2147483647 variables exist, and another is needed.
     #[error("the circuit is too large")]
     CircuitTooLarge,
     /// Out of memory.
@@ -21,7 +21,7 @@ pub enum EncodeFault {
 impl EncodeFault {
     ghost use Rattle.ps_circuit.specs.EncodeFaultNames.{fault_number, fault_name};
 
-    /// The fault's number in psyn's list of faults, docs/FAULTS.md.
+    /// Its number in psyn's list of faults, docs/FAULTS.md.
     pub fn number(self) -> u8
         ensures { result ≡ fault_number self }
     {
@@ -31,7 +31,7 @@ impl EncodeFault {
         }
     }
 
-    /// The fault's name.
+    /// Its name there.
     pub fn name(self) -> &'static str
         ensures { result.now ≡ fault_name self }
     {

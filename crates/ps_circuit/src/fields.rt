@@ -1,4 +1,4 @@
-//! The parser of the fields in the lines of an AIGER text, and of what separates these fields.
+//! The fields of lines, and what separates them.
 
 ghost use Rattle.ps_circuit.specs.Signs as parts;
 ghost use Rattle.ps_circuit.specs.Inner.Cursors.{Tells, TellsNumber};
@@ -7,11 +7,7 @@ use crate::fault::{AigCause, AigFault};
 use crate::number::Number;
 use ps_text::cursor::{Class, Cursor};
 
-/// Reads a number.
-///
-/// # Errors
-///
-/// [`AigCause::Syntax`] if the next byte is not a digit.
+/// Reads a number. Fails with [`AigCause::Syntax`], as all calls here, if the next byte is not a digit.
 pub fn number(cursor: &mut Cursor) -> Result<Number, AigFault>
     ensures { TellsNumber cursor.old result cursor.new }
 {
@@ -27,11 +23,7 @@ pub fn number(cursor: &mut Cursor) -> Result<Number, AigFault>
     })
 }
 
-/// Skips one or more spaces or tabs.
-///
-/// # Errors
-///
-/// [`AigCause::Syntax`] if the next byte is neither a space nor a tab.
+/// Skips spaces and tabs. Fails if there is none.
 pub fn gap(cursor: &mut Cursor) -> Result<(), AigFault>
     ensures { Tells (λ u. u) parts.gap cursor.old result cursor.new }
 {
@@ -42,11 +34,7 @@ pub fn gap(cursor: &mut Cursor) -> Result<(), AigFault>
     Ok(())
 }
 
-/// Reads at least one byte, up to the end of the line.
-///
-/// # Errors
-///
-/// [`AigCause::Syntax`] if there is no further byte in the line.
+/// Reads up to the end of the line. Fails if this is no byte.
 pub fn rest_of_line<'a>(cursor: &mut Cursor<'a>) -> Result<&'a [u8], AigFault>
     ensures { Tells (λ r. r.now) parts.rest_of_line cursor.old result cursor.new }
 {
@@ -58,22 +46,14 @@ pub fn rest_of_line<'a>(cursor: &mut Cursor<'a>) -> Result<&'a [u8], AigFault>
     Ok(bytes)
 }
 
-/// Skips a newline.
-///
-/// # Errors
-///
-/// [`AigCause::Syntax`] if the next byte is not a newline.
+/// Skips a newline. Fails if the next byte is another.
 pub fn newline(cursor: &mut Cursor) -> Result<(), AigFault>
     ensures { Tells (λ u. u) parts.newline cursor.old result cursor.new }
 {
     cursor.byte(b'\n', AigCause::Syntax)
 }
 
-/// Skips any spaces or tabs, and the end of the line after them.
-///
-/// # Errors
-///
-/// [`AigCause::Syntax`] at the first byte that is not a space, a tab or a newline.
+/// Skips spaces and tabs, if any, and a newline. Fails at the first byte that is none of these.
 pub fn line_end(cursor: &mut Cursor) -> Result<(), AigFault>
     ensures { Tells (λ u. u) parts.line_end cursor.old result cursor.new }
 {
@@ -81,11 +61,8 @@ pub fn line_end(cursor: &mut Cursor) -> Result<(), AigFault>
     newline(cursor)
 }
 
-/// Moves past the end of the line, or past a gap to the next field, and returns whether there is a next field.
-///
-/// # Errors
-///
-/// [`AigCause::Syntax`] if the next byte is not a newline, a space or a tab.
+/// Moves to the next field, if the line has one, or else past its end, and says which. Fails if the next byte is not a
+/// newline, a space or a tab.
 pub fn more(cursor: &mut Cursor) -> Result<bool, AigFault>
     ensures { Tells (λ b. b) parts.more cursor.old result cursor.new }
 {

@@ -1,4 +1,4 @@
-//! The gates of a circuit, as a graph whose edges lead to the gates that are read.
+//! The gates of a circuit as a graph.
 
 ghost use Rattle.ps_components.specs.Graphs.{LinksStayWithin};
 ghost use Rattle.ps_circuit.specs.Inner.GateGraphs.{graph_of};
@@ -6,10 +6,10 @@ ghost use Rattle.ps_circuit.specs.Inner.GateGraphs.{graph_of};
 use crate::links::Links;
 use ps_components::Graph;
 
-/// The gates as the vertices of a graph. From each gate up to two edges lead to the gates whose literals it reads.
+/// A graph whose edges lead from each gate to those that it reads.
 #[derive(Drop)]
 pub struct GateGraph {
-    /// For each gate, the gates that it reads.
+    /// For each gate, those that it reads.
     pub links: Vec<Links>,
     pub ghost within: { LinksStayWithin (graph_of links.items) },
 }

@@ -1,4 +1,4 @@
-//! The parser of the first line of an AIGER text, its header.
+//! The first line of an AIGER text, its header.
 
 ghost use Rattle.std.specs.Prelude.{◌<◌, ◌^◌, IfOk};
 ghost use Rattle.ps_circuit.specs.Inner.Cursors.{Tells};
@@ -12,14 +12,10 @@ use crate::number::Number;
 use crate::sizes::Header;
 use ps_text::cursor::Cursor;
 
-/// The largest number that the header may state as the greatest variable.
+/// The greatest variable that it may state.
 const MOST: u64 = 2_147_483_647;
 
-/// Reads the first line of an AIGER text.
-///
-/// # Errors
-///
-/// The first error in the first line, in the order of the text.
+/// Reads the first line. Fails with its first error.
 pub fn read_header(cursor: &mut Cursor) -> Result<Header, AigFault>
     ensures { TellsHeader cursor.old result cursor.new }
 {
@@ -39,11 +35,7 @@ pub fn read_header(cursor: &mut Cursor) -> Result<Header, AigFault>
     })
 }
 
-/// Reads a gap and a number.
-///
-/// # Errors
-///
-/// [`AigCause::Syntax`] if the gap or the digits are missing.
+/// Reads a gap and a number. Fails with [`AigCause::Syntax`] if either is missing.
 pub fn field(cursor: &mut Cursor) -> Result<Number, AigFault>
     ensures { TellsField cursor.old result cursor.new }
 {
@@ -51,7 +43,7 @@ pub fn field(cursor: &mut Cursor) -> Result<Number, AigFault>
     number(cursor)
 }
 
-/// Reads the greatest variable, M, in the header.
+/// Reads M, the greatest variable.
 fn most(cursor: &mut Cursor) -> Result<Number, AigFault>
     ensures exact { Tells (λ n. n) (parts.field WrongMost) cursor.old result cursor.new }
     ensures small { IfOk result (λ n. n.value < 2 ^ 31) }
@@ -63,7 +55,7 @@ fn most(cursor: &mut Cursor) -> Result<Number, AigFault>
     Ok(most)
 }
 
-/// Reads one of the header's numbers I, L, O and A, each the number of lines of one kind.
+/// Reads I, L, O or A, the number of lines of a kind.
 fn count(cursor: &mut Cursor) -> Result<u64, AigFault>
     ensures { TellsCount cursor.old result cursor.new }
 {
@@ -71,7 +63,7 @@ fn count(cursor: &mut Cursor) -> Result<u64, AigFault>
     Ok(count.value)
 }
 
-/// Reads the sizes of up to `left` of the sections B, C, J and F, each of which must be 0, and the end of the line.
+/// Reads up to `left` of the counts B, C, J and F, each of which must be 0, and the end of the line.
 fn sections(cursor: &mut Cursor, left: u32) -> Result<(), AigFault>
     ensures { Tells (λ u. u) (parts.sections left) cursor.old result cursor.new }
 {

@@ -1,4 +1,4 @@
-//! The parser of the lines of inputs, latches, outputs and gates in an AIGER text.
+//! The lines of inputs, latches, outputs and gates.
 
 ghost use Rattle.std.specs.Prelude.{◌≡◌, ℕ, ◌<◌, ◌≤◌, ◌+◌, ◌*◌, ◌^◌, [], ◌∷◌, ◌++◌, length, IfOk, OnOk, IsTrue};
 ghost use Rattle.std.specs.Prelude.{◌↔◌, false, Contains};
@@ -25,20 +25,19 @@ use ps_ids::Ids;
 use ps_text::cursor::Cursor;
 use std::alloc::{AllocError, Global};
 
-/// What the parser records while it reads the lines of numbers: the defined variables, the literals that use a
-/// variable, and the offset of each gate's line.
+/// What is noted while the lines of numbers are read.
 #[derive(Drop)]
 pub struct Noted {
-    /// The variables that are defined so far, in text order.
+    /// The variables that are defined, in text order.
     pub variables: Ids,
-    /// The literals read so far that use a variable rather than define it, in text order.
+    /// The literals that use a variable, in text order.
     pub readings: Vec<Number>,
-    /// The offset of each gate's line in the text.
+    /// The offset of each gate's line.
     pub starts: Vec<usize>,
 }
 
 impl Noted {
-    /// What the parser has recorded before it reads the first input line: nothing.
+    /// Before the first line.
     pub fn nothing(alloc: Global) -> Self
         ensures { lines_of [] result ≡ no_lines {A = ℕ} }
     {
@@ -50,16 +49,15 @@ impl Noted {
     }
 }
 
-/// One of the four kinds of lines of numbers: of inputs, latches, outputs or gates.
+/// A kind of lines: of inputs, latches, outputs or gates.
 pub trait Line {
-    /// The type of the value that is read from one line.
+    /// What a line gives.
     type Item: Drop;
 
-    /// The grammar of the next line, given what was read before it.
+    /// The grammar of a line, by what was read before.
     ghost part: { ℕ → Lines Self.Item → Field (Lines Self.Item) };
 
-    /// The relation between what was read before a line of this kind and what has been read after that line, which adds
-    /// one item.
+    /// What a line adds to what was read before: one item.
     ghost adds: { ℕ → Lines Self.Item → Lines Self.Item → Type 0 };
 
     /// Reads a line.
@@ -75,11 +73,7 @@ pub trait Line {
             (lines_of items.new.items noted.new)) };
 }
 
-/// Reads the lines of one kind: of the inputs, latches, outputs or gates.
-///
-/// # Errors
-///
-/// The first error in the lines of inputs, latches, outputs or gates that are read, or out of memory.
+/// Reads `count` lines of a kind. Fails with the first error in them, or if out of memory.
 pub fn lines<L: Line>(
     alloc: Global,
     cursor: &mut Cursor,
@@ -100,15 +94,14 @@ pub fn lines<L: Line>(
     Ok(items)
 }
 
-/// Whether a literal may define a variable: it is neither negated nor constant, and not greater than the greatest
-/// literal.
+/// Whether a literal may define a variable: it is not negated, not constant and not too great.
 fn can_define(literal: u64, most: u32) -> bool
     ensures { IsTrue result ↔ IsDefinition most literal }
 {
     literal % 2 == 0 && literal >= 2 && literal <= 2 * u64::from(most) + 1
 }
 
-/// Records that a variable is defined, and returns whether the variable was undefined before.
+/// Notes that a variable is defined, and returns whether it was undefined.
 fn adds(variables: &mut Ids, variable: u64) -> Result<bool, AllocError>
     ensures new { IfOk result (λ new. OnTrue new (AddsVariable variables.old variable variables.new)) }
     ensures twice { result ≡ Ok false → Contains variables.old variable }
@@ -135,7 +128,7 @@ fn definition(cursor: &mut Cursor, variables: &mut Ids, header: Header) -> Resul
     Ok(number)
 }
 
-/// Reads a gap and a literal that is used, and records the literal, since its variable may be defined later.
+/// Reads a gap and a literal, and notes that it is used: it may be defined later.
 fn reading(
     cursor: &mut Cursor,
     readings: &mut Vec<Number>,
@@ -153,7 +146,7 @@ fn reading(
     Ok(number)
 }
 
-/// The kind of lines that define an input.
+/// A line that defines an input.
 pub struct InputLine;
 
 impl Line for InputLine {
@@ -176,7 +169,7 @@ impl Line for InputLine {
     }
 }
 
-/// Reads the optional first value (reset) of a latch, and the end of the line.
+/// Reads a latch's reset, if it has one, and the end of the line.
 fn reset(cursor: &mut Cursor, literal: u64) -> Result<bool, AigFault>
     requires { literal < 2 ^ 32 }
     ensures { Tells (λ b. b) (parts.reset literal) cursor.old result cursor.new }
@@ -195,7 +188,7 @@ fn reset(cursor: &mut Cursor, literal: u64) -> Result<bool, AigFault>
     Ok(number.value == 1)
 }
 
-/// The kind of lines that define a latch.
+/// A line that defines a latch.
 pub struct LatchLine;
 
 impl Line for LatchLine {
@@ -223,7 +216,7 @@ impl Line for LatchLine {
     }
 }
 
-/// The kind of lines that state an output.
+/// A line that states an output.
 pub struct OutputLine;
 
 impl Line for OutputLine {
@@ -250,7 +243,7 @@ impl Line for OutputLine {
     }
 }
 
-/// The kind of lines that define a gate.
+/// A line that defines a gate.
 pub struct GateLine;
 
 impl Line for GateLine {

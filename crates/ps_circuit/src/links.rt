@@ -1,4 +1,4 @@
-//! For each gate of a circuit, the gates that it reads.
+//! Which gates a gate reads.
 
 ghost use Rattle.std.specs.Prelude.{◌≡◌, ◌≢◌, IfOk, AllPairs, map};
 ghost use Rattle.ps_circuit.specs.Literals.{variable};
@@ -12,13 +12,13 @@ use std::alloc::{AllocError, Global};
 /// The indices of the gates that a gate reads.
 #[derive(Clone, Copy)]
 pub struct Links {
-    /// The index of the gate whose variable the first literal has, if there is such a gate.
+    /// The gate of the first literal, if it is one.
     pub first: Option<usize>,
-    /// The index of the gate whose variable the second literal has, if there is such a gate.
+    /// The gate of the second, if it is one.
     pub second: Option<usize>,
 }
 
-/// For each gate, the indices of the gates that it reads. Fails if out of memory.
+/// The links of each gate.
 pub fn links_of(alloc: Global, gates: &[Gate]) -> Result<Vec<Links>, AllocError>
     requires once { AllPairs (λ g h. variable g.literal ≢ variable h.literal) gates.now }
     ensures { IfOk result (λ links. AreLinksOf gates.now links.items) }
@@ -28,7 +28,7 @@ pub fn links_of(alloc: Global, gates: &[Gate]) -> Result<Vec<Links>, AllocError>
     Ok(links)
 }
 
-/// The variables of the gates, in the order of the gates.
+/// The gates' variables.
 fn variables_of(alloc: Global, gates: &[Gate]) -> Result<Ids, AllocError>
     requires once { AllPairs (λ g h. variable g.literal ≢ variable h.literal) gates.now }
     ensures { IfOk result (λ variables. variables ≡ map (λ g. variable g.literal) gates.now) }
@@ -41,8 +41,7 @@ fn variables_of(alloc: Global, gates: &[Gate]) -> Result<Ids, AllocError>
     Ok(variables)
 }
 
-/// For each gate, the indices of the gates that it reads. A gate's index is the index of its variable in the list
-/// `variables`.
+/// The links by these variables.
 fn links_to(alloc: Global, gates: &[Gate], variables: &Ids) -> Result<Vec<Links>, AllocError>
     ensures { IfOk result (λ links. links.items ≡ links_by (place_in variables.now) gates.now) }
 {

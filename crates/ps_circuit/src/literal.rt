@@ -5,8 +5,8 @@ ghost use Rattle.ps_circuit.specs.Literals.{is_negated, negated, variable};
 
 use std::marker::Model;
 
-/// A literal of a circuit: a variable, negated or not. Variable 0 is false. The number of a literal is twice its
-/// variable, plus one if the literal is negated. Literals are ordered by their numbers.
+/// A variable, negated or not; variable 0 is false. Its number, by which literals are ordered, is twice the variable,
+/// plus one if it is negated.
 #[derive(Debug, Clone, Copy, PartialEq, Eq, PartialOrd, Ord, Hash)]
 pub struct Literal {
     number: u32,
@@ -23,20 +23,20 @@ impl Model for Literal {
 }
 
 impl Literal {
-    /// The literal that is always false.
+    /// Always false.
     pub const FALSE: Literal = Literal { number: 0 };
 
-    /// The literal that is always true.
+    /// Always true.
     pub const TRUE: Literal = Literal { number: 1 };
 
-    /// The literal that has the given number.
+    /// The literal of this number.
     pub fn new(number: u32) -> Self
         ensures { result ≡ number }
     {
         Literal { number }
     }
 
-    /// The literal of a variable, not negated.
+    /// A variable, not negated.
     pub fn positive(variable: u32) -> Self
         requires { variable < 2 ^ 31 }
         ensures { result ≡ 2 * variable }
@@ -46,35 +46,35 @@ impl Literal {
         }
     }
 
-    /// The literal that always has the given value.
+    /// Always this value.
     pub fn constant(bit: bool) -> Self
         ensures { result ≡ (if bit then 1 else 0) }
     {
         if bit { Literal::TRUE } else { Literal::FALSE }
     }
 
-    /// The number of the literal, as it is written in an AIGER text.
+    /// Its number, as in an AIGER text.
     pub fn number(self) -> u32
         ensures { result ≡ self }
     {
         self.number
     }
 
-    /// The variable of the literal.
+    /// Its variable.
     pub fn variable(self) -> u32
         ensures { result ≡ variable self }
     {
         self.number / 2
     }
 
-    /// Whether the literal is negated.
+    /// Whether it is negated.
     pub fn is_negated(self) -> bool
         ensures { result ≡ is_negated self }
     {
         self.number % 2 == 1
     }
 
-    /// The negation of the literal.
+    /// Its negation.
     pub fn negated(self) -> Self
         ensures { result ≡ negated self }
     {

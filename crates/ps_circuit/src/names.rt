@@ -1,4 +1,4 @@
-//! The parser of the symbol table in an AIGER text, and of the comment that ends the text.
+//! The symbol table, and the comment at the end.
 
 ghost use Rattle.std.specs.Prelude.{◌≡◌, ◌≢◌, ℕ, ◌<◌, ◌^◌, Some, None, false, [], map, length, replicate, slice_get};
 ghost use Rattle.std.specs.Prelude.{vec_len, IfOk, OnOk, IsTrue, All};
@@ -20,17 +20,16 @@ use std::alloc::{AllocError, Global};
 /// The names of the inputs, latches and outputs.
 #[derive(Drop)]
 pub struct Names {
-    /// The optional name of each input.
+    /// Of each input, if it has one.
     pub inputs: Vec<Option<Vec<u8>>>,
-    /// The optional name of each latch.
+    /// Of each latch, if it has one.
     pub latches: Vec<Option<Vec<u8>>>,
-    /// The optional name of each output.
+    /// Of each output, if it has one.
     pub outputs: Vec<Option<Vec<u8>>>,
 }
 
 impl Names {
-    /// The names before any line of the symbol table is read: each input, latch and output has the entry `None`. Fails
-    /// if out of memory.
+    /// No names. Fails if out of memory.
     pub fn none(
         alloc: Global,
         inputs: usize,
@@ -48,7 +47,6 @@ impl Names {
     }
 }
 
-/// A list of `count` optional names, all of which are missing.
 fn no_names(alloc: Global, count: usize) -> Result<Vec<Option<Vec<u8>>>, AllocError>
     ensures each { IfOk result (λ names. vec_len names ≡ count) }
     ensures none { IfOk result (λ names. map name_bytes names.items ≡ replicate count None) }
@@ -60,12 +58,8 @@ fn no_names(alloc: Global, count: usize) -> Result<Vec<Option<Vec<u8>>>, AllocEr
     Ok(names)
 }
 
-/// Reads the lines of the symbol table, each of which gives a name.
-///
-/// # Errors
-///
-/// [`AigCause::Syntax`] at the first byte that is not allowed in a line of the symbol table, or at the letter of a
-/// symbol whose input, latch or output does not exist or already has a name. Fails if out of memory.
+/// Reads the symbol table. Fails with [`AigCause::Syntax`] at the first byte that it may not have, or at the letter of
+/// a symbol whose input, latch or output does not exist or already has a name; or if out of memory.
 pub fn symbols(alloc: Global, cursor: &mut Cursor, names: &mut Names) -> Result<(), AigFault>
     requires { AreNames names.old (vec_len names.old.inputs) (vec_len names.old.latches) (vec_len names.old.outputs) }
     ensures exact { Tells (λ _. names_data names.new) (many parts.symbol_line (names_data names.old)) cursor.old
@@ -79,7 +73,7 @@ pub fn symbols(alloc: Global, cursor: &mut Cursor, names: &mut Names) -> Result<
     Ok(())
 }
 
-/// Whether the byte is `i`, `l` or `o`, with which a line of the symbol table begins.
+/// Whether a byte begins a line of the symbol table.
 fn is_letter(byte: Option<u8>) -> bool
     ensures { result ≡ is_kind byte }
 {
@@ -106,7 +100,7 @@ fn symbol_line(alloc: Global, cursor: &mut Cursor, names: &mut Names) -> Result<
     Err(cursor.refusal(AigCause::Syntax))
 }
 
-/// Reads a line of the symbol table for one kind (input, latch or output): the letter, the number and the name.
+/// Reads a line for one kind (input, latch or output): the letter, the number and the name.
 fn name_line(
     alloc: Global,
     cursor: &mut Cursor,
@@ -133,7 +127,7 @@ fn name_line(
     Ok(())
 }
 
-/// Whether the input, latch or output with the given number exists and has no name yet.
+/// Whether the number exists, and has no name yet.
 fn is_free(names: &Vec<Option<Vec<u8>>>, number: u64) -> bool
     ensures free { IsTrue result → slice_get (map name_bytes names.now.items) number ≡ Some None }
     ensures taken { result ≡ false → slice_get (map name_bytes names.now.items) number ≢ Some None }
@@ -143,11 +137,7 @@ fn is_free(names: &Vec<Option<Vec<u8>>>, number: u64) -> bool
     number < names.len() as u64 && names[number as usize].is_none()
 }
 
-/// Skips what follows the symbol table: nothing, or a `c` and all bytes after it.
-///
-/// # Errors
-///
-/// [`AigCause::Syntax`] if any other byte follows the symbol table.
+/// Skips a `c` and all bytes after it. Fails with [`AigCause::Syntax`] if another byte comes.
 pub fn comment(cursor: &mut Cursor) -> Result<(), AigFault>
     ensures { TellsComment cursor.old result cursor.new }
 {

@@ -1,4 +1,4 @@
-//! The parser of AIGER texts, which describe circuits.
+//! The parser of AIGER texts.
 
 ghost use Rattle.std.specs.Prelude.{◌≡◌, ◌≢◌, ℕ, ◌<◌, ◌≤◌, ◌+◌, ◌*◌, ◌^◌, List, [], ◌∷◌, ◌++◌, length, map, vec_len};
 ghost use Rattle.std.specs.Prelude.{IfOk, Contains, IsTrue, ◌⊎◌, false, slice_index};
@@ -20,22 +20,16 @@ use ps_ids::Ids;
 use ps_text::cursor::Cursor;
 use std::alloc::Global;
 
-/// The parts of a circuit as the text states them, and the records for the checks that follow parsing (undefined
-/// variables, cycles).
+/// The parts that the text states, and what was noted for checks after it (undefined variables, cycles).
 #[derive(Drop)]
 pub(crate) struct Draft {
     parts: Parts,
     noted: Noted,
 }
 
-/// Parses a circuit from an AIGER text (AIGER 1.9, ASCII format).
-///
-/// # Errors
-///
-/// The first error of the text, in the order of the text, or out of memory. Undefined variables and cycles are reported
-/// only if the text has no other error.
+/// Parses a circuit (AIGER 1.9, ASCII format). Fails with the first error, undefined variables and cycles only if the
+/// text has no other, or if out of memory.
 pub fn read(alloc: Global, text: &[u8]) -> Result<Circuit, AigFault>
-    // The circuit of the text, or the first error of the text.
     ensures exact { IsCircuitAnswer text.now result }
     ensures well_formed { IfOk result (λ c. IsCircuit c) }
 {
@@ -44,7 +38,7 @@ pub fn read(alloc: Global, text: &[u8]) -> Result<Circuit, AigFault>
     assembled(alloc, parts, &noted.starts)
 }
 
-/// Reads an AIGER text from the first byte to the last.
+/// Reads a text to its end.
 fn read_draft(alloc: Global, text: &[u8]) -> Result<Draft, AigFault>
     ensures exact { TellsDraft text.now result }
     ensures sound { IfOk result (λ d. IsSoundDraft (draft_data d)) }
@@ -72,8 +66,7 @@ fn read_draft(alloc: Global, text: &[u8]) -> Result<Draft, AigFault>
     Ok(Draft { parts, noted })
 }
 
-/// Checks that the variable of each used literal is defined or 0. The fault is reported at the first literal whose
-/// variable is neither defined nor 0.
+/// Checks that the variables of all used literals are defined or 0; the fault is at the first that is not.
 fn all_defined(noted: &Noted) -> Result<(), AigFault>
     ensures { TellsDefined noted.now.variables noted.now.readings.items result }
 {
@@ -85,7 +78,6 @@ fn all_defined(noted: &Noted) -> Result<(), AigFault>
     Ok(())
 }
 
-/// Whether a variable is 0 or in a list of variables.
 fn is_defined(variables: &Ids, variable: u64) -> bool
     ensures defined { IsTrue result → (variable ≡ 0) ⊎ Contains variables.now variable }
     ensures not_defined { result ≡ false → (variable ≡ 0) ⊎ Contains variables.now variable → ⊥ }
@@ -93,7 +85,7 @@ fn is_defined(variables: &Ids, variable: u64) -> bool
     variable == 0 || variables.has(variable)
 }
 
-/// The fault for a gate that depends on itself, at the offset of the gate's line.
+/// The fault of a gate that depends on itself, at its line.
 fn cyclic(starts: &[usize], gate: usize) -> AigFault
     requires { gate < length starts.now }
     ensures { result ≡ faults.Text AigCause.Cyclic (slice_index starts.now gate) }
@@ -104,7 +96,7 @@ fn cyclic(starts: &[usize], gate: usize) -> AigFault
     }
 }
 
-/// Makes the circuit from its parsed parts. Fails if a gate depends on itself, or if out of memory.
+/// The circuit of the parts. Fails if a gate depends on itself, or if out of memory.
 fn assembled(alloc: Global, parts: Parts, starts: &[usize]) -> Result<Circuit, AigFault>
     requires { AreDefinedParts (data_of parts) starts.now }
     ensures { TellsCircuit (data_of parts) starts.now result }

@@ -1,21 +1,20 @@
-//! The numbers in the header, the first line of an AIGER text.
+//! The numbers in the header.
 
 ghost use Rattle.std.specs.Prelude.{◌<◌, ◌^◌};
 
-/// The numbers in the header of an AIGER text. A number of inputs, latches, outputs or gates that does not fit into 64
-/// bits is stored as the greatest number of 64 bits.
+/// The header of an AIGER text. A count that does not fit into 64 bits is the greatest number of 64 bits.
 #[derive(Clone, Copy)]
 pub struct Header {
-    /// M in the header, the greatest variable of the circuit.
+    /// M, the greatest variable.
     pub most: u32,
-    /// I in the header, the number of input lines.
+    /// I, the number of input lines.
     pub inputs: u64,
-    /// L in the header, the number of latch lines.
+    /// L, of latch lines.
     pub latches: u64,
-    /// O in the header, the number of output lines.
+    /// O, of output lines.
     pub outputs: u64,
-    /// A in the header, the number of gate lines.
+    /// A, of gate lines.
     pub gates: u64,
-    /// The greatest literal, twice the greatest variable plus one, fits into 32 bits.
+    /// So that the greatest literal fits into 32 bits.
     pub ghost small: { most < 2 ^ 31 },
 }

@@ -1,4 +1,4 @@
-//! The writer of circuits as AIGER texts.
+//! The writer of AIGER texts.
 
 ghost use Rattle.std.specs.Prelude.{◌≡◌, ◌++◌, ◌∷◌, [], length, map, codes, OnOk, IfOk, Ok};
 ghost use Rattle.ps_circuit.specs.Texts.{ReadsCircuit};
@@ -12,8 +12,7 @@ use crate::parts::{Gate, Latch};
 use ps_text::numbers::write_number;
 use std::alloc::{AllocError, Global};
 
-/// Writes a circuit as an AIGER text (AIGER 1.9, ASCII format): the header, the lines of the inputs, latches, outputs
-/// and gates, and a symbol table of the names. Fails if out of memory.
+/// The text of a circuit (AIGER 1.9, ASCII format), with a symbol table. Fails if out of memory.
 pub fn write(alloc: Global, circuit: &Circuit) -> Result<Vec<u8>, AllocError>
     ensures bytes { IfOk result (λ bytes. bytes.items ≡ text_of circuit.now) }
     ensures read_again { IfOk result (λ bytes. ReadsCircuit bytes.items (Ok circuit.now)) }
@@ -90,7 +89,7 @@ fn write_gates(out: &mut Vec<u8>, gates: &[Gate]) -> Result<(), AllocError>
     Ok(())
 }
 
-/// Writes a line of the symbol table for each input, latch or output that has a name.
+/// Writes the line of each name.
 fn write_symbols(out: &mut Vec<u8>, letter: u8, names: &[Option<Vec<u8>>]) -> Result<(), AllocError>
     ensures { OnOk result (out.new.items ≡ out.old.items ++ symbol_lines letter 0 (map name_bytes names.now)) }
 {
@@ -118,7 +117,7 @@ fn write_symbol(
     Ok(())
 }
 
-/// Writes a line of numbers, separated by single spaces.
+/// Writes a line of numbers.
 fn write_line(out: &mut Vec<u8>, first: Literal, others: &[u64]) -> Result<(), AllocError>
     ensures { OnOk result (out.new.items ≡ out.old.items ++ line first others.now) }
 {
