@@ -1,4 +1,4 @@
-//! Computes a circuit's outputs and next latches as Boolean functions of its inputs.
+//! A circuit's outputs and next latches as Boolean functions (truths) of its inputs.
 
 ghost use Rattle.std.specs.Prelude.{◌≡◌, ◌<◌, length, All, IfOk};
 ghost use Rattle.ps_diagram.specs.Table.{Keeps};
@@ -15,17 +15,16 @@ use ps_simulate::Wire;
 use std::alloc::{AllocError, Global};
 use std::marker::Model;
 
-/// The outputs and the next latches of a circuit whose latches have given values, as Boolean functions of the inputs.
+/// The outputs and next latches of a circuit at given latches.
 #[derive(Drop)]
 pub struct Outcome {
-    /// Each output, as a Boolean function of the inputs.
+    /// Each output.
     pub outputs: Vec<Truth>,
-    /// The next value of each latch, as a Boolean function of the inputs.
+    /// The next value of each latch.
     pub nexts: Vec<Truth>,
 }
 
-/// Computes the outputs and the next latches of a circuit at given latches, for all values of the inputs at the same
-/// time.
+/// Computes them for all inputs at the same time.
 #[derive(Drop)]
 pub struct Evaluator<'a> {
     alloc: Global,
@@ -47,7 +46,7 @@ impl<'a> Model for Evaluator<'a> {
 }
 
 impl<'a> Evaluator<'a> {
-    /// An evaluator for the circuit. Fails if memory runs out.
+    /// An evaluator of the circuit. Fails if memory runs out.
     pub fn new(alloc: Global, circuit: &'a Circuit) -> Result<Self, AllocError>
         ensures { IfOk result (λ evaluator. evaluator ≡ circuit.now) }
     {
@@ -61,8 +60,8 @@ impl<'a> Evaluator<'a> {
         })
     }
 
-    /// The outputs and the next latches as Boolean functions of the inputs, if the latches have the given values. Each
-    /// input has the value of its proposition in the letter. Fails if memory runs out.
+    /// The outputs and the next latches at the given latches; each input has the value of its proposition in the
+    /// letter. Fails if memory runs out.
     pub fn at(
         &mut self,
         propositions: &[u32],
@@ -90,7 +89,7 @@ impl<'a> Evaluator<'a> {
     }
 }
 
-/// Computes the Boolean functions of the given literals.
+/// The functions of literals.
 fn truths_of(
     alloc: Global,
     site: Site,

@@ -10,11 +10,10 @@ use thiserror::Error;
 /// Why there is no product.
 #[derive(Clone, Copy, Debug, PartialEq, Eq, Error)]
 pub enum ProductFault {
-    /// The circuit's input and output symbols are not exactly the propositions that a circuit of its role (controller
-    /// or environment) must read and set, each once.
+    /// The circuit's input and output symbols are not the propositions that its role must read and set, each once.
     #[error("the symbols are not the names of the propositions")]
     Symbols,
-    /// The circuit's player moves first, but at some latches that a trace reaches, the outputs depend on the inputs.
+    /// The circuit's player moves first, but at some latches that a trace reaches, an output depends on the inputs.
     #[error("an output depends on inputs that come later")]
     Timing,
     /// Memory ran out.
@@ -25,7 +24,7 @@ pub enum ProductFault {
 impl ProductFault {
     ghost use Rattle.ps_product.specs.ProductFaultNames.{fault_number, fault_name};
 
-    /// The fault's number in psyn's list of faults.
+    /// Its number in psyn's list of faults.
     pub fn number(self) -> u8
         ensures { result ≡ fault_number self }
     {
@@ -36,7 +35,7 @@ impl ProductFault {
         }
     }
 
-    /// The fault's name.
+    /// Its name there.
     pub fn name(self) -> &'static str
         ensures { result.now ≡ fault_name self }
     {

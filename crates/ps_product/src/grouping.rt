@@ -1,4 +1,4 @@
-//! Refines a diagram so that its leaves also distinguish the values of given Boolean functions (truths).
+//! Splits the leaves of a diagram by the values of truths.
 
 ghost use Rattle.std.specs.Prelude.{All, IsTrue, [], ◌∷◌};
 ghost use Rattle.ps_product.specs.Groups.{Groups, IsWhole};
@@ -10,8 +10,7 @@ use indexmap::IndexSet;
 use ps_diagram::{Node, Store};
 use std::alloc::{AllocError, Global};
 
-/// A node that has the same leaf at two letters exactly if `node` has the same leaf at both, and each function in
-/// `truths` has the same value at both.
+/// A node with the same leaf at two letters exactly if `node` has the same leaf at both, and each truth the same value.
 pub fn grouped(
     alloc: Global,
     store: &mut Store,
@@ -31,8 +30,7 @@ pub fn grouped(
     Ok(made)
 }
 
-/// Whether a function in `before` is the given function or its negation: at two letters at which each function in
-/// `before` has the same value, so has the given function.
+/// Whether the values in `before` decide that of `truth`, because one of them is this function or its negation.
 fn is_told_apart(store: &Store, before: &[Truth], truth: &Truth) -> bool
     requires before { All (IsTruth store.now) before.now }
     requires truth { IsTruth store.now truth.now }
@@ -46,8 +44,7 @@ fn is_told_apart(store: &Store, before: &[Truth], truth: &Truth) -> bool
     false
 }
 
-/// Whether two functions that are not constant have the same diagram, so that they are equal or one is the negation of
-/// the other.
+/// Whether two functions that are not constant have the same diagram.
 fn is_same_or_negated(store: &Store, first: Truth, second: Truth) -> bool
     requires first { IsTruth store.now first }
     requires second { IsTruth store.now second }
@@ -62,7 +59,7 @@ fn is_same_or_negated(store: &Store, first: Truth, second: Truth) -> bool
     store.same(one, other)
 }
 
-/// Like `grouped`, but for a single Boolean function.
+/// As `grouped`, for one function.
 fn split_by(alloc: Global, store: &mut Store, node: Node, truth: Truth) -> Result<Node, AllocError>
     requires { CanSplit store.old node truth }
     ensures { Groups store.old store.new node (truth ∷ []) result }

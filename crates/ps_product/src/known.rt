@@ -1,4 +1,4 @@
-//! A table of a circuit's variables that have been evaluated, as Boolean functions of the inputs.
+//! The variables that have been evaluated.
 
 ghost use Rattle.std.specs.Prelude.{◌≡◌, ℕ, ◌<◌, length, slice_index_or, slice_set, IfOk, None, Some};
 ghost use Rattle.ps_product.specs.Inner.Knowing.{IsForgotten};
@@ -7,22 +7,21 @@ use crate::truth::Truth;
 use std::alloc::{AllocError, Global};
 use std::marker::Model;
 
-/// An entry of the table: a Boolean function (truth) with a stamp. The entry is valid if the table's current stamp
-/// equals its stamp.
+/// A truth, which is valid if its stamp is the table's.
 #[derive(Clone, Copy)]
 struct Entry {
     stamp: u32,
     truth: Truth,
 }
 
-/// An entry that is never valid.
+/// Never valid.
 const FORGOTTEN: Entry = Entry {
     stamp: 0,
     truth: Truth::Never,
 };
 
-/// For the place (index) of each variable, the variable as a Boolean function of the inputs, if it has been evaluated.
-/// A new stamp makes the table forget all entries in constant time.
+/// The truth of each variable, by its index (place), if it has been computed. A new stamp makes the table forget all
+/// entries in constant time.
 #[derive(Drop)]
 pub(crate) struct Known {
     entries: Vec<Entry>,
@@ -42,7 +41,7 @@ impl Model for Known {
 }
 
 impl Known {
-    /// A table for `places` variables, none of which has been evaluated.
+    /// A table without valid entries.
     pub fn new(alloc: Global, places: usize) -> Result<Self, AllocError>
         ensures size { IfOk result (λ known. length known ≡ places) }
         ensures none { IfOk result IsForgotten }
@@ -51,7 +50,7 @@ impl Known {
         Ok(Known { entries, stamp: 1 })
     }
 
-    /// The Boolean function of the variable with the index `place`, if it has been computed.
+    /// The truth of a variable, if it has been computed.
     pub fn get(&self, place: u32) -> Option<Truth>
         requires { place < length self.now }
         ensures { result ≡ slice_index_or self.now place None }
@@ -64,7 +63,7 @@ impl Known {
         }
     }
 
-    /// Records the Boolean function of the variable with the index `place`.
+    /// Records the truth of a variable.
     pub fn put(&mut self, place: u32, truth: Truth)
         requires { place < length self.old }
         ensures { self.new ≡ slice_set self.old place (Some truth) }
@@ -73,7 +72,7 @@ impl Known {
         self.entries[place as usize] = Entry { stamp, truth };
     }
 
-    /// Makes the table forget all its entries.
+    /// Forgets all entries.
     pub fn forget(&mut self)
         ensures size { length self.new ≡ length self.old }
         ensures none { IsForgotten self.new }

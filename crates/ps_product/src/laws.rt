@@ -1,4 +1,4 @@
-//! What the computed functions of outputs and next latches say about the circuit's steps.
+//! A law about computed functions and the circuit's steps.
 
 ghost use Rattle.std.specs.Prelude.{◌≡◌, ℕ, ◌^◌, ◌<◌, Bool, List, length};
 ghost use Rattle.ps_circuit.specs.Circuits.{CircuitData, IsCircuit};
@@ -9,8 +9,7 @@ ghost use Rattle.ps_product.specs.declared.truth.Truth.{Truth};
 
 use ps_simulate::circuit_has_one_values;
 
-/// The outputs and next latches in the circuit's only step at a letter are the values of the computed functions at this
-/// letter.
+/// At each letter, the computed functions have the values of the outputs and next latches in the circuit's only step.
 pub fn outcome_is_the_step()
     ensures there { (c : CircuitData) (propositions : List ℕ) (latches : List Bool) (t : Table)
         (outputs nexts : List Truth) (letter : ℕ) → IsCircuit c → length propositions ≡ length c.inputs →

@@ -1,4 +1,4 @@
-//! A circuit whose literals refer to variables by consecutive numbers, the places (indices) of the variables.
+//! A circuit whose variables have consecutive numbers, their indices (places).
 
 ghost use Rattle.std.specs.Prelude.{◌≡◌, ℕ, ◌<◌, length, map, IfOk, MatchOption};
 ghost use Rattle.ps_circuit.specs.Circuits.{CircuitData, IsCircuit};
@@ -10,16 +10,13 @@ use ps_simulate::{Places, Wire, next_wires, output_wires};
 use std::alloc::{AllocError, Global};
 use std::marker::Model;
 
-/// The two literals that a gate reads, in the order of their variables' places (indices).
+/// What a gate reads, in the order of the variables' places.
 #[derive(Clone, Copy)]
 pub(crate) struct Sides {
-    /// The first literal.
     pub first: Wire,
-    /// The second literal.
     pub second: Wire,
 }
 
-/// Two literals, in the order of their variables' places (indices).
 fn in_order(one: Wire, other: Wire) -> Sides
     ensures { result ≡ in_order one other }
 {
@@ -36,8 +33,7 @@ fn in_order(one: Wire, other: Wire) -> Sides
     }
 }
 
-/// A circuit in which each literal refers to its variable by a place: an index of the circuit's variables. The constant
-/// has the place (index) 0, and then come the inputs, the latches and the gates.
+/// A circuit with places for variables: the constant first, then the inputs, the latches and the gates.
 #[derive(Drop)]
 pub(crate) struct Net<'a> {
     circuit: &'a Circuit,
@@ -59,7 +55,7 @@ impl<'a> Model for Net<'a> {
 }
 
 impl<'a> Net<'a> {
-    /// The circuit, with literals that refer to variables by their places (indices).
+    /// The circuit with its places.
     pub fn new(alloc: Global, circuit: &'a Circuit) -> Result<Self, AllocError>
         ensures { IfOk result (λ net. net ≡ circuit.now) }
     {
@@ -67,7 +63,7 @@ impl<'a> Net<'a> {
         Net::by_places(alloc, &places)
     }
 
-    /// The circuit, with literals that refer to variables by the given places (indices).
+    /// The circuit with these places.
     fn by_places(alloc: Global, places: &Places<'a>) -> Result<Self, AllocError>
         ensures { IfOk result (λ net. net ≡ places.now) }
     {
@@ -92,15 +88,14 @@ impl<'a> Net<'a> {
         self.circuit
     }
 
-    /// The number of the circuit's variables, each of which has a place (index).
+    /// How many variables it has.
     pub fn size(&self) -> usize
         ensures { result ≡ length (variables self.now) }
     {
         self.front + self.gates.len()
     }
 
-    /// The literals that a gate reads, given the place (index) of the gate; `None` if the variable with this index is
-    /// not a gate.
+    /// What the gate at a place reads; `None` if no gate is there.
     pub fn gate(&self, place: u32) -> Option<Sides>
         requires { place < length (variables self.now) }
         ensures { MatchOption result (place < front_of self.now) (λ sides. IsGateAt self.now place sides) }
@@ -128,7 +123,7 @@ impl<'a> Net<'a> {
     }
 }
 
-/// The literals that each gate reads.
+/// What each gate reads.
 fn gate_sides(alloc: Global, places: &Places) -> Result<Vec<Sides>, AllocError>
     ensures { IfOk result (λ sides. sides.items ≡ map (sides_of places.now) places.now.gates) }
 {

@@ -1,4 +1,4 @@
-//! Decision diagrams of Boolean functions (truths), and the values of these functions at a letter.
+//! Diagrams of truths, and their values at a letter.
 
 ghost use Rattle.std.specs.Prelude.{◌≡◌, ◌≢◌, ◌+◌, ◌^◌, ◌<◌, ◌≤◌, ℕ, All, IfNone, IfOk, IfSome, is_some, length};
 ghost use Rattle.std.specs.Prelude.{slice_index};
@@ -12,7 +12,7 @@ use crate::truth::Truth;
 use ps_diagram::{Node, Store};
 use std::alloc::{AllocError, Global};
 
-/// The decision diagram of a Boolean function (truth): it has a leaf at the letters at which the function is true.
+/// The diagram with a leaf where the function is true.
 fn node_of(store: &mut Store, truth: Truth) -> Result<Node, AllocError>
     requires { IsTruth store.old truth }
     ensures { MakesNode store.old store.new result (λ node. (letter : ℕ) →
@@ -31,8 +31,7 @@ fn node_of(store: &mut Store, truth: Truth) -> Result<Node, AllocError>
     }
 }
 
-/// For each proposition, a diagram of its value as a function of the inputs. The diagram of an output's proposition is
-/// that of the output's function; for any other proposition, it is the diagram of the proposition itself.
+/// For each proposition, a diagram over the inputs: that of the output's function if it is one, and else its own.
 pub fn nodes_of(
     alloc: Global,
     store: &mut Store,
@@ -57,7 +56,7 @@ pub fn nodes_of(
     Ok(nodes)
 }
 
-/// The index of a proposition in a list, if the list contains it.
+/// The index of a proposition in a list.
 fn place_in(list: &[u32], p: u32) -> Option<usize>
     ensures some { IfSome result (λ k. (k < length list.now) × (slice_index list.now k ≡ p)) }
     ensures none { IfNone result ((k : ℕ) → k < length list.now → slice_index list.now k ≢ p) }
@@ -70,8 +69,7 @@ fn place_in(list: &[u32], p: u32) -> Option<usize>
     None
 }
 
-/// The letter in which each proposition p has the value of the diagram at the index p: p is true exactly if this
-/// diagram has a leaf at the given letter.
+/// The letter of the values that the propositions' diagrams have at the given one: true where they have a leaf.
 pub(crate) fn letter_at(store: &Store, nodes: &[Node], letter: u64) -> u64
     requires few { length nodes.now ≤ 64 }
     requires held { All (IsNode store.now) nodes.now }
@@ -85,7 +83,7 @@ pub(crate) fn letter_at(store: &Store, nodes: &[Node], letter: u64) -> u64
     whole
 }
 
-/// Adds the bit of the proposition p to a letter over the p propositions before it.
+/// The letter with the bit of p after those of the propositions before it.
 fn with_bit(letter: u64, p: usize, bit: bool) -> u64
     requires named { p < 64 }
     requires few { letter < 2 ^ p }
@@ -96,7 +94,7 @@ fn with_bit(letter: u64, p: usize, bit: bool) -> u64
     if bit { letter + (1 << p) } else { letter }
 }
 
-/// The values of a list of Boolean functions (truths) at a letter.
+/// The values of truths at a letter.
 pub fn bits_of(
     alloc: Global,
     store: &Store,
@@ -113,7 +111,6 @@ pub fn bits_of(
     Ok(bits)
 }
 
-/// The value of a Boolean function (truth) at a letter.
 fn holds(store: &Store, truth: Truth, letter: u64) -> bool
     requires { IsTruth store.now truth }
     ensures { result ≡ truth_at store.now truth letter }

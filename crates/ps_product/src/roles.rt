@@ -1,4 +1,4 @@
-//! Assigns propositions to the inputs and outputs of a circuit.
+//! The propositions of inputs and outputs.
 
 ghost use Rattle.std.specs.Prelude.{◌≡◌, ◌<◌, ◌≤◌, ℕ, false, true, IfNone, IfOk, IfSome, length, map};
 ghost use Rattle.std.specs.Option.{option_copied};
@@ -13,17 +13,16 @@ use ps_circuit::Circuit;
 use ps_simulate::{Role, input_symbols, is_in_list, output_symbols, proposition_of};
 use std::alloc::{AllocError, Global};
 
-/// The propositions that a circuit's inputs and outputs stand for.
+/// The propositions for which a circuit's inputs and outputs stand.
 #[derive(Drop)]
 pub struct Roles {
-    /// The proposition of each input.
+    /// That of each input.
     pub inputs: Vec<u32>,
-    /// The proposition of each output.
+    /// That of each output.
     pub outputs: Vec<u32>,
 }
 
-/// Finds the propositions of a circuit's inputs and outputs; `None` if the circuit's symbols are not those that a
-/// controller or an environment, as `role` states, must have. Fails if memory runs out.
+/// As `roles_for`, by the names of an automaton.
 pub(crate) fn roles_of(
     alloc: Global,
     circuit: &Circuit,
@@ -40,9 +39,8 @@ pub(crate) fn roles_of(
     roles_for(alloc, circuit, names, automaton.controllable(), role)
 }
 
-/// Finds the propositions of a circuit's inputs and outputs, given the names of all propositions, and the numbers of the
-/// controllable ones. The result is `None` if the circuit's symbols are not those that a controller or an environment,
-/// as `role` states, must have. Fails if memory runs out.
+/// The roles of a circuit by the names of all propositions and the controllable ones; `None` if its symbols are not
+/// those of a controller or an environment, as `role` says. Fails if memory runs out.
 pub fn roles_for(
     alloc: Global,
     circuit: &Circuit,
@@ -70,8 +68,8 @@ pub fn roles_for(
     Ok(Some(Roles { inputs, outputs }))
 }
 
-/// The proposition of each symbol; `None` unless the symbols name exactly the controllable propositions (or, if
-/// `wanted` is false, exactly the others), each once.
+/// The proposition of each symbol; `None` unless the symbols name exactly the controllable propositions (or, without
+/// `wanted`, the others), each once.
 fn propositions_of(
     alloc: Global,
     names: &[Vec<u8>],
@@ -105,7 +103,7 @@ fn propositions_of(
     Ok(Some(list))
 }
 
-/// Whether the list has every controllable proposition (or, if `wanted` is false, every other proposition).
+/// Whether the list has all of these.
 fn is_full(count: usize, controllable: &[u32], wanted: bool, list: &[u32]) -> bool
     ensures full { result ≡ true → (p : ℕ) → p < count → is_among p controllable.now ≡ wanted →
         is_among p list.now ≡ true }

@@ -1,4 +1,4 @@
-//! Evaluates a circuit at given latches, gate by gate.
+//! Evaluates a circuit at given latches.
 
 ghost use Rattle.std.specs.Prelude.{◌≡◌, ◌<◌, length, slice_index_or, IfOk, IsSome, None, OnOk};
 ghost use Rattle.ps_diagram.specs.Table.{Keeps};
@@ -14,17 +14,14 @@ use std::alloc::AllocError;
 /// A circuit with given latches, and a proposition for each input.
 #[derive(Clone, Copy)]
 pub(crate) struct Site<'s, 'c> {
-    /// The circuit.
     pub net: &'s Net<'c>,
     /// The proposition of each input.
     pub propositions: &'s [u32],
-    /// The value of each latch.
     pub latches: &'s [bool],
 }
 
 impl<'s, 'c> Site<'s, 'c> {
-    /// Computes the variable with the index `place` as a Boolean function of the inputs, after the gates on which the
-    /// variable depends.
+    /// Computes the truth of a variable, after the gates on which it depends.
     pub fn settle(
         self,
         known: &mut Known,
@@ -57,8 +54,7 @@ impl<'s, 'c> Site<'s, 'c> {
         }
     }
 
-    /// Makes one step in the evaluation of a variable that has not been evaluated. Either the variable is evaluated, or
-    /// the result is the index of a variable that must be evaluated first.
+    /// Computes the truth of a variable, or returns the index of one that must come first.
     fn step(
         self,
         known: &mut Known,
@@ -91,7 +87,7 @@ impl<'s, 'c> Site<'s, 'c> {
         Ok(None)
     }
 
-    /// The Boolean function of a variable that is the constant, an input or a latch.
+    /// The truth of the constant, an input or a latch.
     fn given(self, truths: &mut Truths, place: u32) -> Result<Truth, AllocError>
         requires site { IsSite self truths.old }
         requires front { place < front_of self.net.now }

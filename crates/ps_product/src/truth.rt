@@ -11,24 +11,24 @@ use ps_simulate::Wire;
 use std::alloc::AllocError;
 use std::marker::Model;
 
-/// A truth: a Boolean function of letters.
+/// A Boolean function of letters.
 #[derive(Debug, Clone, Copy)]
 pub enum Truth {
-    /// The function that is true at no letter.
+    /// True at no letter.
     Never,
-    /// The function that is true at every letter.
+    /// True at every letter.
     Always,
-    /// A function that is not constant.
+    /// Not constant.
     Sometimes {
-        /// Whether the node is that of the function's negation.
+        /// Whether the node is the negation's.
         is_negated: bool,
-        /// The diagram of the function, or of its negation. It has a leaf where that one is true.
+        /// The diagram of the function, or of its negation, with a leaf where that is true.
         node: Node,
     },
 }
 
 impl Truth {
-    /// The constant function that has the given value at every letter.
+    /// The same value at every letter.
     pub fn constant(bit: bool) -> Self
         ensures truth { (table : Table) (letter : ℕ) → truth_at table result letter ≡ bit }
         ensures is_truth { (table : Table) → IsTruth table result }
@@ -36,7 +36,7 @@ impl Truth {
         if bit { Truth::Always } else { Truth::Never }
     }
 
-    /// The negation of the function.
+    /// The negation.
     pub fn negated(self) -> Self
         ensures truth { (table : Table) (letter : ℕ) → truth_at table result letter ≡ not (truth_at table self letter) }
         ensures is_truth { (table : Table) → IsTruth table self → IsTruth table result }
@@ -51,7 +51,7 @@ impl Truth {
         }
     }
 
-    /// The function of a literal: the given function of its variable, negated if the literal is negated.
+    /// The truth of a literal, by that of its variable.
     pub(crate) fn along(self, wire: Wire) -> Self
         ensures truth { (table : Table) (letter : ℕ) →
             truth_at table result letter ≡ bit_by_wire wire (truth_at table self letter) }
@@ -65,8 +65,7 @@ impl Truth {
     }
 }
 
-/// Makes Boolean functions (truths) of the letters over some propositions. A call that makes a function fails if memory
-/// runs out.
+/// Makes truths of the letters over some propositions. Calls that make one fail if memory runs out.
 #[derive(Drop)]
 pub struct Truths {
     store: Store,
@@ -86,7 +85,7 @@ impl Model for Truths {
 }
 
 impl Truths {
-    /// Creates a maker of Boolean functions, whose diagrams are added to a store.
+    /// A maker, whose diagrams are added to the store.
     pub fn new(mut store: Store) -> Result<Self, AllocError>
         ensures { IfOk result (λ truths. truths.propositions ≡ store.propositions) }
     {
@@ -95,14 +94,14 @@ impl Truths {
         Ok(Truths { store, none, one })
     }
 
-    /// Returns the store of the functions' decision diagrams, and frees the other fields.
+    /// The store with the diagrams.
     pub fn into_store(self) -> Store
         ensures { result ≡ self }
     {
         self.store
     }
 
-    /// The function that is true at the letters in which the proposition is true.
+    /// True at letters at which the proposition is.
     pub fn proposition(&mut self, proposition: u32) -> Result<Truth, AllocError>
         requires named { proposition < self.old.propositions }
         ensures { MakesTruth self.old self.new result (λ letter. is_in proposition letter) }
@@ -111,7 +110,7 @@ impl Truths {
         Ok(self.truth_of(node, false))
     }
 
-    /// The conjunction of two Boolean functions.
+    /// The conjunction.
     pub fn both(&mut self, first: Truth, second: Truth) -> Result<Truth, AllocError>
         requires first { IsTruth self.old first }
         requires second { IsTruth self.old second }
@@ -132,8 +131,7 @@ impl Truths {
         }
     }
 
-    /// The conjunction of two functions that are not constant, each given by a diagram and whether this is the diagram
-    /// of the function's negation.
+    /// The conjunction of two functions that are not constant.
     fn both_varying(
         &mut self,
         one: Node,
@@ -147,8 +145,8 @@ impl Truths {
             (λ letter. with_sign one_negated (is_some (leaf_of self.old one letter)) &&
             with_sign other_negated (is_some (leaf_of self.old other letter))) }
     {
-        // where `one` is false, so is the conjunction, and `rest` has the leaf of a function whose diagram is negated
-        // as `other` is
+        // where `one` is false, so is the conjunction; a diagram that is negated as `other` is has the leaf of `rest`
+        // there
         let rest = if other_negated { self.one } else { self.none };
         let (high, low) = if one_negated {
             (rest, other)
@@ -159,8 +157,7 @@ impl Truths {
         Ok(self.truth_of(node, other_negated))
     }
 
-    /// The Boolean function of a diagram in which each leaf is 1: it is true at the letters that have a leaf, or, if
-    /// `is_negated`, at the others.
+    /// The truth of a diagram whose leaves are all 1.
     fn truth_of(&self, node: Node, is_negated: bool) -> Truth
         requires held { IsNode self.now node }
         requires leaves { (letter : ℕ) → IsOneOrNone (leaf_of self.now node letter) }
