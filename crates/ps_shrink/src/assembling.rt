@@ -1,4 +1,4 @@
-//! The circuit with the gates of a builder, and with the names of another circuit.
+//! The circuit of a builder's gates, with another circuit's names.
 
 ghost use Rattle.std.specs.Prelude.{◌≡◌, ◌+◌, ◌*◌, ◌^◌, ◌≤◌, All, IfOk, None, length, map, replicate};
 ghost use Rattle.std.specs.List.{range_with_len};
@@ -13,17 +13,15 @@ use ps_circuit::{Builder, Circuit, Gate, Latch, Literal, Parts};
 use ps_simulate::{input_symbols, output_symbols};
 use std::alloc::{AllocError, Global};
 
-/// A latch: the literal of its next value, and its first value.
+/// A latch: its next value and its first.
 #[derive(Clone, Copy)]
 pub(crate) struct Cell {
-    /// The literal of the next value.
     pub next: Literal,
-    /// The value in the first step.
     pub reset: bool,
 }
 
-/// The circuit with the gates of a builder, and with the inputs and the output names of the circuit `named`. The
-/// builder's given variables are those of the inputs and of the latches, in this order. Fails if out of memory.
+/// The circuit of a builder's gates, with the inputs and output names of `named`. The builder's given variables are the
+/// inputs and then the latches.
 pub(crate) fn assembled(
     alloc: Global,
     named: &Circuit,
@@ -41,7 +39,7 @@ pub(crate) fn assembled(
     Circuit::in_order(alloc, parts)
 }
 
-/// The parts of that circuit.
+/// Its parts.
 fn parts_of(
     alloc: Global,
     named: &Circuit,
@@ -68,7 +66,7 @@ fn parts_of(
     })
 }
 
-/// The literals of `count` variables from variable `first` on.
+/// The literals of `count` variables from `first` on.
 fn literals_from(alloc: Global, first: u32, count: u32) -> Result<Vec<Literal>, AllocError>
     requires { first + count ≤ 2 ^ 31 }
     ensures { IfOk result (λ literals. literals.items ≡ map (λ v. 2 * v) (range_with_len first count)) }
@@ -112,7 +110,6 @@ fn gates_of(alloc: Global, builder: &Builder) -> Result<Vec<Gate>, AllocError>
     Ok(gates)
 }
 
-/// The names of a circuit's inputs.
 fn input_names(alloc: Global, named: &Circuit) -> Result<Vec<Option<Vec<u8>>>, AllocError>
     ensures { IfOk result (λ names. map name_bytes names.items ≡ named.now.input_names) }
 {
@@ -120,7 +117,6 @@ fn input_names(alloc: Global, named: &Circuit) -> Result<Vec<Option<Vec<u8>>>, A
     copies(alloc, &symbols)
 }
 
-/// The names of a circuit's outputs.
 fn output_names(alloc: Global, named: &Circuit) -> Result<Vec<Option<Vec<u8>>>, AllocError>
     ensures { IfOk result (λ names. map name_bytes names.items ≡ named.now.output_names) }
 {
@@ -128,7 +124,6 @@ fn output_names(alloc: Global, named: &Circuit) -> Result<Vec<Option<Vec<u8>>>, 
     copies(alloc, &symbols)
 }
 
-/// Copies of names.
 fn copies(alloc: Global, names: &[Option<&[u8]>]) -> Result<Vec<Option<Vec<u8>>>, AllocError>
     ensures { IfOk result (λ copies. map name_bytes copies.items ≡ map option_copied names.now) }
 {
@@ -139,7 +134,6 @@ fn copies(alloc: Global, names: &[Option<&[u8]>]) -> Result<Vec<Option<Vec<u8>>>
     Ok(copies)
 }
 
-/// A copy of a name, if there is one.
 fn copy_of(alloc: Global, name: Option<&[u8]>) -> Result<Option<Vec<u8>>, AllocError>
     ensures { IfOk result (λ copy. name_bytes copy ≡ option_copied name.entry) }
 {
@@ -149,7 +143,7 @@ fn copy_of(alloc: Global, name: Option<&[u8]>) -> Result<Option<Vec<u8>>, AllocE
     }
 }
 
-/// A list of `count` entries `None`: the latches have no names.
+/// The latches have no names.
 fn no_names(alloc: Global, count: usize) -> Result<Vec<Option<Vec<u8>>>, AllocError>
     ensures many { IfOk result (λ names. length names.items ≡ count) }
     ensures none { IfOk result (λ names. map name_bytes names.items ≡ replicate count None) }

@@ -5,23 +5,22 @@ use crate::sketch::Signal;
 /// What is replaced in a circuit.
 #[derive(Clone, Copy)]
 pub(crate) enum Site {
-    /// The signal of the output with this index.
+    /// The output with this index.
     Output(usize),
     /// The next value of the latch with this index.
     Next(usize),
-    /// The latch or the gate with this place.
+    /// The latch or the gate at this place.
     Variable(usize),
 }
 
-/// A change of a circuit: a site takes the conjunction of two signals, or the negation of this conjunction. If the
-/// signals depend on the variable that is replaced, it counts as false in them.
+/// A site takes the conjunction of two signals, or its negation. Where the signals depend on the variable that is
+/// replaced, it counts as false.
 #[derive(Clone, Copy)]
 pub(crate) struct Change {
-    /// What is replaced.
     pub site: Site,
-    /// The first signal of the conjunction.
+    /// The first signal.
     pub first: Signal,
-    /// The second signal of the conjunction.
+    /// The second signal.
     pub second: Signal,
     /// Whether the conjunction is negated.
     pub is_negated: bool,

@@ -1,4 +1,4 @@
-//! The literals that stand for the variables of a circuit in another one.
+//! The literals that stand for a circuit's variables in another one.
 
 ghost use Rattle.std.specs.Prelude.{◌≡◌, ◌^◌, ◌<◌, IfOk, OnOk};
 ghost use Rattle.ps_circuit.specs.Building.{Extends, IsHeld};
@@ -8,7 +8,7 @@ use ps_circuit::{Builder, EncodeFault, Literal};
 use std::alloc::{AllocError, Global};
 use std::marker::Model;
 
-/// A builder of gates, and for each place of a circuit's variable the literal of the builder that stands for it.
+/// A builder, and its literal for each place of the circuit.
 #[derive(Drop)]
 pub(crate) struct Images {
     builder: Builder,
@@ -27,7 +27,7 @@ impl Model for Images {
 }
 
 impl Images {
-    /// A builder with `given` variables and no gates. So far, `false` stands for each variable of the circuit.
+    /// A builder over `given` variables, with `false` for each place.
     pub fn new(alloc: Global, given: u32, places: usize) -> Result<Self, AllocError>
         requires { given < 2 ^ 31 }
         ensures { IfOk result (λ images. images.given ≡ given) }
@@ -45,7 +45,7 @@ impl Images {
         &self.builder
     }
 
-    /// The literal that stands for a signal.
+    /// The literal of a signal.
     pub fn at(&self, signal: Signal) -> Literal
         ensures { IsHeld self.now result }
     {
@@ -70,7 +70,7 @@ impl Images {
         }
     }
 
-    /// The literal of the conjunction of two signals.
+    /// The conjunction of two signals.
     pub fn and(&mut self, first: Signal, second: Signal) -> Result<Literal, EncodeFault>
         ensures extends { Extends self.old self.new }
         ensures held { IfOk result (IsHeld self.new) }

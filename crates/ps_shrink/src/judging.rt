@@ -15,18 +15,15 @@ use ps_simulate::Role;
 use ps_verify::{Judgement, verified};
 use std::alloc::{AllocError, Global};
 
-/// What a circuit has to do: win for an automaton, in an order of moves and in a role.
+/// What a circuit has to win: an automaton, in an order of moves and in a role.
 #[derive(Clone, Copy)]
 pub(crate) struct Task<'a> {
-    /// The automaton.
     pub automaton: &'a Automaton,
-    /// Who moves first.
     pub order: Order,
-    /// Whether the circuit is a controller or an environment.
     pub role: Role,
 }
 
-/// Whether the circuit wins. If it loses, the stimulus on which it loses is kept. Fails if out of memory.
+/// Whether the circuit wins. If not, the stimulus on which it loses is kept.
 pub(crate) fn wins(
     alloc: Global,
     task: Task,

@@ -3,7 +3,7 @@
 use crate::sketch::{Signal, Sketch};
 use std::alloc::{AllocError, Global};
 
-/// The words of a sketch's variables in the current step.
+/// The words in the current step.
 #[derive(Drop)]
 pub(crate) struct Lanes {
     words: Vec<u64>,
@@ -11,7 +11,6 @@ pub(crate) struct Lanes {
 }
 
 impl Lanes {
-    /// Words for the variables of a sketch. Fails if out of memory.
     pub fn new(alloc: Global, sketch: &Sketch) -> Result<Self, AllocError> {
         Ok(Lanes {
             words: vec![in alloc; 0; sketch.end]?,
@@ -31,7 +30,7 @@ impl Lanes {
         }
     }
 
-    /// Sets the inputs to the bits of a letter, the same ones in each run.
+    /// Sets the inputs to a letter, the same in each run.
     pub fn read(&mut self, letter: &[bool]) {
         for (input, bit) in letter.iter().enumerate() {
             self.put(input + 1, all(*bit));
@@ -46,7 +45,7 @@ impl Lanes {
         }
     }
 
-    /// Sets the latches to their next values, once the gates are evaluated.
+    /// Sets the latches to their next values, after `evaluate`.
     pub fn advance(&mut self, sketch: &Sketch) {
         for (number, latch) in sketch.latches.iter().enumerate() {
             let next = self.word(latch.next);
@@ -79,12 +78,12 @@ impl Lanes {
     }
 }
 
-/// The word with the same value in each run.
+/// The word of a value that is the same in each run.
 pub(crate) fn all(bit: bool) -> u64 {
     if bit { u64::MAX } else { 0 }
 }
 
-/// A hash of words, after one more word.
+/// A hash, after one more word.
 pub(crate) fn mixed(hash: u64, word: u64) -> u64 {
     let product = (hash ^ word).wrapping_mul(0x9e37_79b9_7f4a_7c15);
     product ^ (product >> 29)

@@ -1,18 +1,19 @@
 //! Makes a circuit that wins smaller.
 //!
-//! [`shrunk`] first judges the circuit. If it wins, the circuit runs with drawn inputs, and all latches and gates are
-//! replaced at once by signals that were equal to them in these runs. Then small changes are tried one after another: an
-//! output, a latch's next value, a latch or a gate is replaced by another literal, or by one gate over two literals. A
-//! changed circuit takes the place of the last one if it is not larger, and if it still wins. So the result need not
-//! compute what the given circuit computes; it is only as good.
+//! [`shrunk`] first judges the circuit. If it wins, it runs with random inputs, by a fixed rule, and then latches and
+//! gates that had equal, or opposite, values in all runs become one, up to eight times. After that, small changes are
+//! tried one by one: an output, a latch's next value, a latch or a gate becomes another literal, or a gate over two
+//! literals. A changed circuit takes the last one's place if it wins, has no more latches and no more gates than the
+//! given one, and costs less (a latch counts as two gates) or, late in the search, the same. So it need not compute
+//! what the given circuit computes; it is only as good.
 //!
 //! | Call | What it gives |
 //! |---|---|
-//! | `shrunk(circuit, automaton, order, role, steps)` | a `Reduction`: a circuit that wins, or a stimulus on which it loses |
+//! | `shrunk(circuit, automaton, order, role, steps)` | a `Reduction`: a circuit that wins, or a stimulus of a loss |
 //!
-//! Which of the smaller circuits is found is not part of the contract, but depends on the arguments alone. A changed
-//! circuit first runs on stimuli on which earlier ones lost, those first that refuted a circuit last. It is judged only
-//! if it wins on all of them.
+//! Which smaller circuit is found is not promised, but depends on the arguments alone; at most `steps` changes are
+//! tried. A changed circuit first runs on up to eight stimuli on which others lost, the latest first, for up to 256
+//! laps. It is judged only if it loses on none of them.
 #![tactic(auto)]
 
 mod assembling;

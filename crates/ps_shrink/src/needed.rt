@@ -1,9 +1,9 @@
-//! The variables of a circuit on which its outputs depend.
+//! What the outputs of a circuit need.
 
 use crate::sketch::{Memory, Row, Signal, Sketch};
 use std::alloc::{AllocError, Global};
 
-/// A sketch without the gates and latches that no output needs. Fails if out of memory.
+/// A sketch without gates and latches that no output needs.
 pub(crate) fn pruned(alloc: Global, sketch: &Sketch) -> Result<Sketch, AllocError> {
     let needed = needed(alloc, sketch)?;
     Ok(Sketch {
@@ -15,7 +15,7 @@ pub(crate) fn pruned(alloc: Global, sketch: &Sketch) -> Result<Sketch, AllocErro
     })
 }
 
-/// The latches of a sketch whose places are among the given ones. Fails if out of memory.
+/// The latches at places that are marked.
 pub(crate) fn latches_among(
     alloc: Global,
     sketch: &Sketch,
@@ -30,7 +30,7 @@ pub(crate) fn latches_among(
     Ok(latches)
 }
 
-/// The gates of a sketch whose places are among the given ones. Fails if out of memory.
+/// The gates at places that are marked.
 fn gates_among(alloc: Global, sketch: &Sketch, places: &[bool]) -> Result<Vec<Row>, AllocError> {
     let mut gates = Vec::new(alloc);
     for gate in &sketch.gates {
@@ -41,8 +41,7 @@ fn gates_among(alloc: Global, sketch: &Sketch, places: &[bool]) -> Result<Vec<Ro
     Ok(gates)
 }
 
-/// For each place whether some output depends on the variable, in the same step or in a later one. Fails if out of
-/// memory.
+/// The places on which some output depends, in the same step or later.
 fn needed(alloc: Global, sketch: &Sketch) -> Result<Vec<bool>, AllocError> {
     let mut needed = vec![in alloc; false; sketch.end]?;
     for output in &sketch.outputs {
@@ -57,7 +56,7 @@ fn needed(alloc: Global, sketch: &Sketch) -> Result<Vec<bool>, AllocError> {
     Ok(needed)
 }
 
-/// Records that a signal is needed. Returns whether this is new.
+/// Records a signal, and returns whether it is new.
 fn need(needed: &mut [bool], signal: Signal) -> bool {
     if signal.place >= needed.len() || needed[signal.place] {
         return false;
@@ -66,12 +65,11 @@ fn need(needed: &mut [bool], signal: Signal) -> bool {
     true
 }
 
-/// Whether a place is one of those that the list marks.
 pub(crate) fn is_among(places: &[bool], place: usize) -> bool {
     place < places.len() && places[place]
 }
 
-/// Records that the signals which needed gates read are needed.
+/// Records what needed gates read.
 fn need_sides(sketch: &Sketch, needed: &mut [bool]) {
     for gate in sketch.gates.iter().rev() {
         if is_among(needed, gate.place) {
@@ -81,7 +79,7 @@ fn need_sides(sketch: &Sketch, needed: &mut [bool]) {
     }
 }
 
-/// Records that the next values of needed latches are needed. Returns whether this is new for some signal.
+/// Records the next values of needed latches, and returns whether one is new.
 fn need_nexts(sketch: &Sketch, needed: &mut [bool]) -> bool {
     let mut is_new = false;
     for latch in &sketch.latches {

@@ -11,7 +11,7 @@ use crate::sketch::{Memory, Signal, Sketch, rows_of};
 use ps_circuit::{Circuit, EncodeFault, Literal};
 use std::alloc::{AllocError, Global};
 
-/// The circuit of a sketch, with the names of the circuit `named`.
+/// The circuit of a sketch, with the names of `named`.
 pub(crate) fn circuit_of(
     alloc: Global,
     named: &Circuit,
@@ -24,7 +24,7 @@ pub(crate) fn circuit_of(
     Ok(made(alloc, named, sketch, &images)?)
 }
 
-/// The circuit with the gates of `images`, the latches of a sketch, and as many outputs as `named` has.
+/// The same, from its gates in `images`.
 fn made(
     alloc: Global,
     named: &Circuit,
@@ -53,7 +53,7 @@ pub(crate) fn redrawn(
     Ok(drawn)
 }
 
-/// Makes the gates of a sketch after a change. Returns the literal that the changed site takes.
+/// Makes the gates after a change, and returns what the site takes.
 fn replace(images: &mut Images, sketch: &Sketch, change: Change) -> Result<Literal, EncodeFault> {
     let Site::Variable(place) = change.site else {
         build(images, sketch, 0, usize::MAX)?;
@@ -69,14 +69,14 @@ fn replace(images: &mut Images, sketch: &Sketch, change: Change) -> Result<Liter
     Ok(by)
 }
 
-/// Makes the gates of a sketch whose places are behind a given one.
+/// Makes the gates after a place.
 fn build_behind(images: &mut Images, sketch: &Sketch, place: usize) -> Result<(), EncodeFault>
     ensures { OnOk result (Extends images.old images.new) }
 {
     build(images, sketch, place.saturating_add(1), usize::MAX)
 }
 
-/// The literal of a change's conjunction, or of its negation.
+/// A change's conjunction, or its negation.
 fn conjunction(images: &mut Images, change: Change) -> Result<Literal, EncodeFault>
     ensures extends { Extends images.old images.new }
     ensures held { IfOk result (IsHeld images.new) }
@@ -89,7 +89,7 @@ fn conjunction(images: &mut Images, change: Change) -> Result<Literal, EncodeFau
     })
 }
 
-/// The sketch with the gates of `images`.
+/// The sketch of the gates in `images`.
 pub(crate) fn drawn(
     alloc: Global,
     sketch: &Sketch,
@@ -105,7 +105,7 @@ pub(crate) fn drawn(
     })
 }
 
-/// Puts a signal at an output or at a next value.
+/// Puts a signal at an output or a next value.
 fn put_at(sketch: &mut Sketch, site: Site, by: Signal) {
     match site {
         Site::Output(number) if number < sketch.outputs.len() => {
@@ -118,7 +118,7 @@ fn put_at(sketch: &mut Sketch, site: Site, by: Signal) {
     }
 }
 
-/// The latches of a sketch but the one that a change replaces.
+/// The latches but the one that is replaced.
 fn latches_but(alloc: Global, sketch: &Sketch, site: Site) -> Result<Vec<Memory>, AllocError> {
     let mut latches = Vec::new(alloc);
     for latch in &sketch.latches {
@@ -130,7 +130,7 @@ fn latches_but(alloc: Global, sketch: &Sketch, site: Site) -> Result<Vec<Memory>
     Ok(latches)
 }
 
-/// Images over a builder that is given the inputs and the latches.
+/// Images over the inputs and the latches.
 pub(crate) fn begun(
     alloc: Global,
     inputs: usize,
@@ -151,7 +151,7 @@ pub(crate) fn begun(
     Ok(images)
 }
 
-/// Lets the variables from `first` on stand for the latches.
+/// Lets variables from `first` on stand for the latches.
 fn put_latches(images: &mut Images, first: u32, latches: &[Memory])
     requires room { first + length latches.now ≤ images.old.given + 1 }
     requires small { images.old.given < 2 ^ 31 }
@@ -162,7 +162,7 @@ fn put_latches(images: &mut Images, first: u32, latches: &[Memory])
     }
 }
 
-/// Makes the gates of a sketch whose places are from `start` on, before `end`.
+/// Makes the gates at places from `start` on, before `end`.
 fn build(images: &mut Images, sketch: &Sketch, start: usize, end: usize) -> Result<(), EncodeFault>
     ensures { OnOk result (Extends images.old images.new) }
 {
@@ -174,7 +174,7 @@ fn build(images: &mut Images, sketch: &Sketch, start: usize, end: usize) -> Resu
     Ok(())
 }
 
-/// The latches, with the literals that stand for their next values.
+/// The latches, with their next literals.
 fn cells(alloc: Global, images: &Images, latches: &[Memory]) -> Result<Vec<Cell>, AllocError>
     ensures each { IfOk result (λ cells. length cells.items ≡ length latches.now) }
     ensures held { IfOk result (λ cells. All (λ cell. IsHeld images.now cell.next) cells.items) }
@@ -189,7 +189,7 @@ fn cells(alloc: Global, images: &Images, latches: &[Memory]) -> Result<Vec<Cell>
     Ok(cells)
 }
 
-/// The literals that stand for the first `count` outputs of a sketch.
+/// The literals of the first `count` outputs.
 fn outputs(
     alloc: Global,
     images: &Images,
@@ -210,7 +210,7 @@ fn outputs(
     Ok(outputs)
 }
 
-/// The latches in terms of the builder's variables.
+/// The latches over the builder's variables.
 fn memories(alloc: Global, images: &Images, latches: &[Memory]) -> Result<Vec<Memory>, AllocError> {
     let mut memories = Vec::new(alloc);
     for latch in latches {
@@ -223,7 +223,7 @@ fn memories(alloc: Global, images: &Images, latches: &[Memory]) -> Result<Vec<Me
     Ok(memories)
 }
 
-/// The signals in terms of the builder's variables.
+/// The signals over the builder's variables.
 fn signals(alloc: Global, images: &Images, signals: &[Signal]) -> Result<Vec<Signal>, AllocError> {
     signals
         .iter()

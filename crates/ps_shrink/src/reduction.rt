@@ -1,12 +1,12 @@
-//! The result of shrinking a circuit.
+//! The result of shrinking.
 
 use ps_circuit::Circuit;
 use ps_simulate::Stimulus;
 
-/// Either a circuit that wins and is not larger than the given one, or a stimulus on which the given circuit loses.
+/// A circuit that wins and is not larger, or a stimulus on which the given one loses.
 #[derive(Drop)]
 pub enum Reduction {
-    /// The given circuit wins, and so does this one, which has at most as many latches and at most as many gates.
+    /// Both win, and this one has at most as many latches and at most as many gates.
     Wins(Circuit),
     /// The given circuit loses on this stimulus.
     Loses(Stimulus),

@@ -1,4 +1,4 @@
-//! The search for a smaller circuit that wins.
+//! The search for a smaller circuit.
 
 ghost use Rattle.std.specs.Prelude.{◌≤◌, IfErr, IfOk, IfSome, length};
 ghost use Rattle.ps_hoa.specs.Files.{FileData};
@@ -26,15 +26,13 @@ use ps_simulate::Role;
 use ps_verify::{Judgement, verified};
 use std::alloc::{AllocError, Global};
 
-/// Decides whether a circuit wins, as [`verified`] does. If it wins, the result is a circuit that wins too. It has the
-/// same inputs and outputs, at most as many latches and at most as many gates. At most `steps` changes of the circuit
-/// are tried, and fewer if it has many gates. If the circuit loses, the result is a stimulus on which it loses.
+/// Decides whether a circuit wins, as [`verified`] does. If so, the result wins too, with the same inputs and outputs,
+/// at most as many latches and at most as many gates; at most `steps` changes are tried, and fewer if there are many
+/// gates. If not, the result is a stimulus on which it loses.
 ///
-/// # Errors
-///
-/// Fails with [`ProductFault::Symbols`] if the names of the circuit's inputs and outputs are not those of its role's
-/// propositions. Fails with [`ProductFault::Timing`] if these names are right and the circuit's player moves first, but
-/// some output depends on an input, at some latch values that a trace reaches. Fails also if memory runs out.
+/// Fails with [`ProductFault::Symbols`] if the names of inputs and outputs are not those of the role's propositions;
+/// else with [`ProductFault::Timing`] if the circuit's player moves first, but some output depends on an input, at
+/// latch values that a trace reaches; or if memory runs out.
 pub fn shrunk(
     alloc: Global,
     circuit: Circuit,
@@ -61,11 +59,10 @@ pub fn shrunk(
     }
 }
 
-/// How often signals that were equal on all runs so far replace each other before single changes are tried.
+/// How often equal signals are merged before single changes are tried.
 const SWEEPS: usize = 8;
 
-/// The state of a search: how many sweeps are left, the position in the order of changes, and the stimuli on which
-/// changed circuits lost.
+/// The sweeps that are left, the position in the order of changes, and the stimuli on which circuits lost.
 #[derive(Drop)]
 struct Search {
     sweeps: usize,
@@ -73,7 +70,7 @@ struct Search {
     trials: Trials,
 }
 
-/// A circuit that wins and is not larger than the given one. At most `steps` changes are tried.
+/// A winning circuit that is not larger. At most `steps` changes are tried.
 fn smaller(alloc: Global, task: Task, circuit: Circuit, steps: u32) -> Result<Circuit, AllocError>
     requires { (file : FileData) (chain : Chain) → IsBuiltFrom file chain task.automaton.now →
         IsWinning task.order task.role file circuit }
@@ -103,7 +100,7 @@ fn smaller(alloc: Global, task: Task, circuit: Circuit, steps: u32) -> Result<Ci
     Ok(best)
 }
 
-/// Tries the next change. Returns the changed circuit if it takes the place of `best`.
+/// Tries the next change, and returns the circuit that takes the place of `best`.
 fn step(
     alloc: Global,
     task: Task,
@@ -134,7 +131,7 @@ fn step(
     Ok(Some(candidate))
 }
 
-/// The circuit after the next change, unless it costs too much or loses on a stimulus. Fails if out of memory.
+/// The circuit after the next change, unless it costs too much or loses on a stimulus.
 fn candidate(
     alloc: Global,
     task: Task,
@@ -154,7 +151,7 @@ fn candidate(
     }
 }
 
-/// The sketch after the next change, unless it costs too much or loses on a stimulus. Fails if out of memory.
+/// The same as a sketch.
 fn promising(
     alloc: Global,
     task: Task,
@@ -174,7 +171,7 @@ fn promising(
     Ok(Some(drawn))
 }
 
-/// The sketch after the next change. Fails if out of memory.
+/// The sketch after the next change.
 fn next(alloc: Global, search: &mut Search, sketch: &Sketch) -> Result<Option<Sketch>, AllocError> {
     match changed(alloc, search, sketch) {
         Ok(Some(changed)) => Ok(Some(pruned(alloc, &changed)?)),
@@ -183,7 +180,7 @@ fn next(alloc: Global, search: &mut Search, sketch: &Sketch) -> Result<Option<Sk
     }
 }
 
-/// The sketch after the next change, with gates and latches that no output needs.
+/// The same, with what no output needs.
 fn changed(
     alloc: Global,
     search: &mut Search,

@@ -4,15 +4,13 @@ ghost use Rattle.std.specs.Prelude.{◌≡◌, ◌≤◌, IsTrue, length};
 
 use ps_circuit::Circuit;
 
-/// A change of a circuit takes one step, and one more for each so many gates.
+/// A change takes one step, and one more for each so many gates.
 const GATES_A_STEP: usize = 40;
 
 /// How many latches and gates a circuit has.
 #[derive(Clone, Copy)]
 pub(crate) struct Size {
-    /// The number of latches.
     pub latches: usize,
-    /// The number of gates.
     pub gates: usize,
 }
 
@@ -28,7 +26,7 @@ impl Size {
         }
     }
 
-    /// Whether neither number is greater than in the other size.
+    /// Whether neither number is greater.
     pub fn is_within(self, other: Size) -> bool
         ensures latches { IsTrue result → self.latches ≤ other.latches }
         ensures gates { IsTrue result → self.gates ≤ other.gates }
@@ -36,7 +34,7 @@ impl Size {
         self.latches <= other.latches && self.gates <= other.gates
     }
 
-    /// How many steps a change of a circuit of this size takes.
+    /// How many steps a change takes.
     pub fn steps(self) -> usize {
         1 + self.gates / GATES_A_STEP
     }

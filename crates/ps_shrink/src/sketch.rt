@@ -1,5 +1,4 @@
-//! Circuits without names, in which each variable has a place (index): the constant has the place 0, and then come the
-//! inputs, the latches and the gates.
+//! Circuits without names, whose variables have places (indices): the constant first, then inputs, latches and gates.
 
 use crate::size::Size;
 use ps_circuit::{Builder, Circuit, Literal};
@@ -9,14 +8,12 @@ use std::alloc::{AllocError, Global};
 /// A variable by its place, negated or not.
 #[derive(Clone, Copy)]
 pub(crate) struct Signal {
-    /// The place of the variable.
     pub place: usize,
-    /// Whether the variable is negated.
     pub is_negated: bool,
 }
 
 impl Signal {
-    /// The signal that always has the given value.
+    /// Always this value.
     pub fn constant(bit: bool) -> Self {
         Signal {
             place: 0,
@@ -24,7 +21,7 @@ impl Signal {
         }
     }
 
-    /// The variable with the given place.
+    /// The variable at a place.
     pub fn positive(place: usize) -> Self {
         Signal {
             place,
@@ -32,12 +29,12 @@ impl Signal {
         }
     }
 
-    /// Whether both are the same signal.
+    /// Whether both are the same.
     pub fn is_same(self, other: Signal) -> bool {
         self.place == other.place && self.is_negated == other.is_negated
     }
 
-    /// The signal of a literal whose variable's number is its place.
+    /// A literal whose variable's number is its place.
     pub fn of_literal(literal: Literal) -> Self {
         Signal {
             place: literal.variable() as usize,
@@ -54,19 +51,15 @@ impl Signal {
     }
 }
 
-/// A gate: its own place, and the two signals that it reads.
+/// A gate: its place, and what it reads.
 #[derive(Clone, Copy)]
 pub(crate) struct Row {
-    /// The place of the gate.
     pub place: usize,
-    /// The first signal that the gate reads.
     pub first: Signal,
-    /// The second signal that the gate reads.
     pub second: Signal,
 }
 
 impl Row {
-    /// Whether both are the same gate.
     fn is_same(self, other: Row) -> bool {
         self.place == other.place
             && self.first.is_same(other.first)
@@ -74,41 +67,34 @@ impl Row {
     }
 }
 
-/// A latch: its own place, its next value, and its first value.
+/// A latch: its place, its next value, and its first.
 #[derive(Clone, Copy)]
 pub(crate) struct Memory {
-    /// The place of the latch.
     pub place: usize,
-    /// The signal of the next value.
     pub next: Signal,
-    /// The value in the first step.
     pub reset: bool,
 }
 
 impl Memory {
-    /// Whether both are the same latch.
     fn is_same(self, other: Memory) -> bool {
         self.place == other.place && self.reset == other.reset && self.next.is_same(other.next)
     }
 }
 
-/// A circuit without names. Each gate comes after the gates that it reads.
+/// A circuit without names. Each gate comes after those that it reads.
 #[derive(Drop)]
 pub(crate) struct Sketch {
     /// The number of inputs.
     pub inputs: usize,
-    /// The latches.
     pub latches: Vec<Memory>,
-    /// The gates.
     pub gates: Vec<Row>,
-    /// The signals of the outputs.
     pub outputs: Vec<Signal>,
     /// The end of the places.
     pub end: usize,
 }
 
 impl Sketch {
-    /// The sketch of a circuit. Fails if out of memory.
+    /// The sketch of a circuit.
     pub fn of(alloc: Global, circuit: &Circuit) -> Result<Self, AllocError> {
         let places = Places::new(alloc, circuit)?;
         Ok(Sketch {
@@ -120,7 +106,7 @@ impl Sketch {
         })
     }
 
-    /// Whether the latches, the gates and the outputs are the same.
+    /// Whether latches, gates and outputs are the same.
     pub fn is_same(&self, other: &Sketch) -> bool {
         let mut latches = self.latches.iter().zip(&other.latches);
         let mut gates = self.gates.iter().zip(&other.gates);
@@ -132,7 +118,7 @@ impl Sketch {
             && gates.all(|(one, two)| one.is_same(*two))
     }
 
-    /// How many latches and gates the sketch has.
+    /// Its latches and gates.
     pub fn size(&self) -> Size {
         Size {
             latches: self.latches.len(),
@@ -140,20 +126,20 @@ impl Sketch {
         }
     }
 
-    /// The number of sites that a change can replace: outputs, next values, latches and gates.
+    /// How many sites a change can replace: outputs, next values, latches and gates.
     pub fn sites(&self) -> usize {
         let latches = self.latches.len();
         (latches + latches).saturating_add(self.outputs.len() + self.gates.len())
     }
 }
 
-/// The end of the places of a circuit's variables.
+/// The end of a circuit's places.
 fn end_of(circuit: &Circuit) -> usize {
     let latches = circuit.latches().len();
     (1 + latches + circuit.gates().len()).saturating_add(circuit.inputs().len())
 }
 
-/// The latches of a circuit. Fails if out of memory.
+/// The latches of a circuit.
 fn latches_of(alloc: Global, places: &Places) -> Result<Vec<Memory>, AllocError> {
     let circuit = places.circuit();
     let first = 1 + circuit.inputs().len();
@@ -168,7 +154,7 @@ fn latches_of(alloc: Global, places: &Places) -> Result<Vec<Memory>, AllocError>
     Ok(latches)
 }
 
-/// The gates of a circuit, each after the gates that it reads. Fails if out of memory.
+/// The gates, each after those that it reads.
 fn gates_of(alloc: Global, places: &Places) -> Result<Vec<Row>, AllocError> {
     let circuit = places.circuit();
     let gates = circuit.gates();
@@ -185,7 +171,7 @@ fn gates_of(alloc: Global, places: &Places) -> Result<Vec<Row>, AllocError> {
     Ok(rows)
 }
 
-/// The signals of a circuit's outputs. Fails if out of memory.
+/// The signals of the outputs.
 fn outputs_of(alloc: Global, places: &Places) -> Result<Vec<Signal>, AllocError> {
     let wires = output_wires(alloc, places)?;
     wires
@@ -194,7 +180,7 @@ fn outputs_of(alloc: Global, places: &Places) -> Result<Vec<Signal>, AllocError>
         .collect(alloc)
 }
 
-/// The gates of a builder. Fails if out of memory.
+/// The gates of a builder.
 pub(crate) fn rows_of(alloc: Global, builder: &Builder) -> Result<Vec<Row>, AllocError> {
     let first = builder.given() as usize + 1;
     let mut rows = Vec::new(alloc);

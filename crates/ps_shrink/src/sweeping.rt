@@ -1,4 +1,4 @@
-//! Signals in place of other signals that were equal to them in some runs of a circuit.
+//! Merges signals that were equal in some runs of a circuit.
 
 ghost use Rattle.std.specs.Prelude.{◌≡◌, OnOk};
 ghost use Rattle.ps_circuit.specs.Building.{Extends};
@@ -13,8 +13,8 @@ use ps_simulate::Stimulus;
 use std::alloc::{AllocError, Global};
 use std::collections::BTreeMap;
 
-/// The sketch in which each latch and each gate is replaced by the first signal that always had the same value, or the
-/// opposite one: in 64 runs with drawn inputs, and in a run for each stimulus.
+/// The sketch in which each latch and gate becomes the first signal that always had the same value, or the opposite: in
+/// 64 runs with random inputs, and in one on each stimulus.
 pub(crate) fn swept(
     alloc: Global,
     sketch: &Sketch,
@@ -24,7 +24,7 @@ pub(crate) fn swept(
     merged(alloc, sketch, &twins)
 }
 
-/// For each place the signal that replaces the variable, if there is one. Fails if out of memory.
+/// The signal that replaces the variable at a place, if there is one.
 fn twins(
     alloc: Global,
     sketch: &Sketch,
@@ -38,7 +38,7 @@ fn twins(
     matched(alloc, sketch, &trails)
 }
 
-/// The signals that were equal in the runs so far: for each latch and gate, the first of them.
+/// The first equal signal of each latch and gate.
 fn matched(
     alloc: Global,
     sketch: &Sketch,
@@ -58,7 +58,7 @@ fn matched(
     Ok(twins)
 }
 
-/// Records which signal replaces the variable with a place. Fails if out of memory.
+/// Records what replaces the variable at a place.
 fn note(
     twins: &mut [Option<Signal>],
     seen: &mut BTreeMap<u64, Signal>,
@@ -72,7 +72,7 @@ fn note(
     Ok(())
 }
 
-/// The first signal that was equal to a variable, if it is another one. Fails if out of memory.
+/// The first signal that was equal to a variable, if it is another.
 fn first_alike(
     seen: &mut BTreeMap<u64, Signal>,
     trails: &Trails,
@@ -95,7 +95,7 @@ fn first_alike(
     Ok(None)
 }
 
-/// The sketch in which the twins replace variables.
+/// The sketch with twins for variables.
 fn merged(alloc: Global, sketch: &Sketch, twins: &[Option<Signal>]) -> Result<Sketch, EncodeFault> {
     let alone: Vec<bool> = twins.iter().map(|twin| twin.is_none()).collect(alloc)?;
     let latches = latches_among(alloc, sketch, &alone)?;
@@ -107,7 +107,7 @@ fn merged(alloc: Global, sketch: &Sketch, twins: &[Option<Signal>]) -> Result<Sk
     Ok(drawn(alloc, sketch, &latches, &images)?)
 }
 
-/// Makes the gates that have no twin.
+/// Makes the gates without a twin.
 fn build(images: &mut Images, gates: &[Row], twins: &[Option<Signal>]) -> Result<(), EncodeFault>
     ensures { OnOk result (Extends images.old images.new) }
 {
@@ -119,7 +119,7 @@ fn build(images: &mut Images, gates: &[Row], twins: &[Option<Signal>]) -> Result
     Ok(())
 }
 
-/// Lets the literal of a variable's twin stand for the variable. Returns whether there is a twin.
+/// Lets a variable's twin stand for it, if there is one.
 fn put_twin(images: &mut Images, twins: &[Option<Signal>], place: usize) -> bool
     ensures { images.new ≡ images.old }
 {

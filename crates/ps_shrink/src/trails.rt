@@ -5,21 +5,19 @@ use crate::sketch::Sketch;
 use ps_simulate::Stimulus;
 use std::alloc::{AllocError, Global};
 
-/// How many letters a run with drawn inputs has.
+/// How many letters a random run has.
 const LETTERS: usize = 64;
 
-/// A hash of a variable's words, or of their complements if the first word has the bit 0. So a variable and its
-/// negation have the same hash.
+/// A hash of a variable's words, or of their complements if the first has the bit 0: that of its negation is the same.
 #[derive(Clone, Copy)]
 pub(crate) struct Trail {
-    /// The hash.
     pub hash: u64,
-    /// Whether it is the hash of the complements.
+    /// Whether it is of the complements.
     pub is_turned: bool,
 }
 
 impl Trail {
-    /// The trail of a variable without words.
+    /// No words.
     const NOTHING: Trail = Trail {
         hash: 0,
         is_turned: false,
@@ -36,7 +34,7 @@ pub(crate) struct Trails {
 }
 
 impl Trails {
-    /// The trails before the first run. Fails if out of memory.
+    /// The trails before the first run.
     pub fn new(alloc: Global, sketch: &Sketch) -> Result<Self, AllocError> {
         Ok(Trails {
             lanes: Lanes::new(alloc, sketch)?,
@@ -46,7 +44,7 @@ impl Trails {
         })
     }
 
-    /// The trail of the variable with a place.
+    /// The trail of a variable.
     pub fn trail(&self, place: usize) -> Trail {
         if place < self.trails.len() {
             self.trails[place]
@@ -55,7 +53,7 @@ impl Trails {
         }
     }
 
-    /// Takes 64 runs whose inputs are drawn by a fixed rule.
+    /// Takes 64 runs with random inputs, by a fixed rule.
     pub fn run_drawn(&mut self, sketch: &Sketch) {
         self.lanes.start(sketch);
         for _ in 0..LETTERS {
@@ -67,7 +65,7 @@ impl Trails {
         }
     }
 
-    /// Takes a run that reads a stimulus, with its lap twice.
+    /// Takes a run on a stimulus, with its lap twice.
     pub fn run(&mut self, sketch: &Sketch, stimulus: &Stimulus) {
         self.lanes.start(sketch);
         self.read(sketch, &stimulus.stem);
@@ -75,7 +73,6 @@ impl Trails {
         self.read(sketch, &stimulus.lap);
     }
 
-    /// Reads letters.
     fn read(&mut self, sketch: &Sketch, letters: &[Vec<bool>]) {
         for letter in letters {
             self.lanes.read(letter);
@@ -91,7 +88,7 @@ impl Trails {
         self.lanes.advance(sketch);
     }
 
-    /// The next drawn word.
+    /// The next random word.
     fn draw(&mut self) -> u64 {
         self.drawn = self.drawn.wrapping_add(0x9e37_79b9_7f4a_7c15);
         let word = (self.drawn ^ (self.drawn >> 30)).wrapping_mul(0xbf58_476d_1ce4_e5b9);

@@ -1,4 +1,4 @@
-//! Runs of sketches on the stimuli on which earlier circuits lost.
+//! Runs of sketches on stimuli on which circuits lost.
 
 use crate::judging::Task;
 use crate::lanes::{Lanes, mixed};
@@ -8,13 +8,13 @@ use ps_circuit::Circuit;
 use ps_simulate::{Role, Stimulus, input_symbols, output_symbols, proposition_of};
 use std::alloc::{AllocError, Global};
 
-/// How many stimuli a sketch runs on before its circuit is judged.
+/// On how many stimuli a sketch runs before its circuit is judged.
 const MOST_TRIED: usize = 8;
 
-/// How often a sketch reads a lap at most.
+/// How often it reads a lap at most.
 const LAPS: usize = 256;
 
-/// The stimuli on which earlier circuits lost, and the propositions of a circuit's inputs and outputs.
+/// The stimuli, and the propositions of a circuit's inputs and outputs.
 #[derive(Drop)]
 pub(crate) struct Trials {
     inputs: Vec<Option<usize>>,
@@ -23,7 +23,7 @@ pub(crate) struct Trials {
 }
 
 impl Trials {
-    /// No stimuli so far, for circuits with the names of the given one. Fails if out of memory.
+    /// No stimuli, for circuits with these names.
     pub fn new(alloc: Global, task: Task, named: &Circuit) -> Result<Self, AllocError> {
         let reads = task.role.reads_controllable();
         let sets = task.role.sets_controllable();
@@ -41,15 +41,14 @@ impl Trials {
         &self.stimuli
     }
 
-    /// Makes a stimulus the first one. Fails if out of memory.
+    /// Makes a stimulus the first one.
     pub fn put_first(&mut self, stimulus: Stimulus) -> Result<(), AllocError> {
         self.stimuli.push(stimulus)?;
         self.stimuli.rotate_right(1);
         Ok(())
     }
 
-    /// Whether the circuit of a sketch loses on one of the first stimuli, which then becomes the first. Fails if out of
-    /// memory.
+    /// Whether the circuit of a sketch loses on one of the first stimuli, which then comes first.
     pub fn refute(
         &mut self,
         alloc: Global,
@@ -66,8 +65,8 @@ impl Trials {
         Ok(false)
     }
 
-    /// Whether a sketch's run on a stimulus is rejected though the circuit is a controller, or accepted though it is an
-    /// environment. Also false if the run does not repeat in so many laps. Fails if out of memory.
+    /// Whether the run of a controller is rejected, or that of an environment accepted; false if it does not repeat in
+    /// so many laps.
     fn loses_on(
         &self,
         alloc: Global,
@@ -139,7 +138,7 @@ impl Trials {
     }
 }
 
-/// A reading of the lap: a hash of the latch values and the state before it, and the greatest priority in it.
+/// A lap: a hash of the latches before it, the state, and the greatest priority in it.
 #[derive(Clone, Copy)]
 struct Lap {
     key: u64,
@@ -147,7 +146,7 @@ struct Lap {
     priority: u64,
 }
 
-/// Whether the automaton accepts the laps for ever, if the next one begins as an earlier one did.
+/// Whether the laps are accepted, if the next one begins as an earlier one did.
 fn repeated(laps: &[Lap], key: u64, state: u32) -> Option<bool> {
     let mut greatest = 0;
     for lap in laps.iter().rev() {
@@ -168,7 +167,7 @@ fn key_of(sketch: &Sketch, lanes: &Lanes) -> u64 {
     key
 }
 
-/// A step of the automaton at a letter, with the greater one of the priorities of this step and of the one before.
+/// A step at a letter, with the greatest priority so far.
 fn after(automaton: &Automaton, before: Step, letter: u64) -> Step {
     if before.state > automaton.states() {
         return before;
@@ -180,7 +179,7 @@ fn after(automaton: &Automaton, before: Step, letter: u64) -> Step {
     }
 }
 
-/// The letter in which at most one proposition is true.
+/// The letter with this bit at a proposition.
 fn bit_at(proposition: Option<usize>, bit: bool) -> u64 {
     match proposition {
         Some(number) if bit && number < 64 => 1 << number,
@@ -188,7 +187,7 @@ fn bit_at(proposition: Option<usize>, bit: bool) -> u64 {
     }
 }
 
-/// The propositions that have some names. Fails if out of memory.
+/// The propositions of these names.
 fn propositions(
     alloc: Global,
     automaton: &Automaton,
@@ -202,7 +201,6 @@ fn propositions(
     Ok(propositions)
 }
 
-/// The proposition that has a name, if there is one.
 fn named(automaton: &Automaton, wanted: bool, symbol: Option<&[u8]>) -> Option<usize> {
     proposition_of(automaton.names(), automaton.controllable(), wanted, symbol?)
 }

@@ -1,4 +1,4 @@
-//! The changes that are tried, in their order.
+//! The order of changes.
 
 use crate::change::{Change, Site};
 use crate::sketch::{Signal, Sketch};
@@ -6,17 +6,17 @@ use crate::sketch::{Signal, Sketch};
 /// Which signals replace a site.
 #[derive(Clone, Copy, PartialEq, Eq)]
 enum Stage {
-    /// The constants and, at a gate, the two signals that it reads.
+    /// The constants and, at a gate, what it reads.
     Constants,
     /// Besides, the inputs.
     Inputs,
     /// Besides, the latches and the gates.
     Variables,
-    /// Signals, and gates over two signals, that are drawn by a fixed rule.
+    /// Random signals, and gates over two of them, by a fixed rule.
     Drawn,
 }
 
-/// A site, and the two signals that are tried there besides the constants.
+/// A site, and two signals that are tried there besides the constants.
 #[derive(Clone, Copy)]
 struct Spot {
     site: Site,
@@ -25,7 +25,7 @@ struct Spot {
 }
 
 impl Spot {
-    /// A site at which no signals but the constants are tried first.
+    /// A site where no other signals come first.
     fn plain(site: Site) -> Self {
         Spot {
             site,
@@ -35,8 +35,8 @@ impl Spot {
     }
 }
 
-/// A position in the order of changes. In each round, every signal of a stage is tried at every site. A round that makes
-/// the circuit smaller is followed by a round of the first stage, and another round by one of the next stage.
+/// A position in the order of changes. In each round, every signal of a stage is tried at every site. After a round
+/// that makes the circuit smaller, the first stage comes again, and else the next one.
 #[derive(Drop)]
 pub(crate) struct Walk {
     stage: Stage,
@@ -58,7 +58,7 @@ impl Walk {
         }
     }
 
-    /// The most that a circuit may cost which takes the place of one of the old cost. A drawn change need not lower it.
+    /// The most that a circuit may cost which takes the place of another: less, unless the change is random.
     pub fn most(&self, old: usize) -> usize {
         if self.stage == Stage::Drawn {
             old
@@ -90,7 +90,7 @@ impl Walk {
         })
     }
 
-    /// Goes on after a circuit of the new cost took the place of one of the old cost.
+    /// Goes on after a circuit took another's place.
     pub fn took(&mut self, old: usize, new: usize) {
         if self.stage != Stage::Drawn {
             self.has_gained = true;
@@ -112,7 +112,7 @@ impl Walk {
         self.has_gained = false;
     }
 
-    /// The signal that is tried next at a site, if there is one.
+    /// What is tried next at a site.
     fn signal(&self, sketch: &Sketch, spot: Spot) -> Option<Signal> {
         match self.choice {
             0 => Some(Signal::constant(false)),
@@ -129,7 +129,7 @@ impl Walk {
         }
     }
 
-    /// The place behind the last one whose variable is tried at each site.
+    /// The end of the places that are tried at each site.
     fn end(&self, sketch: &Sketch) -> usize {
         match self.stage {
             Stage::Constants => 0,
@@ -138,7 +138,7 @@ impl Walk {
         }
     }
 
-    /// A change that is drawn.
+    /// A random change.
     fn draw(&mut self, sketch: &Sketch) -> Option<Change> {
         let site = self.below(sketch.sites());
         let spot = spot_at(sketch, site)?;
@@ -158,7 +158,7 @@ impl Walk {
         })
     }
 
-    /// A signal that is drawn.
+    /// A random signal.
     fn draw_signal(&mut self, sketch: &Sketch) -> Signal {
         Signal {
             place: self.below(sketch.end),
@@ -166,7 +166,7 @@ impl Walk {
         }
     }
 
-    /// A number below the limit that is drawn, or 0 if the limit is 0.
+    /// A random number below the limit, or 0 if that is 0.
     fn below(&mut self, limit: usize) -> usize {
         self.drawn = self
             .drawn
@@ -177,8 +177,7 @@ impl Walk {
     }
 }
 
-/// The site with the given index: the outputs come first, then the next values, the latches, and the gates from the
-/// last to the first.
+/// The site with this index: outputs, next values, latches, and gates from the last to the first.
 fn spot_at(sketch: &Sketch, index: usize) -> Option<Spot> {
     let outputs = sketch.outputs.len();
     let latches = sketch.latches.len();
@@ -196,7 +195,7 @@ fn spot_at(sketch: &Sketch, index: usize) -> Option<Spot> {
     gate_at(sketch, index - latches)
 }
 
-/// The site of a gate, counted from the last gate.
+/// The gate with this index, from the last.
 fn gate_at(sketch: &Sketch, index: usize) -> Option<Spot> {
     if index >= sketch.gates.len() {
         return None;
