@@ -4,23 +4,23 @@ ghost use Rattle.ps_tlsf.specs.Causes.{cause_name, cause_number};
 
 use ps_text::faults::{Cause, Fault};
 
-/// Why a specification is rejected (TLSF's basic form; the limits are psyn's own).
+/// Why a specification is rejected; the limits are psyn's own.
 #[derive(Clone, Copy, Debug, PartialEq, Eq)]
 pub enum TlsfCause {
-    /// A token, or an early end of the text, that is not allowed at its position; a string or a comment that is not
-    /// closed; a byte that begins no token.
+    /// A token, or the end of the text, is not allowed here; a string or a comment is not closed; a byte begins no
+    /// token.
     Syntax,
-    /// A declared name that was declared before or is an operator, or an operand that is not declared.
+    /// A name is declared that was declared before or is an operator, or an operand is not declared.
     Name,
-    /// An item of `INFO`, `INPUTS` or `OUTPUTS` for the second time.
+    /// An item of `INFO`, or `INPUTS` or `OUTPUTS`, comes a second time.
     Twice,
     /// No `SEMANTICS`, no `TARGET`, or two different orders of moves.
     Order,
-    /// A text of more than 16,777,216 bytes, too many names, too many operators and operands, or a nesting too deep.
+    /// A text of more than 16,777,216 bytes, too many names, too many operators and operands, or too deep a nesting.
     Limit,
 }
 
-/// Why the parser returned no specification: the text has an error, which is given with its offset, or memory ran out.
+/// An error in the text, with its offset, or out of memory.
 pub type TlsfFault = Fault<TlsfCause>;
 
 impl Cause for TlsfCause {

@@ -9,7 +9,7 @@ use crate::phases::Phase;
 use crate::tokens::Token;
 use crate::words::{Item, Order, Side, Sign};
 
-/// A part of the text: the bytes from the offset `start` up to the offset `stop`.
+/// A part of the text.
 #[derive(Clone, Copy, Debug, PartialEq, Eq)]
 pub struct Span {
     /// The offset of the first byte.
@@ -18,7 +18,7 @@ pub struct Span {
     pub stop: usize,
 }
 
-/// What the part `INFO` says, and which items and lists of names have occurred.
+/// What `INFO` says, and what has occurred.
 #[derive(Clone, Copy, Debug)]
 pub(crate) struct Heading {
     pub(crate) has_title: bool,
@@ -38,7 +38,6 @@ pub(crate) struct Heading {
 }
 
 impl Heading {
-    /// Before the text.
     pub(crate) fn new() -> Self
         ensures { result ≡ no_heading }
     {
@@ -57,7 +56,6 @@ impl Heading {
         }
     }
 
-    /// Whether the item has occurred.
     pub(crate) fn has_item(self, item: Item) -> bool
         ensures { result ≡ has_item self item }
     {
@@ -70,7 +68,6 @@ impl Heading {
         }
     }
 
-    /// Whether the list of names has occurred.
     pub(crate) fn has_list(self, side: Side) -> bool
         ensures { result ≡ has_list self side }
     {
@@ -80,7 +77,7 @@ impl Heading {
         }
     }
 
-    /// Records that the item has occurred.
+    /// Records an item.
     pub(crate) fn with_item(mut self, item: Item) -> Self
         ensures { result ≡ with_item self item }
     {
@@ -94,7 +91,7 @@ impl Heading {
         self
     }
 
-    /// Records that the list of names has occurred.
+    /// Records a list of names.
     pub(crate) fn with_list(mut self, side: Side) -> Self
         ensures { result ≡ with_list self side }
     {
@@ -112,7 +109,7 @@ impl Heading {
         agree(self.semantics, self.target)
     }
 
-    /// The heading after a token that is allowed in the given phase, outside formulas.
+    /// The heading after a token that the phase allows, outside formulas.
     pub(crate) fn behind(mut self, phase: Phase, token: Token) -> Self
         ensures { result ≡ heading_behind phase (token_data token.entry) self }
     {
@@ -134,7 +131,6 @@ impl Heading {
     }
 }
 
-/// Whether both are the same order.
 fn agree(semantics: Option<Order>, target: Option<Order>) -> bool
     ensures { result ≡ agree semantics target }
 {

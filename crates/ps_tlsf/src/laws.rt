@@ -26,24 +26,24 @@ pub fn one_answer()
         a ≡ b }
 {}
 
-/// Each text has an answer: the specification, or its first error.
+/// Each text has an answer: its specification, or its first error.
 pub fn some_answer()
     ensures { (text : List ℕ) → (answer : Result Specification (Found TlsfCause)) × (answer ≡ answer_of text) }
 {}
 
-/// The formula of a whole specification is made from the formulas of its sections as TLSF defines it.
+/// The formula of a specification is made from those of its sections as TLSF defines it.
 pub fn whole_is_of_sections()
     ensures { (text : List ℕ) (s : Specification) → answer_of text ≡ Ok s → s.whole ≡ whole_of s.is_strict s.formulas }
 {}
 
-/// The tokens of a text are in the order that the grammar around formulas describes.
+/// The tokens of a text are in the order of the grammar around formulas.
 pub fn texts_have_the_outline()
     ensures { (text : List ℕ) (s : Specification) → answer_of text ≡ Ok s →
         Matches specification (signs_of (lex 0 text)) }
 {}
 
-/// Outside formulas, a token is refused as a syntax error only where no text that the grammar describes goes on with
-/// it. A text ends too early only where the grammar does not let it end.
+/// Outside formulas, a token is a syntax error only where no text of the grammar goes on with it, and so is the end of
+/// a text only where none ends.
 pub fn refused_texts_lack_the_outline()
     ensures refused { (before rest : List Token) (t : Token) (s : State) → run fresh before ≡ Ok s →
         is_in_formula s.phase ≡ false → step s t ≡ Err causes.Syntax →
@@ -52,7 +52,7 @@ pub fn refused_texts_lack_the_outline()
         Matches specification (signs_of text) → is_end s.phase ≡ true }
 {}
 
-/// The grammar derives each formula of a specification from the tokens of its span.
+/// The grammar derives each formula from the tokens of its span.
 pub fn formulas_are_derived()
     ensures { (text : List ℕ) (s : Specification) → answer_of text ≡ Ok s →
         AllByRecursion (IsDerivedFrom (lex 0 text) s.names) s.formulas }

@@ -10,19 +10,18 @@ use crate::words::{Side, Sign, is_same};
 use std::alloc::{AllocError, Global};
 use std::marker::Model;
 
-/// The greatest number of declared names.
 pub(crate) const NAME_LIMIT: usize = 64;
 
 /// A declared name.
 #[derive(Debug, Drop)]
 pub struct Proposition {
-    /// The bytes of the name.
+    /// Its bytes.
     pub name: Vec<u8>,
-    /// Who sets the proposition.
+    /// Who sets it.
     pub side: Side,
 }
 
-/// The declared names, in the order of their declarations.
+/// In the order of their declarations.
 #[derive(Debug, Drop)]
 pub(crate) struct Names {
     list: Vec<Proposition>,
@@ -45,7 +44,6 @@ impl Names {
     ghost use Rattle.ps_tlsf.specs.Names.{name_cause, number_of};
     ghost use Rattle.ps_tlsf.specs.NameViews.{name_data};
 
-    /// No names.
     pub(crate) fn new(alloc: Global) -> Self
         ensures { result ≡ [] }
     {
@@ -54,7 +52,6 @@ impl Names {
         }
     }
 
-    /// The number of a declared name.
     pub(crate) fn number(&self, text: &[u8]) -> Option<usize>
         ensures value { result ≡ number_of self.now text.now }
         ensures within { IfSome result (λ number. number < 64) }
@@ -75,7 +72,6 @@ impl Names {
         None
     }
 
-    /// Declares a name.
     pub(crate) fn declare(&mut self, proposition: Proposition) -> Result<(), AllocError>
         requires { length self.old < 64 }
         ensures { OnOk result (self.new ≡ self.old ++ name_data proposition ∷ []) }
@@ -94,14 +90,13 @@ impl Names {
     }
 }
 
-/// Whether the token is one of the words that have a meaning in formulas, and so are no names.
+/// Whether the token has a meaning in formulas, and so is no name.
 fn is_reserved(sign: Sign) -> bool
     ensures { result ≡ is_reserved sign }
 {
     matches!(sign, Sign::Prefix(_) | Sign::Infix(_) | Sign::Constant(_))
 }
 
-/// The index of the first proposition with the name.
 fn number_among(list: &[Proposition], text: &[u8]) -> Option<usize>
     ensures value { result ≡ position (λ p. bytes_eq p.name.items text.now) list.now }
     ensures within { IfSome result (λ number. number < length list.now) }
@@ -110,7 +105,7 @@ fn number_among(list: &[Proposition], text: &[u8]) -> Option<usize>
         .position(|proposition| is_same(proposition.name.as_slice(), text))
 }
 
-/// The names of propositions, in the order of their numbers. Fails if out of memory.
+/// The names, in the order of their numbers. Fails if out of memory.
 pub fn names_of(alloc: Global, propositions: &[Proposition]) -> Result<Vec<Vec<u8>>, AllocError>
     ensures { IfOk result (λ names. map (λ name. name.items) names.items ≡ names_in (map name_data propositions.now)) }
 {
@@ -121,7 +116,7 @@ pub fn names_of(alloc: Global, propositions: &[Proposition]) -> Result<Vec<Vec<u
     Ok(names)
 }
 
-/// The numbers of the outputs among propositions, which are numbered in their order. Fails if out of memory.
+/// The numbers of the outputs. Fails if out of memory.
 pub fn outputs_of(alloc: Global, propositions: &[Proposition]) -> Result<Vec<u32>, AllocError>
     requires { length propositions.now ≤ 64 }
     ensures { IfOk result (λ outputs. outputs.items ≡ outputs_in (map name_data propositions.now)) }
@@ -135,7 +130,6 @@ pub fn outputs_of(alloc: Global, propositions: &[Proposition]) -> Result<Vec<u32
     Ok(outputs)
 }
 
-/// Whether a proposition is the controller's.
 fn is_output(side: Side) -> bool
     ensures { result ≡ is_output side }
 {

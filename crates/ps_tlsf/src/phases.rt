@@ -1,4 +1,4 @@
-//! Which tokens may follow outside formulas.
+//! Which tokens may come next outside formulas.
 
 ghost use Rattle.std.specs.Prelude.{◌≡◌};
 ghost use Rattle.ps_tlsf.specs.Phases.{goes, item_or_close, first_value, section_or_close, tag_or};
@@ -12,7 +12,7 @@ pub(crate) enum Block {
     Formulas(Section),
 }
 
-/// What may follow.
+/// What may come next.
 #[derive(Clone, Copy, Debug, PartialEq, Eq)]
 pub(crate) enum Phase {
     /// `INFO`
@@ -59,13 +59,13 @@ pub(crate) enum Phase {
     Formulas(Section),
     /// An operand of a formula.
     Operand(Section),
-    /// What may follow an operand of a formula.
+    /// What may follow it.
     Behind(Section),
     /// Nothing.
     End,
 }
 
-/// What may follow an item, or the `{` of `INFO`.
+/// After an item, or the `{` of `INFO`.
 fn item_or_close(sign: Sign) -> Option<Phase>
     ensures { result ≡ item_or_close sign }
 {
@@ -76,7 +76,7 @@ fn item_or_close(sign: Sign) -> Option<Phase>
     }
 }
 
-/// What may follow `TAGS:`, or `,` in its list. A tag is a word, except for the names of items.
+/// After `TAGS:`, or `,` in its list. A tag is a word, except for the names of items.
 fn tag_or(sign: Sign, other: Option<Phase>) -> Option<Phase>
     ensures { result ≡ tag_or sign other }
 {
@@ -87,7 +87,7 @@ fn tag_or(sign: Sign, other: Option<Phase>) -> Option<Phase>
     }
 }
 
-/// What may follow the `:` of an item.
+/// After the `:` of an item.
 fn first_value(item: Item) -> Phase
     ensures { result ≡ first_value item }
 {
@@ -100,7 +100,7 @@ fn first_value(item: Item) -> Phase
     }
 }
 
-/// What may follow a section, or the `{` of `MAIN`.
+/// After a section, or the `{` of `MAIN`.
 fn section_or_close(sign: Sign) -> Option<Phase>
     ensures { result ≡ section_or_close sign }
 {
@@ -112,7 +112,7 @@ fn section_or_close(sign: Sign) -> Option<Phase>
     }
 }
 
-/// What may follow a token, except inside formulas. `None` if the token is not allowed, or is in a formula.
+/// After a token; `None` if it is not allowed, or is in a formula.
 pub(crate) fn goes(phase: Phase, sign: Sign) -> Option<Phase>
     ensures { result ≡ goes phase sign }
 {

@@ -13,7 +13,7 @@ use crate::steps::{State, fresh, step};
 use crate::tokens::Tokens;
 use std::alloc::Global;
 
-/// The maximal length of a text, in bytes.
+/// The most bytes of a text.
 const TEXT_LIMIT: usize = 16777216;
 
 /// Whether the text may end here.
@@ -44,11 +44,8 @@ fn state_behind(alloc: Global, text: &[u8]) -> Result<State, TlsfFault>
     Ok(state)
 }
 
-/// Parses a specification in TLSF's basic form.
-///
-/// # Errors
-///
-/// Fails with the first fault of the text and its offset, or if out of memory.
+/// Parses a specification in TLSF's basic form. Fails with the first fault of the text and its offset, or if out of
+/// memory.
 pub fn read(alloc: Global, text: &[u8]) -> Result<Specification, TlsfFault>
     ensures answer { IsAnswer text.now (result_data result) }
     ensures roots { IfOk result HasRoots }

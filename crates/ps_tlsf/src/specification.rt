@@ -18,11 +18,11 @@ use std::alloc::{AllocError, Global};
 /// A formula of a section.
 #[derive(Clone, Copy, Debug)]
 pub struct SectionFormula {
-    /// The kind of the section.
+    /// The section's kind.
     pub section: Section,
-    /// The part of the text that is the formula.
+    /// Its part of the text.
     pub span: Span,
-    /// The formula's index in the specification's table.
+    /// Its index in the table.
     pub root: u32,
 }
 
@@ -31,9 +31,9 @@ pub struct SectionFormula {
 pub struct Specification {
     /// The string of `TITLE`, with its quotes.
     pub title: Option<Span>,
-    /// The inputs and outputs, in the order of their declarations, by which they are numbered.
+    /// The inputs and outputs, numbered in the order of their declarations.
     pub propositions: Vec<Proposition>,
-    /// The order of moves, which `SEMANTICS` and `TARGET` state.
+    /// The order of `SEMANTICS` and `TARGET`.
     pub order: Order,
     /// Whether `SEMANTICS` has the word `Strict`.
     pub is_strict: bool,
@@ -41,7 +41,7 @@ pub struct Specification {
     pub formulas: Vec<SectionFormula>,
     /// The table with all formulas.
     pub table: Formulas,
-    /// The index of the formula of the whole specification.
+    /// The index of the whole formula.
     pub root: u32,
 }
 
@@ -69,7 +69,6 @@ fn place(
     Ok(list)
 }
 
-/// The order that was read.
 fn order_of(order: Option<Order>) -> Order
     ensures { result ≡ order_in order }
 {

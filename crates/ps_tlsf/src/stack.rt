@@ -1,4 +1,4 @@
-//! The operators and parentheses of a formula whose operand is not read to its end.
+//! The operators and parentheses before an operand that is not complete.
 
 ghost use Rattle.std.specs.Prelude.{◌≡◌, ◌∷◌, [], OnOk};
 ghost use Rattle.ps_text.specs.Answers.{first_of};
@@ -8,7 +8,7 @@ use crate::words::{Infix, Prefix};
 use std::alloc::{AllocError, Global};
 use std::marker::Model;
 
-/// What stands before an operand that is not read to its end.
+/// What stands before such an operand.
 #[derive(Clone, Copy, Debug, PartialEq, Eq)]
 pub(crate) enum Form {
     Prefix(Prefix),
@@ -16,14 +16,14 @@ pub(crate) enum Form {
     Infix(Infix),
 }
 
-/// An operator or a parenthesis, and the number of operators before an operand and of parentheses up to it.
+/// An operator or a parenthesis, and how deep an operand is nested after it.
 #[derive(Clone, Copy, Debug)]
 pub(crate) struct Frame {
     pub(crate) form: Form,
     pub(crate) depth: usize,
 }
 
-/// An operand or an operator, which stands behind its operands.
+/// An operand, or an operator, which comes after its operands.
 #[derive(Clone, Copy, Debug, PartialEq, Eq)]
 pub(crate) enum Op {
     Constant(bool),
@@ -35,7 +35,7 @@ pub(crate) enum Op {
 /// Which operators have their operands complete.
 #[derive(Clone, Copy, Debug)]
 pub(crate) enum Sweep {
-    /// Behind an operand: the operators directly before it.
+    /// After an operand: the operators directly before it.
     Prefixes,
     /// Before an operator: the operators that bind tighter.
     Before(Infix),
@@ -43,7 +43,7 @@ pub(crate) enum Sweep {
     Row,
 }
 
-/// What stands before the operand that is read now; the last first.
+/// The last first.
 #[derive(Debug, Drop)]
 pub(crate) struct Stack {
     frames: Vec<Frame>,
@@ -63,7 +63,6 @@ impl Stack {
     ghost use Rattle.ps_text.specs.Answers.{first_of};
     ghost use Rattle.ps_tlsf.specs.Machines.{tail_of};
 
-    /// Nothing.
     pub(crate) fn new(alloc: Global) -> Self
         ensures { result ≡ [] }
     {
@@ -72,7 +71,6 @@ impl Stack {
         }
     }
 
-    /// What was put there last.
     #[inline(always)]
     pub(crate) fn top(&self) -> Option<Frame>
         ensures { result ≡ first_of self.now }
@@ -83,7 +81,6 @@ impl Stack {
         Some(self.frames[self.frames.len() - 1])
     }
 
-    /// Puts a frame there.
     pub(crate) fn push(&mut self, frame: Frame) -> Result<(), AllocError>
         ensures { OnOk result (self.new ≡ frame ∷ self.old) }
     {
@@ -91,7 +88,6 @@ impl Stack {
         Ok(())
     }
 
-    /// Takes away what was put there last.
     pub(crate) fn pop(&mut self)
         ensures { self.new ≡ tail_of self.old }
     {

@@ -19,7 +19,7 @@ use crate::work::{Work, fault_at, read_end, read_infix, read_operand, read_paren
 use std::alloc::{AllocError, Global};
 use std::mem;
 
-/// A formula of a section, as its operands and operators, each operator behind its operands.
+/// A formula of a section, as operands and operators, which come after their operands.
 #[derive(Debug, Drop)]
 pub(crate) struct Written {
     pub(crate) section: Section,
@@ -30,7 +30,6 @@ pub(crate) struct Written {
     pub(crate) ops: Vec<Op>,
 }
 
-/// What was read so far.
 #[derive(Debug, Drop)]
 pub(crate) struct State {
     pub(crate) phase: Phase,
@@ -59,7 +58,7 @@ pub(crate) fn fresh(alloc: Global) -> State
     }
 }
 
-/// Why a token outside formulas, which the grammar allows, is refused all the same.
+/// Why a token that the grammar allows outside formulas is refused all the same.
 fn bars(next: Phase, state: &State, token: Token) -> Option<TlsfCause>
     ensures { result ≡ bars next (state_data state.now) (token_data token.entry) }
 {
@@ -83,7 +82,7 @@ fn marked(next: Phase, heading: Heading) -> Heading
     }
 }
 
-/// Declares the name that a token is.
+/// Declares a token's name.
 fn declare(alloc: Global, next: Phase, names: &mut Names, token: Token) -> Result<(), AllocError>
     requires { (side : Side) → next ≡ Phase.BehindName side → length names.old < 64 }
     ensures { OnOk result (names.new ≡ declared_by next (token_data token.entry) names.old) }
@@ -95,7 +94,7 @@ fn declare(alloc: Global, next: Phase, names: &mut Names, token: Token) -> Resul
     Ok(())
 }
 
-/// Reads a token outside formulas, which the grammar allows.
+/// Reads a token that the grammar allows outside formulas.
 fn plain_step(alloc: Global, next: Phase, state: &mut State, token: Token) -> Result<(), TlsfFault>
     ensures { Steps (plain_step next (state_data state.old) (token_data token.entry)) token.entry.start result
         (state_data state.new) }
@@ -109,7 +108,7 @@ fn plain_step(alloc: Global, next: Phase, state: &mut State, token: Token) -> Re
     Ok(())
 }
 
-/// What may follow a token where an operand begins.
+/// What may follow the first token of an operand.
 fn phase_behind(section: Section, sign: Sign) -> Phase
     ensures { result ≡ phase_behind section sign }
 {
@@ -120,7 +119,7 @@ fn phase_behind(section: Section, sign: Sign) -> Phase
     }
 }
 
-/// Reads a token where an operand begins.
+/// Reads the first token of an operand.
 fn operand_step(section: Section, state: &mut State, token: Token) -> Result<(), TlsfFault>
     ensures { Steps (operand_step section (state_data state.old) (token_data token.entry)) token.entry.start result
         (state_data state.new) }
@@ -153,7 +152,7 @@ fn finish(
     Ok(())
 }
 
-/// Reads a token behind an operand.
+/// Reads a token after an operand.
 fn behind_step(
     alloc: Global,
     section: Section,

@@ -10,7 +10,7 @@ ghost use Rattle.ps_tlsf.specs.Inner.Lexing.{IsRun, IsFirstOf, IsStep};
 use crate::words::{Infix, Prefix, Sign, word_sign};
 use std::marker::Model;
 
-/// The class of a byte, by the blanks, comments and tokens that can begin with it.
+/// A byte by the blanks, comments and tokens that can begin with it.
 #[derive(Clone, Copy)]
 enum Class {
     Blank,
@@ -26,7 +26,6 @@ enum Class {
     Other,
 }
 
-/// The class of a byte.
 #[tactic(auto, unfolding(crate::specs::Bytes::class_of))]
 #[inline(always)]
 fn class_of(byte: u8) -> Class
@@ -59,7 +58,7 @@ fn class_of(byte: u8) -> Class
     }
 }
 
-/// Whether a word may contain the given byte after its first byte.
+/// Whether a word may contain the byte after its first.
 #[inline(always)]
 fn is_word_byte(byte: u8) -> bool
     ensures { result ≡ in_word byte }
@@ -74,7 +73,7 @@ enum Step {
     Found(Sign, usize),
 }
 
-/// The length of the longest prefix that consists only of bytes that a word may contain after its first byte.
+/// The length of the longest prefix of such bytes.
 fn word_at(bytes: &[u8]) -> usize
     ensures { IsRun in_word bytes.now result }
 {
@@ -85,7 +84,7 @@ fn word_at(bytes: &[u8]) -> usize
     count
 }
 
-/// The number of bytes before the first newline, or before the end.
+/// How many bytes come before the first newline, or the end.
 fn line_at(bytes: &[u8]) -> usize
     ensures { IsRun is_inner bytes.now result }
 {
@@ -96,7 +95,7 @@ fn line_at(bytes: &[u8]) -> usize
     count
 }
 
-/// The number of bytes before the first quote, or before the end.
+/// How many come before the first quote, or the end.
 fn quoted_at(bytes: &[u8]) -> usize
     ensures { IsRun is_unquoted bytes.now result }
 {
@@ -107,8 +106,8 @@ fn quoted_at(bytes: &[u8]) -> usize
     count
 }
 
-/// The given bytes begin after the `/*` of a comment. The result is the number of bytes up to and including the `*/`
-/// that closes this comment; comments may be nested in it. The result is `None` if the comment is not closed.
+/// How many bytes after `/*` the comment has, its `*/` included, with comments nested in it; `None` if it is not
+/// closed.
 fn comment_at(bytes: &[u8]) -> Option<usize>
     ensures value { result ≡ comment_len bytes.now false 0 }
     ensures within { IfSome result (λ n. n ≤ length bytes.now) }
@@ -132,7 +131,7 @@ fn comment_at(bytes: &[u8]) -> Option<usize>
     None
 }
 
-/// Whether the bytes at an offset are the given two bytes.
+/// Whether these two bytes are at an offset.
 #[inline(always)]
 fn is_pair(bytes: &[u8], at: usize, first: u8, second: u8) -> bool
     requires some { 0 < second }
@@ -151,7 +150,7 @@ fn byte_at(bytes: &[u8], at: usize) -> u8
     if at < bytes.len() { bytes[at] } else { 0 }
 }
 
-/// The word that the given bytes begin.
+/// The word at the beginning.
 #[inline(always)]
 fn word_step(bytes: &[u8]) -> Step
     requires { 0 < length bytes.now }
@@ -161,7 +160,7 @@ fn word_step(bytes: &[u8]) -> Step
     Step::Found(word_sign(&bytes[..count]), count)
 }
 
-/// The string whose first quote is before the given bytes.
+/// The string whose quote is before the bytes.
 #[inline(never)]
 fn text_step(bytes: &[u8]) -> Step
     requires { length bytes.now < usize.MAX }
@@ -175,7 +174,7 @@ fn text_step(bytes: &[u8]) -> Step
     }
 }
 
-/// The comment whose first slash is before the given bytes.
+/// The comment whose slash is before the bytes.
 #[inline(never)]
 fn slash_step(bytes: &[u8]) -> Step
     requires { length bytes.now < usize.MAX }
@@ -191,7 +190,7 @@ fn slash_step(bytes: &[u8]) -> Step
     }
 }
 
-/// The sign of two bytes whose first byte is before the given bytes.
+/// The sign whose first byte is before the bytes.
 #[inline(always)]
 fn pair_step(second: u8, operator: Infix, bytes: &[u8]) -> Step
     requires { 0 < second }
@@ -204,7 +203,7 @@ fn pair_step(second: u8, operator: Infix, bytes: &[u8]) -> Step
     }
 }
 
-/// The sign `<->` whose first byte is before the given bytes.
+/// The same for `<->`.
 #[inline(never)]
 fn arrow_step(bytes: &[u8]) -> Step
     ensures { IsStep (arrow_step bytes.now) (1 + length bytes.now) result }
@@ -216,7 +215,7 @@ fn arrow_step(bytes: &[u8]) -> Step
     }
 }
 
-/// The blank, the comment or the token that begins with the first byte.
+/// The blank, comment or token at the beginning.
 #[tactic(auto, unfolding(crate::specs::Lexicon::scan_step))]
 #[inline(always)]
 fn step_at(bytes: &[u8]) -> Step
@@ -271,17 +270,16 @@ fn first_lexeme(source: &[u8], from: usize) -> Option<Lexeme>
 /// A token of a specification.
 #[derive(Clone, Copy)]
 pub(crate) struct Token<'a> {
-    /// The kind of the token.
     pub(crate) sign: Sign,
-    /// The bytes of the token.
+    /// Its bytes.
     pub(crate) text: &'a [u8],
-    /// The offset of the first byte of the token.
+    /// The offset of its first byte.
     pub(crate) start: usize,
-    /// The offset after the last byte of the token.
+    /// The offset after its last byte.
     pub(crate) stop: usize,
 }
 
-/// The tokens of a text that have not been read yet.
+/// The tokens that are not read yet.
 #[derive(Drop)]
 pub(crate) struct Tokens<'a> {
     source: &'a [u8],
@@ -311,7 +309,7 @@ impl<'a> Tokens<'a> {
         Tokens { source, at: 0 }
     }
 
-    /// Moves past the next token, and returns it, if there is one.
+    /// Moves past the next token, and returns it.
     pub(crate) fn next(&mut self) -> Option<Token<'a>>
         ensures { Takes self.old result self.new }
     {

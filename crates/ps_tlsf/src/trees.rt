@@ -11,7 +11,6 @@ use crate::words::{Infix, Prefix};
 use ps_formula::{Formulas, Node};
 use std::alloc::{AllocError, Global};
 
-/// Adds a node.
 fn add_node(table: &mut Formulas, node: Node) -> Result<u32, AllocError>
     requires { IsOver (length table.old) node }
     ensures { IfOk result (IsBuilt table.old (formula_of (formulas_of table.old) node) table.new) }
@@ -49,7 +48,6 @@ fn infix_node(operator: Infix, f: u32, g: u32) -> Node
     }
 }
 
-/// Adds a constant.
 pub(crate) fn add_constant(table: &mut Formulas, value: bool) -> Result<u32, AllocError>
     ensures { IfOk result (IsBuilt table.old (formulas.constant value) table.new) }
 {

@@ -11,7 +11,6 @@ use crate::steps::Written;
 use crate::words::{Infix, Prefix, Section};
 use std::alloc::{AllocError, Global};
 
-/// Whether both kinds of sections are the same.
 fn same_section(one: Section, other: Section) -> bool
     ensures { result ≡ same_section one other }
 {
@@ -26,7 +25,7 @@ fn same_section(one: Section, other: Section) -> bool
     }
 }
 
-/// Appends a formula; if there is one before it, the conjunction of both.
+/// Appends a formula, and the conjunction if one is before it.
 fn append(out: &mut Vec<Op>, ops: &[Op], any: bool) -> Result<(), AllocError>
     ensures { OnOk result (out.new.items ≡ out.old.items ++ ops.now ++ and_ops any) }
 {
@@ -37,7 +36,7 @@ fn append(out: &mut Vec<Op>, ops: &[Op], any: bool) -> Result<(), AllocError>
     Ok(())
 }
 
-/// Appends the conjunction of the formulas of a kind of sections.
+/// Appends the conjunction of a kind of sections.
 fn conjoin(out: &mut Vec<Op>, formulas: &[Written], section: Section) -> Result<(), AllocError>
     ensures { OnOk result
         (out.new.items ≡ out.old.items ++ conjunction section false (map written_data formulas.now)) }
@@ -55,7 +54,7 @@ fn conjoin(out: &mut Vec<Op>, formulas: &[Written], section: Section) -> Result<
     Ok(())
 }
 
-/// Appends the conjunction of the formulas of a kind of sections, and `G`.
+/// The same, and `G`.
 #[tactic(auto, using(crate::proofs::Joining::two))]
 fn always(out: &mut Vec<Op>, formulas: &[Written], section: Section) -> Result<(), AllocError>
     ensures { OnOk result (out.new.items ≡ out.old.items ++ always_ops section (map written_data formulas.now)) }
@@ -101,7 +100,7 @@ fn strict_part(out: &mut Vec<Op>, formulas: &[Written]) -> Result<(), AllocError
     Ok(())
 }
 
-/// Appends the implications and the conjunction that join the parts before them.
+/// Appends the implications and the conjunction of these parts.
 #[tactic(auto, using(crate::proofs::Joining::three))]
 fn join(out: &mut Vec<Op>) -> Result<(), AllocError>
     ensures { OnOk result (out.new.items ≡ out.old.items ++
@@ -113,7 +112,7 @@ fn join(out: &mut Vec<Op>) -> Result<(), AllocError>
     Ok(())
 }
 
-/// Appends the formula of a whole specification without `Strict`.
+/// The formula without `Strict`.
 #[tactic(auto, using(crate::proofs::Joining::five))]
 fn usual(out: &mut Vec<Op>, formulas: &[Written]) -> Result<(), AllocError>
     ensures { OnOk result (out.new.items ≡ out.old.items ++ whole_ops false (map written_data formulas.now)) }
@@ -125,7 +124,7 @@ fn usual(out: &mut Vec<Op>, formulas: &[Written]) -> Result<(), AllocError>
     join(out)
 }
 
-/// Appends the formula of a whole specification with `Strict`.
+/// The formula with `Strict`.
 #[tactic(auto, using(crate::proofs::Joining::five))]
 fn strict(out: &mut Vec<Op>, formulas: &[Written]) -> Result<(), AllocError>
     ensures { OnOk result (out.new.items ≡ out.old.items ++ whole_ops true (map written_data formulas.now)) }

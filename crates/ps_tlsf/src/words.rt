@@ -14,7 +14,7 @@ pub enum Item {
     Target,
 }
 
-/// The order of moves in a step: under Mealy the inputs come first, under Moore the outputs.
+/// In a step, the inputs come first under Mealy, the outputs under Moore.
 #[derive(Clone, Copy, Debug, PartialEq, Eq)]
 pub enum Order {
     Mealy,
@@ -143,7 +143,7 @@ pub(crate) fn is_word(sign: Sign) -> bool
     }
 }
 
-/// The kind of a token that is a word.
+/// The kind of a word.
 #[tactic(auto, unfolding(crate::specs::Words::word_sign))]
 pub(crate) fn word_sign(text: &[u8]) -> Sign
     ensures { result ≡ word_sign text.now }
@@ -212,7 +212,7 @@ fn section_word(text: &[u8]) -> Option<Sign>
     }
 }
 
-/// The kind of a word that has a meaning in the part `INFO`, or that begins a part.
+/// The kind of a word of `INFO`, or that begins a part.
 #[tactic(auto, unfolding(crate::specs::Words::info_word))]
 fn info_word(text: &[u8]) -> Option<Sign>
     ensures { result ≡ info_word text.now }
@@ -242,7 +242,6 @@ fn info_word(text: &[u8]) -> Option<Sign>
     }
 }
 
-/// Whether two texts are equal.
 #[inline(always)]
 pub(crate) fn is_same(text: &[u8], word: &[u8]) -> bool
     ensures { result ≡ bytes_eq text.now word.now }

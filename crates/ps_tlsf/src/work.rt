@@ -15,19 +15,19 @@ use crate::tokens::Token;
 use crate::words::{Infix, Sign, is_word};
 use std::alloc::AllocError;
 
-/// The greatest number of operators and operands.
+/// The most operators and operands.
 const USE_LIMIT: usize = 65535;
 
-/// The greatest number of operators before an operand and of parentheses around it.
+/// The most operators before an operand and parentheses around it.
 const NESTING_LIMIT: usize = 256;
 
 /// The work on a formula.
 #[derive(Debug, Drop)]
 pub(crate) struct Work {
     pub(crate) stack: Stack,
-    /// The operands, and the operators whose operands are complete, each behind its operands.
+    /// The operands, and the operators with complete operands, after these.
     pub(crate) ops: Vec<Op>,
-    /// The number of operators and operands so far, in all formulas.
+    /// The operators and operands so far, in all formulas.
     pub(crate) used: usize,
     /// The offset of the formula's first byte.
     pub(crate) start: usize,
@@ -45,7 +45,7 @@ pub(crate) fn fault_at(cause: TlsfCause, token: Token) -> TlsfFault
     }
 }
 
-/// Moves the operators whose operands are complete from the stack to the list.
+/// Moves operators with complete operands from the stack to the list.
 fn unwind(sweep: Sweep, stack: &mut Stack, ops: &mut Vec<Op>) -> Result<(), AllocError>
     ensures { OnOk result (IsUnwound (unwound sweep stack.old ops.old.items) stack.new ops.new.items) }
 {
@@ -56,7 +56,7 @@ fn unwind(sweep: Sweep, stack: &mut Stack, ops: &mut Vec<Op>) -> Result<(), Allo
     Ok(())
 }
 
-/// The number of operators before an operand and of parentheses on the stack.
+/// The operators before an operand and parentheses on the stack.
 fn depth_of(stack: &Stack) -> usize
     ensures { result ≡ depth_of stack.now }
 {
@@ -66,7 +66,6 @@ fn depth_of(stack: &Stack) -> usize
     }
 }
 
-/// What was put on the stack last.
 fn top_form(stack: &Stack) -> Option<Form>
     ensures { result ≡ top_form stack.now }
 {
@@ -104,7 +103,7 @@ fn count(work: &mut Work, token: Token) -> Result<(), TlsfFault>
     Ok(())
 }
 
-/// Puts an operator before its operand, or a parenthesis, on the stack.
+/// Puts an operator or a parenthesis on the stack.
 fn nest(form: Form, work: &mut Work, token: Token) -> Result<(), TlsfFault>
     ensures { Steps (nested form (work_data work.old)) token.entry.start result (work_data work.new) }
 {
@@ -129,7 +128,7 @@ fn read_leaf(op: Op, work: &mut Work, token: Token) -> Result<(), TlsfFault>
     Ok(())
 }
 
-/// Moves the operators directly before an operand that ends with the token.
+/// Moves the operators directly before an operand.
 fn close_operand(work: &mut Work, token: Token) -> Result<(), AllocError>
     ensures { OnOk result (work_data work.new ≡
         with_operand (work_data work.old) work.old.stack work.old.ops.items token.entry.stop) }
@@ -148,7 +147,7 @@ fn read_prefix(form: Form, work: &mut Work, token: Token) -> Result<(), TlsfFaul
     nest(form, work, token)
 }
 
-/// Reads a token where an operand begins.
+/// Reads the first token of an operand.
 pub(crate) fn read_operand(names: &Names, work: &mut Work, token: Token) -> Result<(), TlsfFault>
     ensures { Steps (at_operand names.now (work_data work.old) (token_data token.entry) token.entry.sign)
         token.entry.start result (work_data work.new) }
@@ -174,7 +173,7 @@ fn read_name(names: &Names, work: &mut Work, token: Token) -> Result<(), TlsfFau
     }
 }
 
-/// Reads an operator behind its first operand.
+/// Reads an operator after its first operand.
 pub(crate) fn read_infix(operator: Infix, work: &mut Work, token: Token) -> Result<(), TlsfFault>
     ensures { Steps (with_infix operator (work_data work.old)) token.entry.start result (work_data work.new) }
 {
@@ -191,7 +190,7 @@ pub(crate) fn read_infix(operator: Infix, work: &mut Work, token: Token) -> Resu
     Ok(())
 }
 
-/// Reads `)` behind an operand.
+/// Reads `)` after an operand.
 pub(crate) fn read_paren(work: &mut Work, token: Token) -> Result<(), TlsfFault>
     ensures { Steps (with_paren token.entry.stop (work_data work.old)) token.entry.start result (work_data work.new) }
 {
