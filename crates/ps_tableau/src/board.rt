@@ -1,4 +1,4 @@
-//! The covers of formulas by sets and diagrams, and how covers are made from others.
+//! Covers by sets and diagrams, and the simplest ones.
 
 ghost use Rattle.std.specs.Prelude.{◌<◌, Contains, IfOk, true};
 ghost use Rattle.ps_formula.specs.NormalForms.{normal_formula_at};
@@ -14,21 +14,18 @@ use ps_diagram::{Node, Store};
 use ps_formula::NormalFormulas;
 use std::alloc::{AllocError, Global};
 
-/// A table of formulas, the sets of them that were met, and the diagrams of guards.
+/// A table of formulas, sets of them, and the diagrams of guards.
 #[derive(Debug, Drop)]
 pub(crate) struct Board {
     pub alloc: Global,
-    /// The formulas.
     pub formulas: NormalFormulas,
-    /// Whether each formula may be a member of a set.
+    /// Whether each formula may be in a set.
     pub needed: Vec<bool>,
     /// The untils that may be postponed.
     pub untils: Vec<u32>,
     /// The set of the tableau's formula.
     pub initial: Set,
-    /// The sets.
     pub sets: Sets,
-    /// The diagrams.
     pub guards: Store,
 }
 

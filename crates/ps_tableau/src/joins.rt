@@ -12,7 +12,7 @@ use ps_diagram::Node;
 use std::alloc::AllocError;
 
 impl Board {
-    /// The joins of each cover of one list with each of another, pruned. Fails if out of memory.
+    /// The joins of each cover of one list with each of another, pruned.
     pub(crate) fn joined(
         &mut self,
         first: &[Edge],
@@ -29,7 +29,7 @@ impl Board {
         self.pruned(&products)
     }
 
-    /// The covers of two lists, pruned. Fails if out of memory.
+    /// The covers of two lists, pruned.
     pub(crate) fn either(
         &mut self,
         first: &[Edge],
@@ -46,7 +46,6 @@ impl Board {
         self.pruned(&all)
     }
 
-    /// The edges of two lists. Fails if out of memory.
     pub(crate) fn appended(&self, first: &[Edge], second: &[Edge]) -> Result<Vec<Edge>, AllocError>
         ensures { IfOk result (λ edges. edges.items ≡ first.now ++ second.now) }
     {
@@ -56,7 +55,7 @@ impl Board {
         Ok(all)
     }
 
-    /// The joins of each cover of one list with each of another. Fails if out of memory.
+    /// As `joined`, not pruned.
     fn products(&mut self, first: &[Edge], second: &[Edge]) -> Result<Vec<Edge>, AllocError>
         requires board { IsBoard self.old }
         requires first { All (IsEdgeOf self.old) first.now }
@@ -72,7 +71,7 @@ impl Board {
         Ok(joins)
     }
 
-    /// Adds the joins of a cover with each of a list. Fails if out of memory.
+    /// Adds the joins of a cover with each of a list.
     fn add_row(
         &mut self,
         edge: &Edge,
@@ -91,8 +90,7 @@ impl Board {
         Ok(())
     }
 
-    /// Adds the cover that serves where two others do, and that asks for what each of them asks for; or none, if there
-    /// is no such letter. Fails if out of memory.
+    /// Adds the cover that serves where two others do and asks for what both ask for, if there is such a letter.
     fn add_join(&mut self, a: Edge, b: Edge, joins: &mut Vec<Edge>) -> Result<(), AllocError>
         requires board { IsBoard self.old }
         requires a { IsEdgeOf self.old a }
@@ -110,7 +108,7 @@ impl Board {
         Ok(())
     }
 
-    /// The cover with a given guard that asks for what two others ask for. Fails if out of memory.
+    /// The cover with this guard that asks for what both ask for.
     fn join_with(&mut self, guard: Node, a: Edge, b: Edge) -> Result<Edge, AllocError>
         requires board { IsBoard self.old }
         requires guard { IsNode self.old.guards guard }

@@ -10,33 +10,33 @@ ghost use Rattle.ps_tableau.specs.Operators.{postponing_cover};
 ghost use Rattle.ps_tableau.specs.Runs.{HasFairRun, HasRound, IsFair, IsFairRun, IsPartialTableau, IsTableau};
 ghost use Rattle.ps_tableau.specs.Runs.{Tableau};
 
-/// A word with a fair run satisfies the obligations of the run's first state, even if not each cover leads to a state.
+/// A word with a fair run satisfies the obligations of its first state, even if not each cover leads to a state.
 pub fn fair_run_satisfies()
     ensures { (t : Tableau) (w : ℕ → ℕ) (states : ℕ → ℕ) (run : ℕ → Cover) → IsPartialTableau t →
         IsFairRun t w states run → SatisfiesAll (t.obligations (states 0)) w 0 }
 {}
 
-/// A word that satisfies the obligations of a state has a fair run from this state, if each formula is true or false at
-/// each of its indices.
+/// A word that satisfies a state's obligations has a fair run from there, if each formula is true or false at each
+/// index.
 pub fn satisfied_has_fair_run()
     ensures { (t : Tableau) (w : ℕ → ℕ) (q : ℕ) → IsTableau t → IsDecidedWord w → q < t.count →
         SatisfiesAll (t.obligations q) w 0 → HasFairRun t w q }
 {}
 
-/// If each index of a fair run has one of finitely many values, two indices with the same value have between them, for
-/// each until, an index at which it is not postponed.
+/// If the indices of a fair run have finitely many values, two with the same value have between them, for each until,
+/// one at which it is not postponed.
 pub fn fair_run_has_round()
     ensures { (untils : List NormalFormula) (run : ℕ → Cover) (values : ℕ → ℕ) (count : ℕ) → IsFair untils run →
         ((i : ℕ) → values i < count) → HasRound untils run values }
 {}
 
-/// Covers of `p U q` that do not say that it is postponed, or that lack the second way, are wrong.
+/// Covers of `p U q` that do not postpone it, or that lack the second way, are wrong.
 pub fn wrong_covers_are_none()
     ensures postponing { ¬ AreCoversOf (p_until_q ∷ []) (end_now ∷ unmarked ∷ []) }
     ensures second_way { ¬ AreCoversOf (p_until_q ∷ []) (end_now ∷ []) }
 {}
 
-/// The covers of a formula, from the covers of its operands.
+/// The covers of a formula, by those of its operands.
 pub fn covers_of_each_operator()
     ensures of_true { AreCoversOf (truth true ∷ []) (free_cover ∷ []) }
     ensures of_false { AreCoversOf (truth false ∷ []) [] }
@@ -55,7 +55,7 @@ pub fn covers_of_each_operator()
         AreCoversOf (keeps f g ∷ []) products }
 {}
 
-/// The covers of several obligations, from the covers of some of them and of the others.
+/// The covers of several obligations, by those of some of them and of the others.
 pub fn covers_of_more_obligations()
     ensures none { AreCoversOf [] (free_cover ∷ []) }
     ensures more { (some others : List NormalFormula) (first second products : List Cover) → AreCoversOf some first →

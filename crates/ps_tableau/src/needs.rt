@@ -1,4 +1,4 @@
-//! The formulas of a table that one of them needs.
+//! The formulas that one formula needs.
 
 ghost use Rattle.std.specs.Prelude.{◌≡◌, ◌<◌, ◌^◌, ℕ, IfOk, OnOk, length};
 ghost use Rattle.ps_formula.specs.NormalForms.{IsNormalOver, IsNormalTable};
@@ -8,8 +8,7 @@ ghost use Rattle.ps_tableau.specs.Needs.{AreUntils, IsNeeded, NeedsAll, NeedsOpe
 use ps_formula::NormalNode;
 use std::alloc::{AllocError, Global};
 
-/// Whether each formula of a table is needed: the formula with the given index is, and so are the operands of each
-/// formula that is needed. Fails if out of memory.
+/// Whether each formula is needed: that with the index `root`, and the operands of those that are.
 pub(crate) fn needs_of(
     alloc: Global,
     nodes: &[NormalNode],
@@ -31,7 +30,7 @@ pub(crate) fn needs_of(
     Ok(needed)
 }
 
-/// Notes that the operands of a node are needed.
+/// Notes a node's operands.
 fn need_operands(needed: &mut Vec<bool>, node: NormalNode)
     requires { IsNormalOver (length needed.old.items) node }
     ensures operands { NeedsOperands needed.new.items node }
@@ -50,7 +49,7 @@ fn need_operands(needed: &mut Vec<bool>, node: NormalNode)
     }
 }
 
-/// The untils that are needed. Fails if out of memory.
+/// The untils that are needed.
 pub(crate) fn untils_of(
     alloc: Global,
     nodes: &[NormalNode],
@@ -67,7 +66,7 @@ pub(crate) fn untils_of(
     Ok(untils)
 }
 
-/// Adds the index of a node, if the node is an until that is needed. Fails if out of memory.
+/// Adds the index of a node that is a needed until.
 fn add_until(
     untils: &mut Vec<u32>,
     index: u32,

@@ -1,4 +1,4 @@
-//! The covers of each formula, from the covers of its operands.
+//! The covers of each formula, by those of its operands.
 
 ghost use Rattle.std.specs.Prelude.{◌≡◌, ◌<◌, ◌∷◌, [], All, Contains, IfOk, Some, length, slice_get};
 ghost use Rattle.ps_formula.specs.NormalForms.{NormalFormula, after, keeps, literal, normal_formula_at, reaches, truth};
@@ -11,7 +11,7 @@ use ps_formula::NormalNode;
 use std::alloc::AllocError;
 
 impl Board {
-    /// The covers of each formula that is needed, by the formula's index. Fails if out of memory.
+    /// The covers of each formula that is needed, by its index.
     pub(crate) fn all_ways(&mut self) -> Result<Vec<Vec<Edge>>, AllocError>
         requires { IsBoard self.old }
         ensures grows { Grows self.old self.new }
@@ -26,7 +26,7 @@ impl Board {
         Ok(ways)
     }
 
-    /// The covers of a formula, if it is needed, from those of the formulas before it. Fails if out of memory.
+    /// The covers of the next formula, if it is needed.
     fn next_ways(&mut self, index: u32, known: &[Vec<Edge>]) -> Result<Vec<Edge>, AllocError>
         requires board { IsBoard self.old }
         requires index { index < length self.old.formulas }
@@ -43,7 +43,7 @@ impl Board {
         self.ways_of(index, node, known)
     }
 
-    /// The covers of a formula, from those of the formulas before it. Fails if out of memory.
+    /// The covers of a formula, by those of the formulas before it.
     fn ways_of(
         &mut self,
         index: u32,
@@ -87,7 +87,7 @@ impl Board {
         }
     }
 
-    /// The covers of a formula, from a list of those of all formulas before some index.
+    /// The known covers of a formula.
     pub(crate) fn ways_at<'a>(&self, known: &'a [Vec<Edge>], index: u32) -> &'a [Edge]
         requires known { HaveWays self.now known.now }
         requires within { index < length known.now }
@@ -134,7 +134,7 @@ impl Board {
         self.appended(&[edge], &[])
     }
 
-    /// The covers of an until, from those of its operands.
+    /// The covers of an until, by those of its operands.
     fn ways_of_until(
         &mut self,
         index: u32,
@@ -156,7 +156,7 @@ impl Board {
         self.either(second, &later)
     }
 
-    /// The covers of a release, from those of its operands.
+    /// The covers of a release, by those of its operands.
     fn ways_of_release(
         &mut self,
         index: u32,

@@ -1,4 +1,4 @@
-//! Subsumption: a cover loses the letters for which another asks for no more.
+//! A cover loses the letters at which another asks for no more.
 
 ghost use Rattle.std.specs.Prelude.{◌≡◌, ◌++◌, ◌∷◌, [], All, IfOk, IsTrue, OnOk};
 ghost use Rattle.ps_tableau.specs.Boards.{Grows, IsBoard, IsEdgeOf, MakesEdges, cover_of, covers_of};
@@ -10,7 +10,7 @@ use crate::edge::Edge;
 use std::alloc::AllocError;
 
 impl Board {
-    /// The covers of a list without the letters for which others ask for no more. Fails if out of memory.
+    /// The covers without such letters.
     pub(crate) fn pruned(&mut self, edges: &[Edge]) -> Result<Vec<Edge>, AllocError>
         requires board { IsBoard self.old }
         requires edges { All (IsEdgeOf self.old) edges.now }
@@ -25,7 +25,7 @@ impl Board {
         Ok(kept)
     }
 
-    /// The covers of a list and one more, without the letters for which others ask for no more. Fails if out of memory.
+    /// The same for one more cover.
     pub(crate) fn with_edge(&mut self, edges: &[Edge], edge: &Edge) -> Result<Vec<Edge>, AllocError>
         requires board { IsBoard self.old }
         requires edges { All (IsEdgeOf self.old) edges.now }
@@ -43,7 +43,7 @@ impl Board {
         Ok(kept)
     }
 
-    /// What is left of a cover beside another; what is left of the other is added to a list. Fails if out of memory.
+    /// What is left of a cover beside another; what is left of that is added to the list.
     fn settle(&mut self, edge: Edge, other: Edge, kept: &mut Vec<Edge>) -> Result<Edge, AllocError>
         requires board { IsBoard self.old }
         requires edge { IsEdgeOf self.old edge }
@@ -67,7 +67,7 @@ impl Board {
         Ok(edge)
     }
 
-    /// Adds a cover to a list, unless it serves at no letter. Fails if out of memory.
+    /// Adds a cover, unless it serves at no letter.
     fn add_edge(&mut self, edge: Edge, kept: &mut Vec<Edge>) -> Result<(), AllocError>
         requires board { IsBoard self.old }
         requires edge { IsEdgeOf self.old edge }
@@ -93,7 +93,7 @@ impl Board {
             && self.sets.is_within(edge.postponed, other.postponed)
     }
 
-    /// A cover without the letters for which another serves. Fails if out of memory.
+    /// A cover without the letters for which another serves.
     fn lessened(&mut self, edge: Edge, other: Edge) -> Result<Edge, AllocError>
         requires board { IsBoard self.old }
         requires edge { IsEdgeOf self.old edge }
@@ -108,7 +108,7 @@ impl Board {
         Ok(Edge { guard, ..edge })
     }
 
-    /// The cover that serves where one of two others with the same sets does. Fails if out of memory.
+    /// The cover that serves where one of two with the same sets does.
     fn united(&mut self, edge: Edge, other: Edge) -> Result<Edge, AllocError>
         requires board { IsBoard self.old }
         requires edge { IsEdgeOf self.old edge }

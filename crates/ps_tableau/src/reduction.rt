@@ -1,4 +1,4 @@
-//! Reduction: a set loses the formulas that its other formulas bring back.
+//! A set loses the formulas that its others bring back.
 
 ghost use Rattle.std.specs.Prelude.{◌≡◌, ◌<◌, ◌∷◌, [], All, IfOk, IsTrue, OnOk, Some, length, slice_get};
 ghost use Rattle.ps_formula.specs.NormalForms.{normal_formula_at};
@@ -15,7 +15,7 @@ use ps_formula::NormalNode;
 use std::alloc::AllocError;
 
 impl Board {
-    /// The covers of a list, with reduced sets for the next index, pruned. Fails if out of memory.
+    /// The covers with reduced sets for the next index, pruned.
     pub(crate) fn reduced(&mut self, edges: &[Edge]) -> Result<Vec<Edge>, AllocError>
         requires board { IsBoard self.old }
         requires edges { All (IsEdgeOf self.old) edges.now }
@@ -31,7 +31,7 @@ impl Board {
         Ok(kept)
     }
 
-    /// A cover with a reduced set for the next index. Fails if out of memory.
+    /// The same for one cover.
     fn reduced_edge(&mut self, edge: &Edge) -> Result<Edge, AllocError>
         requires board { IsBoard self.old }
         requires edge { IsEdgeOf self.old edge.now }
@@ -47,7 +47,7 @@ impl Board {
         })
     }
 
-    /// A set without the formulas that its other formulas bring back. Fails if out of memory.
+    /// A set without the formulas that its others bring back.
     fn reduced_set(&mut self, set: Set) -> Result<Set, AllocError>
         requires board { IsBoard self.old }
         requires set { IsState self.old set }
@@ -62,8 +62,7 @@ impl Board {
         self.sets.with_all(&kept, Set::EMPTY)
     }
 
-    /// Adds a formula to a list, unless the formulas of the list, or those of another, bring it back. Fails if out of
-    /// memory.
+    /// Adds a formula, unless those of either list bring it back.
     fn keep(&self, kept: &mut Vec<u32>, rest: &[u32], index: u32) -> Result<(), AllocError>
         requires board { IsBoard self.now }
         requires kept { WithinTable self.now kept.old.items }
@@ -81,7 +80,7 @@ impl Board {
         Ok(())
     }
 
-    /// Whether one of some formulas brings a formula back.
+    /// Whether one of these formulas brings a formula back.
     fn is_brought(&self, known: &[u32], index: u32) -> bool
         requires board { IsBoard self.now }
         requires known { WithinTable self.now known.now }
@@ -97,7 +96,7 @@ impl Board {
         false
     }
 
-    /// Whether a formula brings another back: it keeps the other, or the end of the other.
+    /// Whether a formula keeps another, or its end.
     fn brings(&self, from: u32, to: u32) -> bool
         requires board { IsBoard self.now }
         requires from { from < length self.now.formulas }
@@ -116,7 +115,7 @@ impl Board {
         }
     }
 
-    /// Whether a formula keeps another: it is the other, or a release whose right side keeps the other.
+    /// Whether a formula is another, or a release whose right side keeps it.
     fn keeps(&self, from: u32, to: u32) -> bool
         requires board { IsBoard self.now }
         requires from { from < length self.now.formulas }
@@ -134,7 +133,6 @@ impl Board {
         }
     }
 
-    /// The node of a formula.
     fn node_at(&self, index: u32) -> NormalNode
         requires { index < length self.now.formulas }
         ensures { slice_get self.now.formulas index ≡ Some result }

@@ -8,7 +8,7 @@ ghost use Rattle.ps_keys.specs.Hashes.{mixed};
 use ps_keys::{Hashed, Word, mixed};
 use std::marker::Model;
 
-/// A set of formulas of a tableau. A set may be used with the tableau that made it.
+/// A set of formulas of the tableau that made it.
 #[derive(Debug, Clone, Copy, PartialEq, Eq)]
 pub struct Set {
     pub(crate) number: u32,
@@ -25,10 +25,9 @@ impl Model for Set {
 }
 
 impl Set {
-    /// The set without formulas.
     pub(crate) const EMPTY: Set = Set { number: 0 };
 
-    /// The number of the set.
+    /// Its number.
     pub fn number(self) -> u32
         ensures { result ≡ self }
     {

@@ -1,4 +1,4 @@
-//! A table of sets of formulas.
+//! A table of sets.
 
 ghost use Rattle.std.specs.Prelude.{◌≡◌, ◌↔◌, ◌∷◌, ℕ, [], Contains, IfOk, IsTrue, MatchOption};
 ghost use Rattle.ps_tableau.specs.Inner.SetSteps.{AreMerged, ArePartsOf, AreSetsWith, IsGreatest, IsNone, IsUnion};
@@ -10,9 +10,8 @@ use ps_keys::KeyList;
 use std::alloc::{AllocError, Global};
 use std::marker::Model;
 
-/// A table of sets of formulas, which are numbered from 0. A formula is given by its index in a table of formulas. The
-/// set 0 is empty; the set k + 1 is given by the pair with the index k, which has the greatest index of a formula of
-/// the set, and the set of its other formulas. So equal sets have one number.
+/// Sets of formulas, which are given by their indices. The set 0 is empty; the set k + 1 is the pair at the index k, of
+/// its greatest formula and the set of the others. So equal sets have one number.
 #[derive(Debug, Drop)]
 pub(crate) struct Sets {
     pairs: KeyList<(u32, Set)>,
@@ -35,22 +34,21 @@ impl Model for Sets {
 pub(crate) struct Parts {
     /// The greatest formula.
     pub greatest: u32,
-    /// The set of the other formulas.
+    /// The set of the others.
     pub others: Set,
 }
 
-/// The greatest formula of two sets that are not empty.
+/// The greatest formula of two sets.
 #[derive(Clone, Copy)]
 pub(crate) struct Greatest {
-    /// The formula.
     pub index: u32,
-    /// The first set, without the formula.
+    /// The first set without it.
     pub first: Set,
-    /// The second set, without the formula.
+    /// The second set without it.
     pub second: Set,
 }
 
-/// Two sets, taken apart.
+/// Two sets, partly taken apart.
 #[derive(Drop)]
 pub(crate) struct Merged {
     /// Formulas of the sets, in descending order.
@@ -60,7 +58,7 @@ pub(crate) struct Merged {
 }
 
 impl Sets {
-    /// A table that has the empty set alone.
+    /// The empty set alone.
     pub(crate) fn new(alloc: Global) -> Self
         ensures { result ≡ [] }
     {
@@ -70,7 +68,7 @@ impl Sets {
         }
     }
 
-    /// The greatest formula of a set and the set of the others, unless the set is empty.
+    /// The parts of a set, unless it is empty.
     pub(crate) fn parts(&self, set: Set) -> Option<Parts>
         requires { IsSet self.now set }
         ensures parts { MatchOption result (set ≡ 0) (ArePartsOf self.now set) }
@@ -87,7 +85,7 @@ impl Sets {
         })
     }
 
-    /// The set with one more formula, which is greater than those of the given set.
+    /// The set with one more formula, the greatest.
     pub(crate) fn with(&mut self, index: u32, rest: Set) -> Result<Set, AllocError>
         requires { IsSet self.old rest }
         ensures extends { KeepsSets self.old self.new }
@@ -101,7 +99,6 @@ impl Sets {
         })
     }
 
-    /// The union of two sets. Fails if out of memory.
     pub(crate) fn union(&mut self, a: Set, b: Set) -> Result<Set, AllocError>
         requires a { IsSet self.old a }
         requires b { IsSet self.old b }
@@ -113,7 +110,7 @@ impl Sets {
         self.with_all(&merged.taken, merged.rest)
     }
 
-    /// Two sets, taken apart until one of them is empty. Fails if out of memory.
+    /// Two sets, taken apart until one is empty.
     fn merged(&self, a: Set, b: Set) -> Result<Merged, AllocError>
         requires a { IsSet self.now a }
         requires b { IsSet self.now b }
@@ -132,7 +129,7 @@ impl Sets {
         Ok(Merged { taken, rest })
     }
 
-    /// The greatest formula of two sets, and the sets without it. The result is `None` if one of the sets is empty.
+    /// Their greatest formula, unless one is empty.
     fn greatest(&self, a: Set, b: Set) -> Option<Greatest>
         requires a { IsSet self.now a }
         requires b { IsSet self.now b }
@@ -149,8 +146,7 @@ impl Sets {
         })
     }
 
-    /// A set with more formulas, each of which is greater than those behind it and those of the set. Fails if out of
-    /// memory.
+    /// A set with more formulas, each greater than those after it and those of the set.
     pub(crate) fn with_all(&mut self, more: &[u32], set: Set) -> Result<Set, AllocError>
         requires { IsSet self.old set }
         ensures extends { KeepsSets self.old self.new }
@@ -165,7 +161,7 @@ impl Sets {
         Ok(set)
     }
 
-    /// Whether each formula of a set is one of another.
+    /// Whether each formula of a set is in another.
     pub(crate) fn is_within(&self, a: Set, b: Set) -> bool
         requires a { IsSet self.now a }
         requires b { IsSet self.now b }
@@ -191,7 +187,6 @@ impl Sets {
         true
     }
 
-    /// Whether a formula is in a set.
     pub(crate) fn contains(&self, set: Set, index: u32) -> bool
         requires { IsSet self.now set }
         ensures { IsTrue result ↔ Contains (indices_in self.now set) index }
@@ -206,7 +201,7 @@ impl Sets {
         false
     }
 
-    /// The formulas of a set, in descending order. Fails if out of memory.
+    /// The formulas of a set, in descending order.
     pub(crate) fn members(&self, set: Set) -> Result<Vec<u32>, AllocError>
         requires { IsSet self.now set }
         ensures { IfOk result (λ members. members.items ≡ indices_in self.now set) }

@@ -1,4 +1,4 @@
-//! The covers of a set of formulas.
+//! The covers of a state.
 
 ghost use Rattle.std.specs.Prelude.{◌≡◌, ◌<◌, ◌++◌, ◌∷◌, [], All, IfOk, List, length};
 ghost use Rattle.ps_formula.specs.NormalForms.{NormalFormula, normal_formula_at};
@@ -15,7 +15,7 @@ use ps_formula::NormalFormulas;
 use std::alloc::{AllocError, Global};
 
 impl Board {
-    /// A board for a formula of a table. Fails if out of memory.
+    /// A board for a formula of a table.
     pub(crate) fn new(
         alloc: Global,
         formulas: NormalFormulas,
@@ -43,7 +43,7 @@ impl Board {
         })
     }
 
-    /// The edges from a state, given the covers of each formula that is needed. Fails if out of memory.
+    /// The edges from a state, by the covers of each formula.
     pub(crate) fn edges(&mut self, ways: &[Vec<Edge>], state: Set) -> Result<Vec<Edge>, AllocError>
         requires right { IsRight self.old ways.now }
         requires state { IsState self.old state }
@@ -60,8 +60,7 @@ impl Board {
         self.reduced(&edges)
     }
 
-    /// The covers of some formulas and of one more, given the covers of each formula that is needed. Fails if out of
-    /// memory.
+    /// The covers of some formulas and of one more.
     fn joined_with(
         &mut self,
         edges: &[Edge],

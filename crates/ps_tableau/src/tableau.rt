@@ -14,7 +14,7 @@ use ps_formula::Formulas;
 use std::alloc::{AllocError, Global};
 use std::marker::Model;
 
-/// The tableau of a formula. Its states are sets of formulas, which are made when they are reached.
+/// Its states are sets of formulas, which are made when they are reached.
 #[derive(Debug, Drop)]
 pub struct Tableau {
     board: Board,
