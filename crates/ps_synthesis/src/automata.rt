@@ -11,12 +11,8 @@ use ps_automaton::{Automaton, refusal_is_one};
 use ps_hoa::one_answer;
 use std::alloc::Global;
 
-/// The automaton of an HOA text.
-///
-/// # Errors
-///
-/// Fails with the first error of the text, or with the reason why its file has no automaton; fails at any time if
-/// memory runs out.
+/// The automaton of an HOA text. Fails with the text's first error, with the reason why its file has no automaton, or
+/// if out of memory.
 pub fn read_automaton(alloc: Global, text: &[u8]) -> Result<Automaton, SynthFault>
     ensures automaton { IfOk result (IsAutomatonOf text.now) }
     ensures refused { IfErr result (IsTextFault text.now) }

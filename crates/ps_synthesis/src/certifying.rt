@@ -1,4 +1,4 @@
-//! Checks the certificate that a solver returns for a game.
+//! Checks certificates that solvers return.
 
 ghost use Rattle.std.specs.Prelude.{◌≡◌, ◌<◌, ◌↔◌, IsTrue, true, map, slice_index, All, Ok, Err, IfOk, IfErr};
 ghost use Rattle.ps_certificate.specs.Regions.{BothHold, NoneWinsOutside};
@@ -14,13 +14,8 @@ use ps_game::NamedGame;
 use ps_machine::{SolveFault, Solver};
 use std::alloc::{AllocError, Global};
 
-/// The certificate that a solver returns for a game, if it fits the game and is valid.
-///
-/// # Errors
-///
-/// Fails with the solver's fault, or with `NotCertified` if the solver's certificate does not fit the game or is not
-/// valid; fails at any time if memory runs out. If the solver is sure (it returns only valid certificates that fit the
-/// game, and fails only if memory runs out), this function also fails only if memory runs out.
+/// The certificate that a solver returns, if it fits the game and is valid. Fails with the solver's fault, with
+/// `NotCertified`, or if out of memory, which is the only fault with a sure solver.
 pub fn certified<S: Solver>(
     alloc: Global,
     game: &NamedGame,
@@ -51,7 +46,7 @@ pub fn is_certified(game: &NamedGame, certificate: &Certificate) -> bool
     fits(game.game(), certificate) && check(game.game(), certificate).is_ok()
 }
 
-/// The fault that synthesis returns if the solver returned the given fault. Vertices are named by their ids.
+/// The fault of synthesis for a solver's fault, with ids for vertices.
 fn refused(alloc: Global, game: &NamedGame, fault: SolveFault) -> SynthFault
     requires { NamesVertices game.now (Err fault) }
     ensures { IsFaultFor game.now fault result }

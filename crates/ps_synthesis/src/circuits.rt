@@ -1,4 +1,4 @@
-//! Builds the circuit of the player who wins the start vertex according to a certificate.
+//! The winner's circuit.
 
 ghost use Rattle.std.specs.Prelude.{IfOk, IfErr};
 ghost use Rattle.ps_automaton.specs.Automata.{IsBuiltFrom};
@@ -21,11 +21,8 @@ use ps_machine::{AutomatonGame, Order, machine_of_certificate, one_game};
 use ps_traces::certified_circuit_answers;
 use std::alloc::Global;
 
-/// Builds the circuit of the player who wins the start vertex, from a certificate of the automaton's game.
-///
-/// # Errors
-///
-/// Fails if the circuit needs more than 2147483647 variables, or if memory runs out.
+/// The circuit of the player who wins the start vertex, from a valid certificate of the automaton's game. Fails if it
+/// needs more than 2147483647 variables, or if out of memory.
 pub fn circuit_of_certificate(
     alloc: Global,
     automaton: &Automaton,
@@ -43,8 +40,8 @@ pub fn circuit_of_certificate(
 {
     one_game();
     let machine = machine_of_certificate(alloc, automaton, order, game, certificate)?;
-    // The law `certified_circuit_answers` needs `IsMachine` for `machine`, which the contract of `player` guarantees
-    // (as part of `IsWholeMachine`). So `player` is called before the machine is freed, though its result is not used.
+    // The law `certified_circuit_answers` needs `IsMachine`, which only the contract of `player` gives: so it is called
+    // before the machine is freed.
     let _ = machine.player();
     let circuit = encode(alloc, &machine);
     drop(machine);

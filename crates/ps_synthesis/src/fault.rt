@@ -1,4 +1,4 @@
-//! Why a text gets no report.
+//! The faults of synthesis.
 
 ghost use Rattle.std.specs.Prelude.{◌≡◌};
 ghost use Rattle.ps_synthesis.specs.declared.fault.SynthFault.TheVariants.{OutOfMemory};
@@ -17,24 +17,23 @@ pub enum SynthFault {
     /// The HOA text has an error.
     #[error("{} at byte {offset}", .cause.name())]
     Text {
-        /// The error of the HOA text.
+        /// Its cause.
         cause: HoaCause,
-        /// The offset of the error in bytes, from 0.
+        /// Its offset in bytes, from 0.
         offset: usize,
     },
-    /// The HOA text has no error, but psyn does not accept the automaton that it describes.
+    /// The HOA text has no error, but psyn does not accept its automaton.
     #[error("{0}")]
     Automaton(AutomatonFault),
-    /// The solver reported a cycle that its moves for a player allow; this player loses if a play repeats the cycle for
-    /// ever. The cycle's vertices are named by their ids.
+    /// The solver reported a cycle, here by ids, that its moves for a player allow, and that this player loses.
     #[error("a cycle that its player loses")]
     BadCycle(Vec<u64>),
-    /// The text that the solver was fed is not the text of a certificate of the game.
+    /// The text that the solver was fed is no certificate of the game.
     #[error("{} of the certificate at byte {offset}", .cause.name())]
     Certificate {
-        /// The error of the certificate's text.
+        /// Its cause.
         cause: CertCause,
-        /// The offset of the error in bytes, from 0.
+        /// Its offset in bytes, from 0.
         offset: usize,
     },
     /// The solver's certificate does not fit the game, or is not valid.

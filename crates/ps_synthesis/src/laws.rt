@@ -1,4 +1,4 @@
-//! Laws about the circuit that a certificate gives the winner of a game, and about the texts that psyn writes.
+//! Laws about winners' circuits, and about the texts that psyn writes.
 
 ghost use Rattle.std.specs.Prelude.{◌≡◌, ◌<◌, ◌⊎◌, Bool};
 ghost use Rattle.ps_aiger.specs.Wires.{IsOutOfLiterals};
@@ -18,8 +18,7 @@ ghost use Rattle.ps_synthesis.specs.Printing.{HasCircuitWords, HasGameWords};
 ghost use Rattle.ps_synthesis.specs.Printing.{PrintsCertificate, PrintsCircuit, PrintsGame};
 ghost use Rattle.ps_synthesis.specs.Reports.{IsWinners, IsWinnersCircuit};
 
-/// A certificate of a file's game determines at most one circuit of the winner, and none if the circuit would need too
-/// many variables.
+/// A certificate of a file's game gives at most one circuit, and none if this would need too many variables.
 pub fn winners_circuit_is_one()
     ensures one { (order : Order) (file : FileData) (game : NamedGameData) (first second : IsGameOfFile order file game)
         (certificate : CertificateData) (c d : CircuitData) → IsWinnersCircuit order file game first certificate c →
@@ -35,8 +34,7 @@ pub fn winners_circuit_is_one()
     ps_aiger::circuit_has_literals();
 }
 
-/// Each certificate that is valid and fits a file's game determines a circuit of the winner, unless the circuit would
-/// need too many variables.
+/// A valid certificate gives a circuit, unless this would need too many variables.
 pub fn winners_circuit_is_there()
     ensures { (order : Order) (file : FileData) (game : NamedGameData) (is_game : IsGameOfFile order file game)
         (certificate : CertificateData) → IsSoundFile file → IsCertified game certificate →
@@ -47,9 +45,8 @@ pub fn winners_circuit_is_there()
     ps_aiger::circuit_is_there();
 }
 
-/// The texts that psyn writes for a game, a certificate of the game and a circuit can be parsed again, with the same
-/// values, if the numbers in them fit in 64 bits, as they do in each value of the types `NamedGame`, `Certificate` and
-/// `Circuit`. The text of a game must also not be longer than the parser accepts.
+/// The texts of a game, a certificate and a circuit parse to the same values, if the numbers in them fit in 64 bits, as
+/// those of `NamedGame`, `Certificate` and `Circuit` do, and if the game's text is no longer than the parser accepts.
 pub fn written_texts_are_read()
     ensures game { (game : NamedGameData) → 0 < vertex_count game.game → IsNamedGame game → HasGameWords game →
         PrintsGame (game_text game) game }

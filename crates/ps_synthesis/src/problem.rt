@@ -1,5 +1,4 @@
-//! A synthesis problem is made from an HOA text, gives the game to solve, and makes a circuit and a report from a
-//! certificate of that game.
+//! A synthesis problem: an HOA text's game, and what a certificate of it gives.
 
 ghost use Rattle.std.specs.Prelude.{◌≡◌, ℕ, true, List, IfOk, IfErr};
 ghost use Rattle.std.specs.Result.{IsErrAnd};
@@ -27,17 +26,16 @@ use ps_machine::{AutomatonGame, Order, Solver};
 use std::alloc::Global;
 use std::marker::Model;
 
-/// The solution of a problem: who wins each vertex of its game and by which moves, and the winner's circuit.
+/// Who wins each vertex of a problem's game, by which moves, and the winner's circuit.
 #[derive(Drop)]
 pub struct Synthesis {
     /// A valid certificate of the game.
     pub certificate: Certificate,
-    /// The circuit of the player who wins vertex 0, which is a controller or an environment.
+    /// The circuit of the player who wins vertex 0: a controller or an environment.
     pub circuit: Circuit,
 }
 
-/// A synthesis problem: the automaton of a text, the player who moves first, and the game that they define. A valid
-/// certificate of the game solves the problem, since it states who wins each vertex, and by which moves.
+/// The automaton of a text, the player who moves first, and their game, which a valid certificate solves.
 #[derive(Drop)]
 pub struct Problem {
     order: Order,
@@ -64,12 +62,8 @@ impl Model for Problem {
 }
 
 impl Problem {
-    /// The problem of an HOA text: to win the game that the text's automaton defines for the given order of moves.
-    ///
-    /// # Errors
-    ///
-    /// Fails with the first error of the text, or with the reason why its file has no automaton; fails at any time if
-    /// memory runs out.
+    /// The problem of an HOA text. Fails with the text's first error, with the reason why its file has no automaton, or
+    /// if out of memory.
     pub fn read(alloc: Global, text: &[u8], order: Order) -> Result<Problem, SynthFault>
         ensures problem { IfOk result (IsProblemOf order text.now) }
         ensures refused { IfErr result (IsTextFault text.now) }
@@ -85,7 +79,7 @@ impl Problem {
         })
     }
 
-    /// The game that must be solved for this problem.
+    /// The game to solve.
     pub fn game(&self) -> &NamedGame
         ensures game { result.now ≡ self.now.game }
         ensures problem { IsProblem self.now }
@@ -93,19 +87,13 @@ impl Problem {
         &self.game.game
     }
 
-    /// Frees the problem. The proof that all fields of a problem are freed correctly is made once, here, rather than in
-    /// each caller.
+    /// Frees the problem; that this is right is proved here once, and not in each caller.
     pub fn close(self) {
         drop(self);
     }
 
-    /// The report that a certificate of the game gives: who wins, the winner's circuit, the game, and the certificate
-    /// as a plain or a compact text.
-    ///
-    /// # Errors
-    ///
-    /// Fails with `NotCertified` if the certificate does not fit the game or is not valid, and with `CircuitTooLarge`
-    /// if the circuit would need too many variables; fails at any time if memory runs out.
+    /// The report that a certificate gives. Fails with `NotCertified` if this does not fit the game or is not valid,
+    /// with `CircuitTooLarge` if the circuit would need too many variables, or if out of memory.
     pub fn report(
         &self,
         alloc: Global,
@@ -127,11 +115,8 @@ impl Problem {
         self.report_of_certified(alloc, certificate, compact)
     }
 
-    /// The report that a valid certificate of the game gives; the certificate is not checked again.
-    ///
-    /// # Errors
-    ///
-    /// Fails if the circuit would need more variables than AIGER literals can number, or if memory runs out.
+    /// The report that a valid certificate gives, which is not checked again. Fails if the circuit would need more
+    /// variables than AIGER literals can number, or if out of memory.
     pub fn report_of_certified(
         &self,
         alloc: Global,
@@ -148,12 +133,7 @@ impl Problem {
         Ok(report_of(alloc, self.game(), certificate, &circuit, compact)?)
     }
 
-    /// The circuit of the player who wins the start vertex, from a valid certificate of the game; the certificate is
-    /// not checked again.
-    ///
-    /// # Errors
-    ///
-    /// Fails if the circuit would need more variables than AIGER literals can number, or if memory runs out.
+    /// The winner's circuit by a valid certificate, which is not checked again. Fails as `report_of_certified`.
     pub fn circuit(&self, alloc: Global, certificate: &Certificate) -> Result<Circuit, SynthFault>
         requires { IsCertified self.now.game certificate.now }
         ensures circuit { (order : Order) (text : List ℕ) → IsProblemOf order text self.now → IfOk result (λ circuit.
@@ -170,13 +150,8 @@ impl Problem {
         circuit_of_certificate(alloc, &self.automaton, self.order, &self.game, certificate)
     }
 
-    /// Solves the game with the given solver: the certificate that the solver returns, which is checked, and the
-    /// circuit that the certificate gives the player who wins the start vertex.
-    ///
-    /// # Errors
-    ///
-    /// Fails with the solver's fault, with `NotCertified` if the solver's certificate does not fit the game or is not
-    /// valid, or with `CircuitTooLarge`; fails at any time if memory runs out.
+    /// The certificate that a solver returns, checked, and the winner's circuit. Fails with the solver's fault, with
+    /// `NotCertified`, with `CircuitTooLarge`, or if out of memory.
     pub fn solve<S: Solver>(&self, alloc: Global, solver: &mut S) -> Result<Synthesis, SynthFault>
         ensures synthesis { (order : Order) (text : List ℕ) → IsProblemOf order text self.now → IfOk result (λ made.
             IsWinnersSynthesis (Answered (S.known solver.old) (S.known solver.new)) order text

@@ -1,4 +1,4 @@
-//! The report that synthesis returns.
+//! Reports.
 
 ghost use Rattle.std.specs.Prelude.{◌≡◌, ◌<◌, ◌↔◌, IsTrue, IfOk};
 ghost use Rattle.ps_certificate.specs.Certificates.{Fits};
@@ -11,12 +11,12 @@ use ps_certificate::Certificate;
 use ps_game::NamedGame;
 use std::alloc::{AllocError, Global};
 
-/// The result of synthesis: who wins, and the texts of a game, a certificate and a circuit, which show this.
+/// Who wins, and the texts that show it.
 #[derive(Debug, Drop)]
 pub struct Report {
     /// Whether the controller wins.
     pub realizable: bool,
-    /// The circuit of the winner, which is a controller or an environment.
+    /// The winner's circuit, a controller or an environment.
     pub circuit_text: Vec<u8>,
     /// The game of the automaton.
     pub game_text: Vec<u8>,
@@ -24,8 +24,7 @@ pub struct Report {
     pub certificate_text: Vec<u8>,
 }
 
-/// Makes a report from a circuit, a game and a certificate, which is printed as a plain or a compact text. Fails if out
-/// of memory.
+/// The report of a circuit, a game and a certificate, whose text is plain or compact. Fails if out of memory.
 pub fn report_of(
     alloc: Global,
     game: &NamedGame,
@@ -49,8 +48,7 @@ pub fn report_of(
     })
 }
 
-/// The text of a certificate: compact (without the counts that are 0) if the flag is set, and otherwise with all its
-/// counts. Fails if out of memory.
+/// The text of a certificate, in which `compact` leaves out counts that are 0. Fails if out of memory.
 pub fn certificate_text(
     alloc: Global,
     certificate: &Certificate,

@@ -1,4 +1,4 @@
-//! The whole synthesis, from an HOA text to a report, with a given solver.
+//! From an HOA text to a report, with a given solver.
 
 ghost use Rattle.std.specs.Prelude.{◌≡◌, ℕ, true, List, IfOk, IfErr};
 ghost use Rattle.ps_hoa.specs.Files.{FileData};
@@ -15,13 +15,8 @@ use crate::report::{Report, report_of};
 use ps_machine::{Order, Solver};
 use std::alloc::Global;
 
-/// Makes the report of an HOA text: the automaton's game for the given order of moves, the certificate that the given
-/// solver returns, and the circuit of the player who wins the start vertex.
-///
-/// # Errors
-///
-/// Fails, in this order, with the first error of the text; with the reason why the text has no automaton; with the
-/// solver's fault, or with `NotCertified`; or with `CircuitTooLarge`. Fails at any time if memory runs out.
+/// The report of an HOA text. Fails with the first of these that occurs: an error of the text, the reason why it has no
+/// automaton, the solver's fault, `NotCertified`, and `CircuitTooLarge`; or if out of memory.
 pub fn synthesise_by<S: Solver>(
     alloc: Global,
     text: &[u8],
@@ -29,8 +24,7 @@ pub fn synthesise_by<S: Solver>(
     compact: bool,
     solver: &mut S,
 ) -> Result<Report, SynthFault>
-    // Whatever the solver returns, a report is right, and a fault occurs only for the reason that `IsSynthFault`
-    // states. The clauses `report` and `refused` refer to the answer that the solver returned.
+    // Whatever the solver returns, which `Answered` refers to, a report is right and a fault has its cause.
     ensures report { IfOk result (IsReport (Answered (S.known solver.old) (S.known solver.new)) order compact
         text.now) }
     ensures refused { IfErr result (IsSynthFault (Answered (S.known solver.old) (S.known solver.new)) order
@@ -38,8 +32,7 @@ pub fn synthesise_by<S: Solver>(
     // With a sure solver, an accepted text gets a report, unless memory runs out or the circuit is too large.
     ensures sure { (S.known solver.old).is_sure ≡ true → (file : FileData) → IsAcceptedText text.now file →
         IsReportOrFault (Answered (S.known solver.old) (S.known solver.new)) order compact text.now result }
-    // The call changes neither whether the solver is sure nor the text that the solver was fed (given) before. After
-    // the call, the solver has no possible answer that it did not have before.
+    // The solver stays as sure as it was, is fed the same text, and can give no answer that it could not give before.
     ensures kept { IsKept (S.known solver.old) (S.known solver.new) }
 {
     let problem = Problem::read(alloc, text, order)?;
@@ -48,7 +41,7 @@ pub fn synthesise_by<S: Solver>(
     report
 }
 
-/// Solves the game of a problem with the given solver, and makes the report.
+/// The report of a problem, whose game the solver solves.
 fn report_by<S: Solver>(
     alloc: Global,
     problem: &Problem,
