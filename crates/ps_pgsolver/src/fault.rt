@@ -4,16 +4,16 @@ ghost use Rattle.ps_pgsolver.specs.Causes.{cause_name, cause_number};
 
 use ps_text::faults::{Cause, Fault};
 
-/// Why a game text is rejected (PGSolver's format; the limit on its length is psyn's own).
+/// Why a game text is rejected; the limit is psyn's own.
 #[derive(Clone, Copy, Debug, PartialEq, Eq)]
 pub enum PgCause {
-    /// A token that is not allowed at its position, or an early end of the text.
+    /// A token, or the end of the text, is not allowed here.
     Syntax,
     /// A node without a successor.
     NoSuccessor,
     /// A successor that is not the id of a node.
     UnknownSuccessor,
-    /// A node's id that an earlier node already has.
+    /// An id that an earlier node has.
     NodeTwice,
     /// A number of 2^64 or more, or an owner other than 0 and 1.
     Number,
@@ -21,7 +21,7 @@ pub enum PgCause {
     Limit,
 }
 
-/// Why the parser returned no game: the text has an error, which is given with its offset, or memory ran out.
+/// An error in the text, with its offset, or out of memory.
 pub type PgFault = Fault<PgCause>;
 
 impl Cause for PgCause {

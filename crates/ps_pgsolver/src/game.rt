@@ -1,4 +1,4 @@
-//! The game that the nodes of a text describe.
+//! The game of a text's nodes.
 
 ghost use Rattle.std.specs.Prelude.{◌≡◌, IfOk, IfErr};
 ghost use Rattle.ps_text.specs.declared.faults.Fault.TheVariants as faults;
@@ -10,7 +10,7 @@ use crate::node::Nodes;
 use ps_game::NamedGame;
 use std::alloc::Global;
 
-/// The game that a list of nodes describes, with the ids and names of the nodes. Fails if out of memory.
+/// The game of the nodes, with their ids and names. Fails if out of memory.
 pub fn named_game(alloc: Global, nodes: Nodes) -> Result<NamedGame, PgFault>
     requires { KnowsAll (ids_of nodes) nodes }
     ensures value { IfOk result (λ named. named ≡ named_game_of nodes) }

@@ -12,21 +12,21 @@ use ps_ids::Ids;
 use std::alloc::{AllocError, Global};
 use std::marker::Model;
 
-/// A node of a game text, without its successors.
+/// A node without its successors.
 #[derive(Drop)]
 pub struct Node {
-    /// The id of the node, which no other node has.
+    /// Its id, which no other node has.
     pub id: u64,
-    /// The priority.
+    /// Its priority.
     pub priority: u64,
-    /// The player who owns the node.
+    /// Its owner.
     pub owner: Player,
-    /// The bytes between the quotes of the node's name, if it has one.
+    /// Its name, without the quotes.
     pub name: Option<Vec<u8>>,
 }
 
-/// The nodes of a text: a table of their ids; their vertices, whose successors are ids; and the names of the nodes up
-/// to the last node that has a name.
+/// The nodes of a text: their ids, their vertices (with ids for successors), and their names up to the last one that
+/// there is.
 #[derive(Drop)]
 pub struct Nodes {
     ids: Ids,
@@ -43,7 +43,7 @@ impl Model for Nodes {
 }
 
 impl Nodes {
-    /// An empty list of nodes. Fails if out of memory.
+    /// No nodes. Fails if out of memory.
     pub fn new(alloc: Global) -> Result<Self, AllocError>
         ensures { IfOk result (λ nodes. nodes ≡ []) }
     {
@@ -55,7 +55,7 @@ impl Nodes {
         })
     }
 
-    /// The ids of the nodes, in the order of the nodes.
+    /// The ids, in the order of the nodes.
     pub fn ids(&self) -> &Ids
         ensures ids { result.now ≡ ids_of self.now }
         ensures well_formed { AreNodes self.now }
@@ -63,21 +63,21 @@ impl Nodes {
         &self.ids
     }
 
-    /// Whether a node has the given id.
+    /// Whether a node has this id.
     pub fn has(&self, id: u64) -> bool
         ensures { result ≡ is_member (ids_of self.now) id }
     {
         self.ids.has(id)
     }
 
-    /// Whether each successor of each node is the id of a node.
+    /// Whether each successor is the id of a node.
     pub fn know_successors(&self) -> bool
         ensures { result ≡ knows_all (ids_of self.now) self.now }
     {
         self.vertices.know_successors(&self.ids)
     }
 
-    /// Appends a node with a new id and the given successors.
+    /// Appends a node with a new id. Fails if out of memory.
     pub fn push(&mut self, node: Node, successors: &[usize]) -> Result<(), AllocError>
         requires new { ¬ Contains (ids_of self.old) node.id }
         requires node { IsReadNode (node_with node successors.now) }
@@ -94,7 +94,7 @@ impl Nodes {
         Ok(())
     }
 
-    /// The game that these nodes describe, with their ids and names.
+    /// The game of these nodes. Fails if out of memory.
     pub fn into_game(self, alloc: Global) -> Result<NamedGame, AllocError>
         requires { KnowsAll (ids_of self) self }
         ensures { IfOk result (λ named. named ≡ named_game_of self) }
@@ -110,8 +110,7 @@ impl Nodes {
     }
 }
 
-/// Reserves memory for the name of the next node, if it has a name; earlier nodes that have no item in the list of
-/// names get an empty item.
+/// Reserves memory for the next node's name, and gives those before it an empty one, if it has a name.
 fn make_room(
     names: &mut Vec<Option<Vec<u8>>>,
     count: usize,
@@ -132,7 +131,7 @@ fn make_room(
     names.reserve(1)
 }
 
-/// Appends a node's name to the list of names, if the node has one; memory for it must be reserved.
+/// Appends a name, for which there is memory.
 fn keep_name(names: &mut Vec<Option<Vec<u8>>>, name: Option<Vec<u8>>)
     requires { is_some name ≡ true → vec_len names.old < vec_capacity names.old }
     ensures { names.new.items ≡ names_with names.old.items name }

@@ -1,4 +1,4 @@
-//! Parsing a game text.
+//! The parser of game texts.
 
 ghost use Rattle.std.specs.Prelude.{◌≡◌, ◌≤◌, ◌<◌, Some, None, Ok, IfOk, OnOk, option_copied, IfErr, length, vec_len};
 ghost use Rattle.ps_text.specs.declared.faults.Fault.TheVariants as faults;
@@ -28,16 +28,11 @@ use ps_game::{NamedGame, Player};
 use ps_ids::Ids;
 use std::alloc::Global;
 
-/// The maximal length of a game text, in bytes.
+/// The most bytes of a game text.
 const TEXT_LIMIT: usize = 16_777_216;
 
-/// Parses a game text. The game's vertices are numbered in the order of the text's nodes. The text may use a node's id
-/// as a successor before it describes that node, so all ids are known only at the end of the text.
-///
-/// # Errors
-///
-/// [`PgFault::Text`] with the first error of the text and its offset, or out of memory. If the text is too long, only
-/// this error is reported. A successor that is not the id of a node is reported only if the text has no other error.
+/// Parses a game text. Fails with its first error and the offset, or if out of memory. In a text that is too long, only
+/// this is reported; a successor that is the id of no node, only if there is no other error: its node may come later.
 pub fn read(alloc: Global, text: &[u8]) -> Result<NamedGame, PgFault>
     ensures answer { IsGameAnswer text.now result }
     ensures within { IfErr result (StandsWithin (length text.now)) }
@@ -55,8 +50,7 @@ pub fn read(alloc: Global, text: &[u8]) -> Result<NamedGame, PgFault>
     named_game(alloc, nodes)
 }
 
-/// Parses the text a second time to locate the first successor that is not the id of a node, and returns the fault at
-/// this successor.
+/// The fault at the first successor that is the id of no node, found by parsing again.
 fn unknown_successor(alloc: Global, text: &[u8], nodes: &Nodes) -> PgFault
     requires read { TextAnswers None (stream_of text.now) (Ok nodes.now) }
     requires some { KnowsAll (ids_of nodes.now) nodes.now → ⊥ }
@@ -68,7 +62,6 @@ fn unknown_successor(alloc: Global, text: &[u8], nodes: &Nodes) -> PgFault
     }
 }
 
-/// The fault that reports an error at the offset of a token.
 fn fault(cause: PgCause, token: Token) -> PgFault
     ensures { result ≡ faults.Text cause token.entry.start }
 {
@@ -78,8 +71,7 @@ fn fault(cause: PgCause, token: Token) -> PgFault
     }
 }
 
-/// Parses a whole game text, and returns its nodes. If the ids of the text's nodes are known, each successor must be
-/// one of them.
+/// Parses a whole text. If the ids are known, each successor must be one of them.
 fn game_text(alloc: Global, text: &[u8], known: Option<&Ids>) -> Result<Nodes, PgFault>
     ensures answer { TextAnswers (option_copied known.entry) (stream_of text.now) result }
     ensures later { KnownAnswers (stream_of text.now) result }
@@ -92,7 +84,7 @@ fn game_text(alloc: Global, text: &[u8], known: Option<&Ids>) -> Result<Nodes, P
     Ok(nodes)
 }
 
-/// Parses a line such as `parity 7;`, if the next token is its first word.
+/// Parses a line such as `parity 7;`, if this word comes next.
 fn setting(tokens: &mut Tokens, word: &[u8]) -> Result<(), PgFault>
     ensures { ReadsAs (λ u. u) (parts.setting word.now) tokens.old result tokens.new }
 {
@@ -103,7 +95,7 @@ fn setting(tokens: &mut Tokens, word: &[u8]) -> Result<(), PgFault>
     Ok(())
 }
 
-/// Parses the number, which has no meaning, and the semicolon of a line such as `parity 7;`.
+/// Parses its number, which has no meaning, and the semicolon.
 fn value_line(tokens: &mut Tokens) -> Result<(), PgFault>
     ensures { ReadsAs (λ u. u) parts.value_line tokens.old result tokens.new }
 {
@@ -111,7 +103,7 @@ fn value_line(tokens: &mut Tokens) -> Result<(), PgFault>
     semicolon(tokens)
 }
 
-/// Parses the nodes. The memory of one list is used again for the successors of each node.
+/// Parses the nodes, with one list for the successors of each.
 fn entries(alloc: Global, tokens: &mut Tokens, known: Option<&Ids>) -> Result<Nodes, PgFault>
     ensures part { ReadsAs (λ nodes. nodes) (parts.entries (option_copied known.entry)) tokens.old result tokens.new }
     ensures later { ReadsKnown KnowsAll (λ nodes. nodes) parts.entries tokens.old result tokens.new }
@@ -125,7 +117,7 @@ fn entries(alloc: Global, tokens: &mut Tokens, known: Option<&Ids>) -> Result<No
     Ok(nodes)
 }
 
-/// Parses a node, and appends it to the nodes that were read before.
+/// Parses a node, and appends it.
 fn entry(
     alloc: Global,
     tokens: &mut Tokens,
@@ -143,7 +135,7 @@ fn entry(
     Ok(())
 }
 
-/// Parses a node with a new id. The successors of this node replace the contents of the list `list`.
+/// Parses a node with a new id, and puts its successors into `list`.
 fn node(
     alloc: Global,
     tokens: &mut Tokens,
@@ -182,7 +174,6 @@ fn new_id(tokens: &mut Tokens, nodes: &Nodes) -> Result<u64, PgFault>
     unless_twice(id, start, nodes)
 }
 
-/// Parses a number.
 #[inline(always)]
 fn number(tokens: &mut Tokens) -> Result<u64, PgFault>
     ensures { ReadsAs (λ n. n) parts.number tokens.old result tokens.new }
@@ -191,7 +182,7 @@ fn number(tokens: &mut Tokens) -> Result<u64, PgFault>
     any_number_at(tokens, start)
 }
 
-/// Parses any number that fits in 64 bits. The next token begins at the offset `start`.
+/// Parses a number that fits, which begins at `start`.
 #[inline(always)]
 fn any_number_at(tokens: &mut Tokens, start: usize) -> Result<u64, PgFault>
     requires { start ≡ offset_of tokens.old.pieces tokens.old.end }
@@ -204,7 +195,6 @@ fn any_number_at(tokens: &mut Tokens, start: usize) -> Result<u64, PgFault>
     }
 }
 
-/// Parses an owner.
 #[inline(always)]
 fn owner(tokens: &mut Tokens) -> Result<Player, PgFault>
     ensures part { ReadsAs (λ n. n) parts.owner tokens.old result tokens.new }
@@ -215,7 +205,7 @@ fn owner(tokens: &mut Tokens) -> Result<Player, PgFault>
     one_of_two(owner, start)
 }
 
-/// Parses the successors of a node, which replace the contents of the list `list`.
+/// Puts a node's successors into `list`.
 fn successors(
     tokens: &mut Tokens,
     known: Option<&Ids>,
@@ -235,7 +225,7 @@ fn successors(
     Ok(())
 }
 
-/// Parses the first successor of a node, which must not be missing.
+/// Parses the first successor, which must be there.
 fn first_successor(tokens: &mut Tokens, known: Option<&Ids>) -> Result<u64, PgFault>
     ensures part { ReadsAs (λ n. n) (parts.first_successor (option_copied known.entry)) tokens.old result tokens.new }
     ensures later { ReadsKnown Contains (λ n. n) parts.first_successor tokens.old result tokens.new }
@@ -247,7 +237,6 @@ fn first_successor(tokens: &mut Tokens, known: Option<&Ids>) -> Result<u64, PgFa
     }
 }
 
-/// Parses a successor.
 #[inline(always)]
 fn successor(tokens: &mut Tokens, known: Option<&Ids>) -> Result<u64, PgFault>
     ensures part { ReadsAs (λ n. n) (parts.successor (option_copied known.entry)) tokens.old result tokens.new }
@@ -258,7 +247,7 @@ fn successor(tokens: &mut Tokens, known: Option<&Ids>) -> Result<u64, PgFault>
     if_known(id, start, known)
 }
 
-/// Parses the name of a node, if the next token is a name.
+/// Parses a name, if one comes next.
 #[inline(always)]
 fn name(alloc: Global, tokens: &mut Tokens) -> Result<Option<Vec<u8>>, PgFault>
     ensures part { ReadsAs name_bytes parts.name tokens.old result tokens.new }
@@ -271,7 +260,6 @@ fn name(alloc: Global, tokens: &mut Tokens) -> Result<Option<Vec<u8>>, PgFault>
     Ok(Some(bytes.to_vec(alloc)?))
 }
 
-/// Parses a semicolon.
 #[inline(always)]
 fn semicolon(tokens: &mut Tokens) -> Result<(), PgFault>
     ensures { ReadsAs (λ u. u) parts.semicolon tokens.old result tokens.new }
@@ -293,7 +281,7 @@ fn finish(tokens: &Tokens) -> Result<(), PgFault>
     }
 }
 
-/// Returns the number at offset `start` as a new id, if no earlier node has that id.
+/// The number, if it is a new id.
 #[inline(always)]
 fn unless_twice(id: u64, start: usize, nodes: &Nodes) -> Result<u64, PgFault>
     ensures answer { result ≡ id_of_number (ids_of nodes.now) start id }
@@ -308,7 +296,7 @@ fn unless_twice(id: u64, start: usize, nodes: &Nodes) -> Result<u64, PgFault>
     Ok(id)
 }
 
-/// Returns the number at offset `start` as an owner, if it is 0 or 1.
+/// The number as an owner, if it is 0 or 1.
 #[inline(always)]
 fn one_of_two(owner: u64, start: usize) -> Result<Player, PgFault>
     ensures answer { result ≡ owner_of_number start owner }
@@ -324,8 +312,7 @@ fn one_of_two(owner: u64, start: usize) -> Result<Player, PgFault>
     }
 }
 
-/// Returns the number at offset `start` as a successor. If the ids of the nodes are known, the number must be one of
-/// them.
+/// The number as a successor, if it is one of the known ids, or these are not known.
 #[inline(always)]
 fn if_known(id: u64, start: usize, known: Option<&Ids>) -> Result<u64, PgFault>
     ensures { result ≡ successor_of_number (option_copied known.entry) start id }
@@ -341,7 +328,7 @@ fn if_known(id: u64, start: usize, known: Option<&Ids>) -> Result<u64, PgFault>
     Ok(id)
 }
 
-/// Returns the id that a token gives as a successor, or the token's error.
+/// The successor that a token is, or its error.
 fn successor_of(token: Token, known: Option<&Ids>) -> Result<u64, PgFault>
     requires { IsPlain token.kind }
     ensures { result ≡ successor_answer (option_copied known.entry) (sign_of token.entry.kind) token.entry.start }
@@ -350,7 +337,7 @@ fn successor_of(token: Token, known: Option<&Ids>) -> Result<u64, PgFault>
     if_known(id, token.start, known)
 }
 
-/// Returns the id that a token gives as a node's first successor, or the token's error.
+/// The same for the first successor.
 fn first_of(token: Token, known: Option<&Ids>) -> Result<u64, PgFault>
     requires { IsPlain token.kind }
     ensures { result ≡ first_answer (option_copied known.entry) (sign_of token.entry.kind) token.entry.start }
@@ -363,7 +350,6 @@ fn first_of(token: Token, known: Option<&Ids>) -> Result<u64, PgFault>
     }
 }
 
-/// Checks that a token is a semicolon.
 fn semicolon_of(token: Token) -> Result<(), PgFault>
     ensures { result ≡ semicolon_answer (sign_of token.entry.kind) token.entry.start }
 {
@@ -373,7 +359,7 @@ fn semicolon_of(token: Token) -> Result<(), PgFault>
     }
 }
 
-/// Returns the value of a number token, or the token's error.
+/// The number that a token is, or its error.
 #[tactic(auto, using(crate::proofs::NumberTokens::number_small, crate::proofs::NumberTokens::number_large))]
 fn number_of(token: Token) -> Result<u64, PgFault>
     requires { IsPlain token.kind }

@@ -17,39 +17,37 @@ use ps_text::cursor::{Class, run_length};
 use ps_text::numbers::{few_digits, leading_number};
 use std::marker::Model;
 
-/// The kind of a token of a game text, with its value or its bytes.
+/// The kind of a token.
 #[derive(Clone, Copy)]
 pub enum Kind<'a> {
-    /// A number that fits in a `u64`.
+    /// A number that fits.
     Number(u64),
-    /// The digits of a number that does not fit in a `u64`.
+    /// The digits of one that does not.
     LargeNumber(&'a [u8]),
-    /// A word: a longest run of letters, such as `parity`.
+    /// A longest run of letters, such as `parity`.
     Word(&'a [u8]),
     /// A name, without its quotes.
     Name(&'a [u8]),
-    /// A comma.
     Comma,
-    /// A semicolon.
     Semicolon,
     /// A name without its closing quote.
     OpenName,
-    /// Any other token that is allowed nowhere in a game text.
+    /// Another token that no game text has.
     Wrong,
     /// The end of the text.
     End,
 }
 
-/// A token of a game text, with its offset in the text.
+/// A token, and where it is.
 #[derive(Clone, Copy)]
 pub struct Token<'a> {
-    /// The kind of the token.
+    /// Its kind.
     pub kind: Kind<'a>,
-    /// The offset of the token's first byte in the text, counted from 0.
+    /// The offset of its first byte, from 0.
     pub start: usize,
 }
 
-/// A lexer, which yields the tokens of a text from an offset on.
+/// The tokens of a text from an offset on.
 #[derive(Drop)]
 pub struct Tokens<'a> {
     text: &'a [u8],
@@ -72,7 +70,7 @@ impl<'a> Tokens<'a> {
     ghost use Rattle.ps_text.specs.Bytes.{is_unquoted};
     ghost use Rattle.ps_pgsolver.specs.Signs.{Word, Comma, Semicolon};
 
-    /// A lexer for the tokens of a whole text.
+    /// The tokens of a whole text.
     pub fn new(text: &'a [u8]) -> Self
         ensures { result ≡ stream_of text.now }
     {
@@ -90,7 +88,7 @@ impl<'a> Tokens<'a> {
         token
     }
 
-    /// Reads the next token and moves past it.
+    /// Moves past the next token, and returns it.
     #[inline(always)]
     pub fn next(&mut self) -> Token<'a>
         ensures token { IsHead result self.old }
@@ -103,7 +101,7 @@ impl<'a> Tokens<'a> {
         token
     }
 
-    /// The offset of the next token, or of the end of the text.
+    /// The offset of the next token, or of the end.
     #[inline(always)]
     pub fn start(&self) -> usize
         ensures { result ≡ offset_of self.now.pieces self.now.end }
@@ -111,8 +109,8 @@ impl<'a> Tokens<'a> {
         next_start(self.text, self.at)
     }
 
-    /// Moves past the next token and returns its value, if it is a number with fewer than 18 digits. No value of type
-    /// `Token` is built for it. `next` reads a number with more digits, leading zeros included.
+    /// Moves past a number with fewer than 18 digits, without making a `Token`; longer ones, leading zeros included,
+    /// are left to `next`.
     #[inline(always)]
     pub fn take_number(&mut self) -> Option<u64>
         ensures some { IfSome result (λ number. IsNumberTaken number self.old self.new) }
@@ -123,7 +121,7 @@ impl<'a> Tokens<'a> {
         self.take_number_at(start)
     }
 
-    /// Moves past the next token, which begins at the offset `start`, and returns its value, as `take_number` does.
+    /// The same at the offset `start`.
     #[inline(always)]
     pub(crate) fn take_number_at(&mut self, start: usize) -> Option<u64>
         requires { start ≡ offset_of self.old.pieces self.old.end }
@@ -140,7 +138,7 @@ impl<'a> Tokens<'a> {
         Some(number.value)
     }
 
-    /// Moves past the next token if it is a comma, and returns whether it is one.
+    /// Moves past a comma, if it comes next, and says so.
     #[inline(always)]
     pub fn take_comma(&mut self) -> bool
         ensures taken { TakesIfNext Comma self.old result self.new }
@@ -155,7 +153,7 @@ impl<'a> Tokens<'a> {
         true
     }
 
-    /// Moves past the next token if it is a semicolon, and returns whether it is one.
+    /// Moves past a semicolon, if it comes next, and says so.
     #[inline(always)]
     pub fn take_semicolon(&mut self) -> bool
         ensures { TakesIfNext Semicolon self.old result self.new }
@@ -177,7 +175,7 @@ impl<'a> Tokens<'a> {
         begins_with(rest, Class::Digit) && !ends_in_class(before, Class::Letter)
     }
 
-    /// The name that is the next token, or `None` if the next token is not a name.
+    /// The name that comes next, if one does.
     #[inline(always)]
     pub fn next_name(&self) -> Option<&'a [u8]>
         ensures name { option_copied result ≡ name_of (next_of self.now) }
@@ -190,8 +188,7 @@ impl<'a> Tokens<'a> {
         self.name_from()
     }
 
-    /// The name that is the next token, or `None` if the next token is not a name. `next_name` calls this function only
-    /// at a quote, which most texts do not have, so it is not inlined.
+    /// The same at a quote. Most texts have none, so this is not inlined.
     #[inline(never)]
     fn name_from(&self) -> Option<&'a [u8]>
         ensures name { option_copied result ≡ name_of (next_of self.now) }
@@ -203,7 +200,7 @@ impl<'a> Tokens<'a> {
         }
     }
 
-    /// Whether the next token is the given word.
+    /// Whether this word comes next.
     pub fn is_at_word(&self, word: &[u8]) -> bool
         ensures { IsTrue result ↔ (next_of self.now ≡ Some (Word word.now)) }
     {
@@ -214,7 +211,7 @@ impl<'a> Tokens<'a> {
     }
 }
 
-/// The first token of a text from an offset on, and the offset at which the token ends.
+/// The first token from an offset on, and its end.
 #[inline(always)]
 fn token_from<'a>(text: &'a [u8], at: usize) -> (Token<'a>, usize)
     requires { at ≤ length text.now }
@@ -227,7 +224,7 @@ fn token_from<'a>(text: &'a [u8], at: usize) -> (Token<'a>, usize)
     (Token { kind, start }, start + size)
 }
 
-/// The offset at which the next token begins, or the text ends.
+/// The offset of the next token, or of the end.
 #[inline(always)]
 fn next_start(text: &[u8], at: usize) -> usize
     requires { at ≤ length text.now }
@@ -241,7 +238,7 @@ fn next_start(text: &[u8], at: usize) -> usize
     start
 }
 
-/// The token with which a text begins, and the token's length in bytes.
+/// The token with which a text begins, and its length.
 #[inline(always)]
 fn token_at<'a>(before: &[u8], rest: &'a [u8]) -> (Kind<'a>, usize)
     ensures end { rest.now ≡ [] → sign_of result.0 ≡ None }
@@ -264,7 +261,7 @@ fn token_at<'a>(before: &[u8], rest: &'a [u8]) -> (Kind<'a>, usize)
     }
 }
 
-/// The token of the run of digits with which a text begins, and the token's length in bytes.
+/// The same for a run of digits.
 #[inline(always)]
 fn number_at<'a>(before: &[u8], rest: &'a [u8]) -> (Kind<'a>, usize)
     ensures { IsLexed result (number_sign before.now rest.now) (prefix_len is_digit rest.now) (length rest.now) }
@@ -277,7 +274,7 @@ fn number_at<'a>(before: &[u8], rest: &'a [u8]) -> (Kind<'a>, usize)
     }
 }
 
-/// The number token of a text's leading digits, and the token's length in bytes.
+/// The same, whatever comes before or after it.
 fn digits_at<'a>(rest: &'a [u8]) -> (Kind<'a>, usize)
     ensures { IsLexed result (Number (decimal_value (take_while is_digit rest.now))) (prefix_len is_digit rest.now)
         (length rest.now) }
@@ -291,7 +288,7 @@ fn digits_at<'a>(rest: &'a [u8]) -> (Kind<'a>, usize)
     }
 }
 
-/// The token of the run of letters with which a text begins, and the token's length in bytes.
+/// The same for a run of letters.
 #[inline(always)]
 fn word_at<'a>(before: &[u8], rest: &'a [u8]) -> (Kind<'a>, usize)
     ensures { IsLexed result (word_sign before.now rest.now) (prefix_len is_letter rest.now) (length rest.now) }
@@ -305,7 +302,7 @@ fn word_at<'a>(before: &[u8], rest: &'a [u8]) -> (Kind<'a>, usize)
     (kind, size)
 }
 
-/// The token of a name, given the text after its first quote, and the token's length in bytes, including the quotes.
+/// The same for a name, by what follows its quote; the length includes both quotes.
 #[inline(always)]
 fn name_at<'a>(behind: &'a [u8]) -> (Kind<'a>, usize)
     requires { length behind.now + 1 < 2 ^ 64 }
@@ -319,7 +316,7 @@ fn name_at<'a>(behind: &'a [u8]) -> (Kind<'a>, usize)
     }
 }
 
-/// The token of a single byte: a comma, a semicolon, or a byte that is never allowed.
+/// A comma, a semicolon, or a byte that is never allowed.
 fn punctuation<'a>(byte: u8) -> Kind<'a>
     ensures sign { sign_of result ≡ Some (punctuation_sign byte) }
     ensures plain { IsPlain result }
@@ -331,7 +328,7 @@ fn punctuation<'a>(byte: u8) -> Kind<'a>
     }
 }
 
-/// Whether the first byte of the text is in the given class, for instance the digits.
+/// Whether the first byte is in the class.
 fn begins_with(text: &[u8], class: Class) -> bool
     ensures { result ≡ begins_in (in_class class) text.now }
 {
@@ -341,7 +338,7 @@ fn begins_with(text: &[u8], class: Class) -> bool
     }
 }
 
-/// Whether the last byte of the text is in the given class, for instance the letters.
+/// Whether the last byte is in the class.
 fn ends_in_class(text: &[u8], class: Class) -> bool
     ensures { result ≡ ends_in (in_class class) text.now }
 {

@@ -1,4 +1,4 @@
-//! The writer of a game's text in PGSolver's format.
+//! The writer of game texts.
 
 ghost use Rattle.std.specs.Prelude.{◌≡◌, ◌++◌, ◌<◌, ◌≤◌, decimal, OnOk, IfOk, Ok, None, slice_index, slice_index_or};
 ghost use Rattle.std.specs.Prelude.{vec_len, option_copied};
@@ -13,7 +13,7 @@ use ps_game::{Arena, NamedGame};
 use ps_text::numbers::write_number;
 use std::alloc::{AllocError, Global};
 
-/// Writes a game: a line with the greatest id, and then a line for each vertex. Fails if out of memory.
+/// A line with the greatest id, and one for each vertex. Fails if out of memory.
 pub fn write(alloc: Global, game: &NamedGame) -> Result<Vec<u8>, AllocError>
     requires { 0 < vertex_count game.now.game }
     ensures bytes { IfOk result (λ bytes. bytes.items ≡ game_text game.now) }
@@ -25,7 +25,6 @@ pub fn write(alloc: Global, game: &NamedGame) -> Result<Vec<u8>, AllocError>
     Ok(out)
 }
 
-/// The greatest of the ids of the game's vertices.
 fn greatest_id(game: &NamedGame) -> u64
     ensures { result ≡ greatest game.now.ids }
 {
@@ -36,7 +35,7 @@ fn greatest_id(game: &NamedGame) -> u64
     most
 }
 
-/// Writes the first line, `parity K;`, where K is the greatest id.
+/// Writes `parity K;`, where K is the greatest id.
 fn write_head(out: &mut Vec<u8>, id: u64) -> Result<(), AllocError>
     ensures bytes { OnOk result (out.new.items ≡ out.old.items ++ head_text id) }
     ensures word { IsWord id }
@@ -81,7 +80,7 @@ fn write_vertex(out: &mut Vec<u8>, named: &NamedGame, vertex: usize) -> Result<(
     Ok(())
 }
 
-/// Writes the ids of the successors of a vertex, with commas between them.
+/// Writes the successors' ids, with commas between them.
 fn write_successors(out: &mut Vec<u8>, named: &NamedGame, vertex: usize) -> Result<(), AllocError>
     requires { vertex < vertex_count named.now.game }
     ensures { OnOk result (out.new.items ≡ out.old.items ++ list_text named.now.ids
@@ -96,7 +95,7 @@ fn write_successors(out: &mut Vec<u8>, named: &NamedGame, vertex: usize) -> Resu
     Ok(())
 }
 
-/// Writes the name of a vertex after a space, if the vertex has a name.
+/// Writes a name, if there is one, after a space.
 fn write_name(out: &mut Vec<u8>, name: Option<&[u8]>) -> Result<(), AllocError>
     ensures { OnOk result (out.new.items ≡ out.old.items ++ name_text (option_copied name.entry)) }
 {
