@@ -1,4 +1,4 @@
-//! The truths of the formulas of a table along a lasso.
+//! The truths of formulas along a lasso.
 
 ghost use Rattle.std.specs.Prelude.{◌≡◌, ℕ, ◌+◌, ◌<◌, List, IfOk, length};
 ghost use Rattle.std.specs.Bool.{Decides};
@@ -12,8 +12,7 @@ use crate::node::Node;
 use crate::rows::Rows;
 use std::alloc::{AllocError, Global};
 
-/// The truth of each formula of a table at each index of a lasso, up to the end of the first lap. Fails if out of
-/// memory.
+/// The truth of each formula at each index up to the end of the first lap.
 pub(crate) fn truths(
     alloc: Global,
     nodes: &[Node],
@@ -33,7 +32,7 @@ pub(crate) fn truths(
     Ok(rows)
 }
 
-/// Writes the truths of a formula into its row, by the rows of the formulas before it.
+/// Fills a formula's row, by the rows before it.
 fn fill_row(rows: &mut Rows, row: usize, node: Node, stem: &[u64], lap: &[u64])
     requires row { row < rows.old.count }
     requires over { IsOver row node }
@@ -51,7 +50,7 @@ fn fill_row(rows: &mut Rows, row: usize, node: Node, stem: &[u64], lap: &[u64])
     }
 }
 
-/// The letter at an index before the end of the first lap.
+/// The letter at an index within the first lap.
 fn letter_at(stem: &[u64], lap: &[u64], at: usize) -> u64
     requires { at < length stem.now + length lap.now }
     ensures { result ≡ lasso_word stem.now lap.now at }
@@ -63,9 +62,9 @@ fn letter_at(stem: &[u64], lap: &[u64], at: usize) -> u64
     }
 }
 
-/// The truth of a formula at the start of the lap, if its operator is a form of until or release; for other operators
-/// the result is not used. Such a formula is true there if its right side makes it true within the first lap (until),
-/// or unless its right side makes it false within the first lap (release): so one pass over the lap tells it.
+/// The truth of a form of until or release at the start of the lap, and of no use for other operators. An until is true
+/// there if its right side makes it true within the first lap, a release unless its right side makes it false there:
+/// one pass over the lap tells.
 fn truth_at_lap(rows: &Rows, node: Node, stem: &[u64], lap: &[u64]) -> bool
     requires over { IsOver rows.now.count node }
     requires lasso { IsForLasso stem.now lap.now rows.now }
@@ -84,8 +83,8 @@ fn truth_at_lap(rows: &Rows, node: Node, stem: &[u64], lap: &[u64]) -> bool
     next
 }
 
-/// The truth of a formula at an index, from the truths of its operands and, for until and release, from its own truth
-/// at the next index.
+/// The truth of a formula at an index, by those of its operands and, for until and release, by its own at the next
+/// index.
 fn truth_here(rows: &Rows, node: Node, letter: u64, at: usize, next: bool) -> bool
     requires at { at < rows.now.width }
     requires over { IsOver rows.now.count node }
@@ -118,7 +117,7 @@ fn truth_here(rows: &Rows, node: Node, letter: u64, at: usize, next: bool) -> bo
     }
 }
 
-/// The truth of until or release at an index, from the truths of its two sides and its own truth at the next index.
+/// The truth of until or release at an index, by those of its sides and its own at the next.
 fn step(is_until: bool, left: bool, right: bool, next: bool) -> bool
     ensures { result ≡ step is_until left right next }
 {

@@ -14,8 +14,7 @@ use ps_keys::KeyList;
 use std::alloc::{AllocError, Global};
 use std::marker::Model;
 
-/// A table of formulas, which are numbered from 0. Each is given by a node, whose operands are earlier formulas of the
-/// table. No node occurs twice.
+/// Formulas, numbered from 0. Each is a node, whose operands are earlier ones. No node occurs twice.
 #[derive(Debug, Drop)]
 pub struct Formulas {
     nodes: KeyList<Node>,
@@ -35,7 +34,7 @@ impl Model for Formulas {
 }
 
 impl Formulas {
-    /// A table without formulas.
+    /// No formulas.
     pub fn new(alloc: Global) -> Self
         ensures { result ≡ [] }
     {
@@ -61,8 +60,7 @@ impl Formulas {
         self.nodes.len()
     }
 
-    /// Adds a formula, unless the table has it already, and returns its index. Fails if out of memory, or if the table
-    /// has 5 * 2^29 nodes already.
+    /// The index of a formula, which is added if it is new. Fails if out of memory, or if the table has 5 * 2^29 nodes.
     pub fn add(&mut self, node: Node) -> Result<u32, AllocError>
         requires { IsOver (length self.old) node }
         ensures ok { IfOk result (IsAdded self.old node self.new) }
@@ -74,9 +72,8 @@ impl Formulas {
         Ok(index as u32)
     }
 
-    /// Whether the word that consists of a stem and a lap that repeats for ever satisfies a formula, at its first
-    /// index. The time is at most proportional to the number of nodes up to the formula's, times the number of letters.
-    /// The memory is one bit for each of these nodes and each letter. Fails if out of memory.
+    /// Whether a lasso satisfies a formula at its first index. The time is at most proportional to the number of nodes
+    /// up to the formula's, times that of letters; the memory is one bit for each of both. Fails if out of memory.
     pub fn holds(&self, root: u32, stem: &[u64], lap: &[u64]) -> Result<bool, AllocError>
         requires root { root < length self.now }
         requires some { 0 < length lap.now }
@@ -88,9 +85,9 @@ impl Formulas {
         Ok(rows.get(root, 0))
     }
 
-    /// The negation normal forms of a formula and of its negation, in a table of their own, which may also have
-    /// formulas that neither needs. The number of its nodes is at most six times the number of nodes up to the
-    /// formula's, however deep `<->` is nested. Fails if out of memory.
+    /// The negation normal forms of a formula and of its negation, in a table of their own, which may have formulas
+    /// that neither needs. It has at most six times as many nodes as there are up to the formula's, however deep `<->`
+    /// is nested. Fails if out of memory.
     pub fn normal_form(&self, root: u32) -> Result<NormalForm, AllocError>
         requires { root < length self.now }
         ensures formula { IfOk result (λ normal.

@@ -1,4 +1,4 @@
-//! Laws about the definitions of this crate.
+//! Laws about formulas.
 
 ghost use Rattle.std.specs.Prelude.{◌≡◌, ◌↔◌, ℕ, ◌+◌, ◌<◌, ◌≤◌, ◌++◌, List, Some, length, slice_get};
 ghost use Rattle.ps_label.specs.Words.{lasso_word};
@@ -7,7 +7,7 @@ ghost use Rattle.ps_formula.specs.Formulas.{Formula, IsTable, and_of, formula_at
 ghost use Rattle.ps_formula.specs.Formulas.{release, until, weak_until};
 ghost use Rattle.ps_formula.specs.Satisfaction.{IsDecidedWord, Satisfies};
 
-/// The formula of a node is its operator, applied to the formulas of its operands. Formulas stay if a table grows.
+/// A node's formula is its operator, applied to the operands' formulas. Formulas stay if a table grows.
 pub fn each_node_is_a_formula()
     ensures operator { (nodes : List Node) (k : ℕ) (node : Node) → IsTable nodes → slice_get nodes k ≡ Some node →
         formula_at nodes k ≡ formula_of (formulas_of nodes) node }
@@ -21,16 +21,15 @@ pub fn rest_decides()
         (Satisfies f v i) ↔ (Satisfies f w j) }
 {}
 
-/// Along a lasso, the truth of each formula repeats with the lap, from the end of the stem on; and each formula is true
-/// or false at each index.
+/// Along a lasso, each formula is true or false at each index, the same again after each lap.
 pub fn lasso_truths()
     ensures repeat { (f : Formula) (stem lap : List ℕ) (i : ℕ) → length stem ≤ i →
         (Satisfies f (lasso_word stem lap) (i + length lap)) ↔ (Satisfies f (lasso_word stem lap) i) }
     ensures decided { (stem lap : List ℕ) → 0 < length lap → IsDecidedWord (lasso_word stem lap) }
 {}
 
-/// The expansion laws: until holds where its right side holds, or its left side holds and until holds at the next
-/// index; release holds where its right side holds, and its left side holds or release holds at the next index.
+/// The expansion laws. Until holds where its right side does, or its left side does and until holds at the next index;
+/// release, where its right side does, and its left side does or release holds at the next index.
 pub fn expansions()
     ensures until { (f g : Formula) (w : ℕ → ℕ) (i : ℕ) →
         (Satisfies (until f g) w i) ↔ (Satisfies (or_of g (and_of f (next (until f g)))) w i) }

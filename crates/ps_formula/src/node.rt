@@ -1,16 +1,16 @@
-//! Nodes of a table of formulas.
+//! Nodes of a table.
 
 ghost use Rattle.std.proofs.Common.{ap};
 ghost use Rattle.ps_formula.specs.NodeKeys.{same_node};
 
 use ps_keys::{Hashed, mixed};
 
-/// A formula of linear temporal logic, made from earlier formulas of a table. An operand is the index of its node.
+/// A formula made from earlier ones of a table; an operand is the index of its node.
 #[derive(Debug, Clone, Copy, PartialEq, Eq)]
 pub enum Node {
     /// `true` or `false`.
     Constant(bool),
-    /// The proposition with the given number, which is less than 64.
+    /// The proposition with this number, less than 64.
     Proposition(u32),
     /// `!f`
     Not(u32),
@@ -36,7 +36,7 @@ pub enum Node {
     Globally(u32),
 }
 
-/// The first operand is one factor of the hash, and the second operand with the operator is the other.
+/// One factor of the hash is the first operand, the other the second operand with the operator.
 impl Hashed for Node {
     ghost use Rattle.ps_formula.specs.NodeHashes.{hash_of_node};
 

@@ -1,8 +1,7 @@
 //! The negation normal form of a formula, and of its negation.
 //!
-//! Each formula of a table gets two nodes, one for itself and one for its negation, so that no operator needs its
-//! operands more than once, `<->` not excepted. An operator with a constant operand gets no node if its formula is a
-//! constant too, or its other operand.
+//! Each formula gets two nodes, one for its negation, so that no operator, not even `<->`, needs its operands more than
+//! once. An operator with a constant operand gets none if its formula is a constant too, or its other operand.
 
 ghost use Rattle.std.specs.Prelude.{◌≡◌, ℕ, ◌+◌, ◌*◌, ◌<◌, ◌≤◌, List, IfOk, IfSome, IsTrue, OnOk, length};
 ghost use Rattle.ps_formula.specs.declared.normal_node.NormalNode.{NormalNode};
@@ -16,18 +15,18 @@ use crate::normal_formulas::NormalFormulas;
 use crate::normal_node::NormalNode;
 use std::alloc::{AllocError, Global};
 
-/// A formula and its negation in negation normal form, as formulas of one table.
+/// A formula and its negation, as formulas of one table.
 #[derive(Debug, Drop)]
 pub struct NormalForm {
     /// The table.
     pub table: NormalFormulas,
-    /// The index of the formula.
+    /// The formula's index.
     pub formula: u32,
-    /// The index of the formula's negation.
+    /// The index of its negation.
     pub negation: u32,
 }
 
-/// The indices of a formula and of its negation in a table of formulas in normal form.
+/// The indices of a formula and of its negation.
 #[derive(Clone, Copy)]
 pub(crate) struct Forms {
     pub formula: u32,
@@ -35,7 +34,6 @@ pub(crate) struct Forms {
 }
 
 impl Forms {
-    /// The forms of the formula's negation.
     fn flipped(self) -> Forms
         ensures formula { result.formula ≡ self.negation }
         ensures negation { result.negation ≡ self.formula }
@@ -47,7 +45,7 @@ impl Forms {
     }
 }
 
-/// Adds the forms of each node of a table.
+/// Adds the forms of each node.
 pub(crate) fn forms_of_nodes(
     alloc: Global,
     table: &mut NormalFormulas,
@@ -66,7 +64,7 @@ pub(crate) fn forms_of_nodes(
     Ok(known)
 }
 
-/// Adds the forms of a node, by the forms of the nodes before it.
+/// Adds the forms of a node, by those before it.
 fn forms_of(table: &mut NormalFormulas, known: &[Forms], node: Node) -> Result<Forms, AllocError>
     requires over { IsOver (length known.now) node }
     requires within { EachWithin table.old known.now }
@@ -91,7 +89,7 @@ fn forms_of(table: &mut NormalFormulas, known: &[Forms], node: Node) -> Result<F
     }
 }
 
-/// Adds a node and the node of its negation.
+/// Adds a node and its negation.
 fn pair(
     table: &mut NormalFormulas,
     formula: NormalNode,
@@ -107,7 +105,6 @@ fn pair(
     Ok(Forms { formula, negation })
 }
 
-/// The forms of `true` or `false`.
 fn constant(table: &mut NormalFormulas, value: bool) -> Result<Forms, AllocError>
     ensures made { IfOk result (IsMade table.old table.new 2) }
     ensures forms { IfOk result (AreForms table.new (constant value)) }
@@ -119,7 +116,6 @@ fn constant(table: &mut NormalFormulas, value: bool) -> Result<Forms, AllocError
     )
 }
 
-/// The forms of a proposition.
 fn proposition(table: &mut NormalFormulas, p: u32) -> Result<Forms, AllocError>
     requires { p < 64 }
     ensures made { IfOk result (IsMade table.old table.new 2) }
@@ -128,7 +124,7 @@ fn proposition(table: &mut NormalFormulas, p: u32) -> Result<Forms, AllocError>
     pair(table, NormalNode::Proposition(p), NormalNode::Negated(p))
 }
 
-/// The forms of `f && g`, whose negation is `!f || !g`.
+/// `f && g`, whose negation is `!f || !g`.
 fn both(table: &mut NormalFormulas, f: Forms, g: Forms) -> Result<Forms, AllocError>
     requires f { AreWithin table.old f }
     requires g { AreWithin table.old g }
@@ -147,7 +143,7 @@ fn both(table: &mut NormalFormulas, f: Forms, g: Forms) -> Result<Forms, AllocEr
     pair(table, formula, negation)
 }
 
-/// The forms of `f && g` if `f` is a constant.
+/// `f && g` if `f` is a constant.
 fn constant_side(table: &NormalFormulas, f: Forms, g: Forms) -> Option<Forms>
     requires f { AreWithin table.now f }
     requires g { AreWithin table.now g }
@@ -162,7 +158,7 @@ fn constant_side(table: &NormalFormulas, f: Forms, g: Forms) -> Option<Forms>
     }
 }
 
-/// The forms of `f || g`.
+/// `f || g`
 fn either(table: &mut NormalFormulas, f: Forms, g: Forms) -> Result<Forms, AllocError>
     requires f { AreWithin table.old f }
     requires g { AreWithin table.old g }
@@ -174,7 +170,7 @@ fn either(table: &mut NormalFormulas, f: Forms, g: Forms) -> Result<Forms, Alloc
     Ok(forms.flipped())
 }
 
-/// The forms of `f <-> g`: both imply each other.
+/// `f <-> g`: both imply each other.
 fn iff(table: &mut NormalFormulas, f: Forms, g: Forms) -> Result<Forms, AllocError>
     requires f { AreWithin table.old f }
     requires g { AreWithin table.old g }
@@ -187,7 +183,7 @@ fn iff(table: &mut NormalFormulas, f: Forms, g: Forms) -> Result<Forms, AllocErr
     both(table, there, back)
 }
 
-/// The forms of `X f`.
+/// `X f`
 fn next(table: &mut NormalFormulas, f: Forms) -> Result<Forms, AllocError>
     requires { AreWithin table.old f }
     ensures made { IfOk result (IsMade table.old table.new 2) }
@@ -202,7 +198,7 @@ fn next(table: &mut NormalFormulas, f: Forms) -> Result<Forms, AllocError>
     pair(table, formula, negation)
 }
 
-/// The forms of `f U g`, whose negation is `!f R !g`.
+/// `f U g`, whose negation is `!f R !g`.
 fn until(table: &mut NormalFormulas, f: Forms, g: Forms) -> Result<Forms, AllocError>
     requires f { AreWithin table.old f }
     requires g { AreWithin table.old g }
@@ -231,7 +227,7 @@ fn is_decided_now(table: &NormalFormulas, f: Forms, g: Forms) -> bool
     }
 }
 
-/// The forms of `f R g`.
+/// `f R g`
 fn release(table: &mut NormalFormulas, f: Forms, g: Forms) -> Result<Forms, AllocError>
     requires f { AreWithin table.old f }
     requires g { AreWithin table.old g }
@@ -243,7 +239,7 @@ fn release(table: &mut NormalFormulas, f: Forms, g: Forms) -> Result<Forms, Allo
     Ok(forms.flipped())
 }
 
-/// The forms of `f W g`, which is `g R (f || g)`.
+/// `f W g`, which is `g R (f || g)`.
 fn weak_until(table: &mut NormalFormulas, f: Forms, g: Forms) -> Result<Forms, AllocError>
     requires f { AreWithin table.old f }
     requires g { AreWithin table.old g }
@@ -255,7 +251,7 @@ fn weak_until(table: &mut NormalFormulas, f: Forms, g: Forms) -> Result<Forms, A
     release(table, g, right)
 }
 
-/// The forms of `F f`, which is `true U f`.
+/// `F f`, which is `true U f`.
 fn finally(table: &mut NormalFormulas, f: Forms) -> Result<Forms, AllocError>
     requires { AreWithin table.old f }
     ensures made { IfOk result (IsMade table.old table.new 4) }
@@ -266,7 +262,7 @@ fn finally(table: &mut NormalFormulas, f: Forms) -> Result<Forms, AllocError>
     until(table, left, f)
 }
 
-/// The forms of `G f`, which is `false R f`.
+/// `G f`, which is `false R f`.
 fn globally(table: &mut NormalFormulas, f: Forms) -> Result<Forms, AllocError>
     requires { AreWithin table.old f }
     ensures made { IfOk result (IsMade table.old table.new 4) }

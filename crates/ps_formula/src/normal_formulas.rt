@@ -1,4 +1,4 @@
-//! Tables of formulas in negation normal form.
+//! Tables in negation normal form.
 
 ghost use Rattle.std.specs.Prelude.{◌≡◌, ◌^◌, ◌<◌, [], IfOk, IfSome, OnErr, length};
 ghost use Rattle.ps_formula.specs.Formulas.{IsAdded};
@@ -9,8 +9,7 @@ use ps_keys::KeyList;
 use std::alloc::{AllocError, Global};
 use std::marker::Model;
 
-/// A table of formulas in negation normal form, which are numbered from 0. Each is given by a node, whose operands are
-/// earlier formulas of the table. No node occurs twice.
+/// As `Formulas`, in negation normal form.
 #[derive(Debug, Drop)]
 pub struct NormalFormulas {
     nodes: KeyList<NormalNode>,
@@ -29,7 +28,7 @@ impl Model for NormalFormulas {
 }
 
 impl NormalFormulas {
-    /// A table without formulas.
+    /// No formulas.
     pub fn new(alloc: Global) -> Self
         ensures { result ≡ [] }
     {
@@ -54,8 +53,7 @@ impl NormalFormulas {
         self.nodes.len()
     }
 
-    /// Adds a formula, unless the table has it already, and returns its index. Fails if out of memory, or if the table
-    /// has 5 * 2^29 nodes already.
+    /// The index of a formula, which is added if it is new. Fails if out of memory, or if the table has 5 * 2^29 nodes.
     pub fn add(&mut self, node: NormalNode) -> Result<u32, AllocError>
         requires { IsNormalOver (length self.old) node }
         ensures ok { IfOk result (IsAdded self.old node self.new) }
@@ -67,7 +65,7 @@ impl NormalFormulas {
         Ok(index as u32)
     }
 
-    /// The value of a formula that is `true` or `false`.
+    /// Its value, if a formula is a constant.
     pub(crate) fn constant(&self, index: u32) -> Option<bool>
         requires { index < length self.now }
         ensures { IfSome result (λ value. normal_formula_at self.now index ≡ truth value) }

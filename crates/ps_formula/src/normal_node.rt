@@ -1,18 +1,18 @@
-//! Nodes of a table of formulas in negation normal form.
+//! Nodes of such a table.
 
 ghost use Rattle.std.proofs.Common.{ap};
 ghost use Rattle.ps_formula.specs.NodeKeys.{same_normal_node};
 
 use ps_keys::{Hashed, mixed};
 
-/// A formula in negation normal form, made from earlier formulas of a table. An operand is the index of its node.
+/// As `Node`, in negation normal form.
 #[derive(Debug, Clone, Copy, PartialEq, Eq)]
 pub enum NormalNode {
     /// `true` or `false`.
     Constant(bool),
-    /// The proposition with the given number, which is less than 64.
+    /// The proposition with this number, less than 64.
     Proposition(u32),
-    /// The negation of a proposition.
+    /// Its negation.
     Negated(u32),
     /// `f && g`
     And(u32, u32),
@@ -26,7 +26,7 @@ pub enum NormalNode {
     Release(u32, u32),
 }
 
-/// The first operand is one factor of the hash, and the second operand with the operator is the other.
+/// As for `Node`.
 impl Hashed for NormalNode {
     ghost use Rattle.ps_formula.specs.NodeHashes.{hash_of_normal_node};
 

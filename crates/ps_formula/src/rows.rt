@@ -1,21 +1,21 @@
-//! Truths of formulas along a lasso, one bit for each formula and letter.
+//! Truths along a lasso, one bit for each formula and letter.
 
 ghost use Rattle.std.specs.Prelude.{◌≡◌, ◌+◌, ◌*◌, ◌^◌, ◌<◌, ◌≤◌, IfOk, length};
 
 use std::alloc::{AllocError, Global};
 
-/// The number of bits of a word.
+/// The bits of a word.
 const WORD: usize = 64;
 
-/// A row of bits for each formula: bit `at` of a row is the truth of its formula at the index `at` of a lasso. Bit
-/// `at` of row r is the bit with the number `r * width + at`; bit b of word w has the number `64 * w + b`.
+/// A row for each formula, with its truth at each index of a lasso. That at the index `at` is, in row r, the bit with
+/// the number `r * width + at`; bit b of word w has the number `64 * w + b`.
 #[derive(Drop)]
 pub(crate) struct Rows {
-    /// The number of rows.
+    /// How many rows there are.
     pub count: usize,
-    /// The length of the lasso's stem.
+    /// The length of the stem.
     pub stem: usize,
-    /// The length of the lasso's stem and lap.
+    /// The length of stem and lap.
     pub width: usize,
     words: Vec<u64>,
     ghost some: { stem < width },
@@ -26,7 +26,7 @@ pub(crate) struct Rows {
 impl Rows {
     ghost use Rattle.ps_formula.specs.Inner.Rows.{SetsTruth, truth_in};
 
-    /// A row for each of `count` formulas, for a lasso with a stem of the given length.
+    /// Rows for `count` formulas.
     pub fn new(alloc: Global, count: usize, stem: usize, width: usize) -> Result<Self, AllocError>
         requires { stem < width }
         ensures count { IfOk result (λ rows. rows.count ≡ count) }
@@ -53,7 +53,7 @@ impl Rows {
         self.words[place / WORD] >> (place % WORD) & 1 == 1
     }
 
-    /// The index whose letter comes next: behind the end of the lap comes its start.
+    /// The next index: after the end of the lap comes its start.
     pub fn index_after(&self, at: usize) -> usize
         requires { at < self.now.width }
         ensures within { result < self.now.width }
@@ -64,7 +64,6 @@ impl Rows {
         if at + 1 < width { at + 1 } else { self.stem }
     }
 
-    /// Sets the truth of a formula at an index.
     pub fn set(&mut self, row: usize, at: usize, truth: bool)
         requires row { row < self.old.count }
         requires at { at < self.old.width }
