@@ -1,4 +1,4 @@
-//! A cursor over the bytes of a text, for parsers whose symbols are single bytes.
+//! A cursor for parsers whose symbols are single bytes.
 
 ghost use Rattle.std.specs.Prelude.{◌≡◌, ℕ, ◌==◌, ◌≤◌, ◌<◌, ◌^◌, ◌↔◌, IsTrue, Some, false, [], length, take};
 ghost use Rattle.std.specs.Prelude.{take_while, IfSome};
@@ -20,7 +20,6 @@ use std::marker::Model;
 /// A class of bytes.
 #[derive(Clone, Copy)]
 pub enum Class {
-    /// A digit.
     Digit,
     /// An ASCII letter.
     Letter,
@@ -32,11 +31,8 @@ pub enum Class {
     Inner,
     /// Any byte but a quote.
     Unquoted,
-    /// A quote.
     Quote,
-    /// A comma.
     Comma,
-    /// A semicolon.
     Semicolon,
 }
 
@@ -60,16 +56,16 @@ impl Class {
     }
 }
 
-/// A run of digits, which may be empty, and the number that it denotes.
+/// A run of digits, perhaps empty, and the number that it denotes.
 #[derive(Clone, Copy)]
 pub struct Digits<'a> {
-    /// The digits, including leading zeros.
+    /// The digits, with leading zeros.
     pub bytes: &'a [u8],
-    /// The number, which is 0 if there are no digits, and `None` if it does not fit a `u64`.
+    /// The number: 0 without digits, `None` if it does not fit.
     pub value: Option<u64>,
 }
 
-/// The length of the longest run of bytes of the class at the start of the text.
+/// The length of the longest run of bytes of the class at the text's start.
 pub fn run_length(text: &[u8], class: Class) -> usize
     ensures length { result ≡ prefix_len (in_class class) text.now }
     ensures within { result ≤ length text.now }
@@ -78,7 +74,7 @@ pub fn run_length(text: &[u8], class: Class) -> usize
     text.iter().take_while(|byte| class.has(**byte)).count()
 }
 
-/// The number of digits at the start of the text, and the number that they denote if it fits a `u64`.
+/// The number of digits at the text's start, and the number that they denote, if it fits.
 fn digits_of(text: &[u8]) -> (usize, Option<u64>)
     ensures length { result.0 ≡ prefix_len is_digit text.now }
     ensures within { result.0 ≤ length text.now }
@@ -92,19 +88,18 @@ fn digits_of(text: &[u8]) -> (usize, Option<u64>)
     }
 }
 
-/// Whether the last byte of the text is a newline.
 fn is_ended(text: &[u8]) -> bool
     ensures { result ≡ ends_line text.now }
 {
     !text.is_empty() && text[text.len() - 1] == b'\n'
 }
 
-/// A position in a text. The bytes from the offset `at` on are unread.
+/// A position in a text, whose bytes from `at` on are unread.
 #[derive(Drop)]
 pub struct Cursor<'a> {
     text: &'a [u8],
     at: usize,
-    /// Whether the last line lacks its newline, so that a newline is read at the end.
+    /// Whether the last line lacks its newline, which is then read at the end.
     unended: bool,
 }
 
@@ -136,7 +131,7 @@ impl<'a> Cursor<'a> {
         }
     }
 
-    /// A cursor at the start of a text of lines. A last line without a newline is read as if it had one.
+    /// A cursor at the start of a text of lines; a last line without a newline is read as if it had one.
     pub fn of_lines(text: &'a [u8]) -> Self
         ensures stream { result ≡ stream_of text.now }
         ensures small { length result.pieces ≤ 2 ^ 63 }
@@ -201,11 +196,7 @@ impl<'a> Cursor<'a> {
         }
     }
 
-    /// Moves past the given byte, which must be next.
-    ///
-    /// # Errors
-    ///
-    /// Fails with the given cause, at the next byte or at the end, if the next byte is different or the text ends.
+    /// Moves past the given byte. Fails with the given cause if the next byte is another, or none is left.
     pub fn byte<C: Cause>(&mut self, byte: u8, cause: C) -> Result<(), Fault<C>>
         ensures { Meets found_of (byte_causes C.number cause) (λ u. u) (parts.byte byte) self.old result self.new }
     {
@@ -216,11 +207,8 @@ impl<'a> Cursor<'a> {
         Err(self.refusal(cause))
     }
 
-    /// Moves past the given bytes, which must be next.
-    ///
-    /// # Errors
-    ///
-    /// Fails with the given cause, at the first byte that differs from the given ones or at the end of the text.
+    /// Moves past the given bytes. Fails with the given cause at the first byte that differs, or at the end of the
+    /// text.
     pub fn word<C: Cause>(&mut self, word: &[u8], cause: C) -> Result<(), Fault<C>>
         ensures { Meets found_of (byte_causes C.number cause) (λ u. u) (parts.word word.now) self.old result
             self.new }
@@ -231,7 +219,7 @@ impl<'a> Cursor<'a> {
         Ok(())
     }
 
-    /// Moves past the longest run of bytes of the class, and returns the run. The class must not contain the newline.
+    /// Moves past the longest run of bytes of the class, which must not contain the newline, and returns it.
     pub fn run(&mut self, class: Class) -> &'a [u8]
         requires { in_class class 10 ≡ false }
         ensures { Passes (in_class class) self.old self.new result.now }

@@ -1,4 +1,4 @@
-//! The faults of texts, common to all formats.
+//! The faults of texts, of all formats.
 
 ghost use Rattle.std.specs.Prelude.{◌≡◌, ℕ, List};
 ghost use Rattle.ps_text.specs.declared.faults.Fault.TheVariants.{OutOfMemory};
@@ -7,19 +7,19 @@ use std::alloc::{AllocError, AllocFailed};
 use std::fmt;
 use thiserror::Error;
 
-/// The reason why a text is rejected.
+/// Why a text is rejected.
 pub trait Cause: Copy + Drop + fmt::Debug {
-    /// The number of the cause.
+    /// Its number.
     ghost number: { Self → ℕ };
 
-    /// The name of the cause.
+    /// Its name.
     ghost name: { Self → List ℕ };
 
-    /// The number of the cause in psyn's list of faults.
+    /// Its number in psyn's list of faults.
     fn number(self) -> u8
         ensures { result ≡ number self };
 
-    /// The name of the cause.
+    /// Its name there.
     fn name(self) -> &'static str
         ensures { result.now ≡ name self };
 }
@@ -28,13 +28,12 @@ pub trait Cause: Copy + Drop + fmt::Debug {
 #[derive(Clone, Copy, Debug, PartialEq, Eq, Error)]
 #[error_bound(C: Cause)]
 pub enum Fault<C> {
-    /// The text is rejected, for a reason and at an offset.
+    /// The text is rejected.
     #[error("{} at byte {offset}", .cause.name())]
     Text {
-        /// The reason why the text is rejected.
+        /// Why.
         cause: C,
-        /// The offset of the byte with the error, counted from 0. An error at the end of the text has the length of the
-        /// text as its offset.
+        /// The offset of the byte with the error, from 0; at the end of the text, the text's length.
         offset: usize,
     },
     /// Out of memory.
@@ -45,7 +44,7 @@ pub enum Fault<C> {
 impl<C: Cause> Fault<C> {
     ghost use Rattle.ps_text.specs.Faults.{fault_number, fault_name};
 
-    /// The number of the fault in psyn's list of faults.
+    /// Its number in psyn's list of faults.
     pub fn number(self) -> u8
         ensures { result ≡ fault_number C.number self }
     {
@@ -55,7 +54,7 @@ impl<C: Cause> Fault<C> {
         }
     }
 
-    /// The name of the fault.
+    /// Its name there.
     pub fn name(self) -> &'static str
         ensures { result.now ≡ fault_name C.name self }
     {

@@ -1,4 +1,4 @@
-//! Numbers in decimal.
+//! Decimal numbers.
 
 ghost use Rattle.std.specs.Prelude.{◌≡◌, ◌++◌, ◌^◌, ◌≤◌, ◌<◌, ◌↔◌, decimal, length, take_while, IfNone, IfSome};
 ghost use Rattle.std.specs.Prelude.{IsSome, OnOk};
@@ -21,20 +21,19 @@ pub fn write_number(out: &mut Vec<u8>, number: u64) -> Result<(), AllocError>
     out.extend_from_slice(buffer.format(number).as_bytes())
 }
 
-/// The number that the digits at the start of a text denote.
+/// The number that a text's leading digits denote.
 #[derive(Clone, Copy)]
 pub struct LeadingNumber {
-    /// The number; 0 if there are no digits.
+    /// The number; 0 without digits.
     pub value: u64,
-    /// The number of digits.
+    /// How many digits.
     pub digits: usize,
 }
 
-/// A run of fewer digits than this denotes a number less than 10^17, so that no step of its computation wraps.
+/// Fewer digits than this denote a number less than 10^17, and no step of its computation wraps.
 const FEW: usize = 18;
 
-/// The number that the leading digits of a text denote, including leading zeros. `None` if the number does not fit a
-/// `u64`.
+/// The number that the leading digits denote, zeros among them, if it fits.
 #[inline(always)]
 pub fn leading_number(text: &[u8]) -> Option<LeadingNumber>
     ensures value { IfSome result (λ number. number.value ≡ decimal_value (take_while is_ascii_digit text.now)) }
@@ -48,8 +47,7 @@ pub fn leading_number(text: &[u8]) -> Option<LeadingNumber>
     many_digits(text)
 }
 
-/// The number that the leading digits of a text denote, if there are fewer than 18 leading digits. With more digits the
-/// computation may wrap, and its value is not used.
+/// The same, if there are fewer than 18; with more, the computation may wrap, and its value is not used.
 #[inline(always)]
 pub fn few_digits(text: &[u8]) -> Option<LeadingNumber>
     ensures few { IsSome result ↔ (prefix_len is_ascii_digit text.now < 18) }
@@ -71,7 +69,7 @@ pub fn few_digits(text: &[u8]) -> Option<LeadingNumber>
     Some(LeadingNumber { value, digits })
 }
 
-/// The number that the leading digits of a text denote. Each step is checked for overflow.
+/// As `leading_number`, with each step checked for overflow.
 #[inline(never)]
 fn many_digits(text: &[u8]) -> Option<LeadingNumber>
     ensures value { IfSome result (λ number. number.value ≡ decimal_value (take_while is_ascii_digit text.now)) }
