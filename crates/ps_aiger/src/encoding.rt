@@ -1,4 +1,4 @@
-//! Building the circuit of a machine.
+//! The circuit of a machine.
 
 ghost use Rattle.std.specs.Prelude.{◌≡◌, ℕ, ◌+◌, ◌*◌, ◌^◌, ◌<◌, ◌≤◌, All, IfOk, IsTrue, Some, None, [], length};
 ghost use Rattle.std.specs.Prelude.{map, replicate, slice_get};
@@ -20,13 +20,8 @@ use ps_circuit::{Builder, Circuit, EncodeFault, Gate, Latch, Literal, Parts, Sid
 use ps_machine::Machine;
 use std::alloc::{AllocError, Global};
 
-/// Builds the circuit of a machine: each step of the circuit is a step of the machine. The circuit begins in memory
-/// state 0. The latches hold the code of a memory state; a code that belongs to no memory state stands for memory state
-/// 0. Inputs and outputs have the names of their propositions.
-///
-/// # Errors
-///
-/// Fails if the circuit needs more than 2147483647 variables, or if memory runs out.
+/// The circuit of a machine, from memory state 0 on: each of its steps is one of the machine. Inputs and outputs have
+/// the names of their propositions. Fails if the circuit needs more than 2147483647 variables, or if memory runs out.
 pub fn encode(alloc: Global, machine: &Machine) -> Result<Circuit, EncodeFault>
     ensures encodes { IfOk result (λ circuit. Encodes (behaviour machine.now) circuit) }
     ensures tidy { IfOk result (λ circuit. IsTidy circuit) }
@@ -42,7 +37,7 @@ pub fn encode(alloc: Global, machine: &Machine) -> Result<Circuit, EncodeFault>
     Ok(circuit)
 }
 
-/// Builds the literals of the latches' next values. The gates of these literals are built before those of the outputs.
+/// The latches' next values, whose gates come first.
 fn next_literals(
     alloc: Global,
     builder: &mut Builder,
@@ -58,7 +53,7 @@ fn next_literals(
     literals_of(alloc, builder, machine, latches, &next_bits)
 }
 
-/// Builds the literals of the outputs. The gates of these literals are built after those of the latches' next values.
+/// The outputs, whose gates come after those.
 fn output_literals(
     alloc: Global,
     builder: &mut Builder,
@@ -73,7 +68,7 @@ fn output_literals(
     literals_of(alloc, builder, machine, latches, &output_bits)
 }
 
-/// The circuit with the given literals for the next values of the latches and for the outputs.
+/// The circuit of these literals.
 fn circuit_of(
     alloc: Global,
     builder: &Builder,
@@ -94,7 +89,7 @@ fn circuit_of(
     Circuit::in_order(alloc, parts)
 }
 
-/// The smallest number of latches that have a code for each memory state.
+/// The fewest latches that have a code for each memory state.
 fn latches_for(memories: usize) -> u32
     ensures enough { memories ≤ 2 ^ result }
     ensures least { (n : ℕ) → memories ≤ 2 ^ n → result ≤ n }
@@ -108,7 +103,7 @@ fn latches_for(memories: usize) -> u32
     64
 }
 
-/// The bits of the next memory state's number, of which each latch takes one as its next value.
+/// The bits of the next memory state's number, one for each latch.
 fn next_bits(alloc: Global, latches: u32) -> Result<Vec<Wanted>, AllocError>
     ensures many { IfOk result (λ bits. length bits.items ≡ latches) }
     ensures each { IfOk result (λ bits. (k : ℕ) → k < latches → slice_get bits.items k ≡ Some (Next k)) }
@@ -120,7 +115,7 @@ fn next_bits(alloc: Global, latches: u32) -> Result<Vec<Wanted>, AllocError>
     Ok(bits)
 }
 
-/// The propositions that the machine outputs.
+/// The propositions that the machine sets.
 fn output_bits(alloc: Global, machine: &Machine) -> Result<Vec<Wanted>, AllocError>
     ensures { IfOk result (λ bits. bits.items ≡ map Output machine.now.outputs) }
 {
@@ -131,7 +126,7 @@ fn output_bits(alloc: Global, machine: &Machine) -> Result<Vec<Wanted>, AllocErr
         .collect(alloc)
 }
 
-/// Builds the literals of the given bits of the machine's step, one after another.
+/// The literals of bits of the machine's step, one after another.
 fn literals_of(
     alloc: Global,
     builder: &mut Builder,
@@ -158,7 +153,7 @@ fn literals_of(
     Ok(literals)
 }
 
-/// The parts of the circuit with the given literals for the next values of the latches and for the outputs.
+/// The parts of the circuit of these literals.
 fn parts_of(
     alloc: Global,
     builder: &Builder,
@@ -186,7 +181,7 @@ fn parts_of(
     })
 }
 
-/// The literals of `count` variables from variable `first` on.
+/// The literals of `count` variables from `first` on.
 fn literals_from(alloc: Global, first: u32, count: u32) -> Result<Vec<Literal>, AllocError>
     requires { first + count ≤ 2 ^ 31 }
     ensures { IfOk result (λ literals. literals.items ≡ map (λ v. 2 * v) (range_with_len first count)) }
@@ -198,7 +193,7 @@ fn literals_from(alloc: Global, first: u32, count: u32) -> Result<Vec<Literal>, 
     Ok(literals)
 }
 
-/// Latches with the variables from `first` on, whose next values are the given literals.
+/// Latches with the variables from `first` on.
 fn latches_of(alloc: Global, first: u32, next: &[Literal]) -> Result<Vec<Latch>, AllocError>
     requires { first + length next.now ≤ 2 ^ 31 }
     ensures { IfOk result (λ latches. AreLatches first next.now latches.items) }
@@ -230,7 +225,7 @@ fn gates_of(alloc: Global, builder: &Builder) -> Result<Vec<Gate>, AllocError>
     Ok(gates)
 }
 
-/// The names of the given propositions.
+/// The names of propositions.
 fn symbols(
     alloc: Global,
     machine: &Machine,
@@ -249,7 +244,7 @@ fn symbols(
     Ok(names)
 }
 
-/// A list of `count` entries `None`: latches have no names.
+/// Latches have no names.
 fn no_symbols(alloc: Global, count: usize) -> Result<Vec<Option<Vec<u8>>>, AllocError>
     ensures many { IfOk result (λ names. length names.items ≡ count) }
     ensures none { IfOk result (λ names. map name_bytes names.items ≡ replicate count None) }

@@ -1,4 +1,4 @@
-//! The bits of a machine's step, as literals over inputs and latches.
+//! The bits of a machine's step as literals.
 
 ghost use Rattle.std.specs.Prelude.{◌≡◌, ◌+◌, ◌^◌, ◌<◌, ◌≤◌, IfOk, IfSome, IfNone, false, length, slice_get};
 ghost use Rattle.std.specs.Prelude.{slice_index, if◌then◌else◌};
@@ -15,28 +15,25 @@ use ps_diagram::{Node, View};
 use ps_machine::{Machine, Row};
 use std::alloc::{AllocError, Global};
 
-/// A bit of a row of the machine's table; a row has a next memory state and an output letter.
+/// A bit of a row of the machine's table.
 #[derive(Debug, Clone, Copy, PartialEq, Eq)]
 pub(crate) enum Wanted {
-    /// The bit with the given index in the number of the next memory state.
+    /// This bit of the next memory state's number.
     Next(u32),
-    /// The bit of the given proposition in the letter that the machine outputs.
+    /// This proposition in the output letter.
     Output(u32),
 }
 
-/// The data from which the literal of a bit of the machine's step is built. They do not change while it is built.
+/// What a bit is built from.
 #[derive(Drop)]
 pub(crate) struct Plan<'a> {
-    /// The machine.
     pub machine: &'a Machine,
-    /// For each proposition, the literal of its input, or `None` if the machine does not read the proposition.
+    /// For each proposition, the literal of its input, if it is read.
     pub inputs: &'a [Option<Literal>],
-    /// The bit.
     pub wanted: Wanted,
 }
 
-/// For each proposition, the literal of its input, or `None` if the machine does not read the proposition. Input k is
-/// variable k + 1.
+/// For each proposition, the literal of its input, if it is read; input k is variable k + 1.
 pub(crate) fn input_literals(
     alloc: Global,
     machine: &Machine,
@@ -50,7 +47,7 @@ pub(crate) fn input_literals(
     Ok(literals)
 }
 
-/// The literal of the input that reads a proposition, or `None` if there is no such input.
+/// The same for one proposition.
 fn input_literal(inputs: &[u32], proposition: u32) -> Option<Literal>
     requires { length inputs.now ≤ 64 }
     ensures { IsInputLiteral inputs.now proposition result }
@@ -61,9 +58,8 @@ fn input_literal(inputs: &[u32], proposition: u32) -> Option<Literal>
     }
 }
 
-/// Builds the literal whose value is the wanted bit of the machine's step, for the memory state whose code the latches
-/// hold and for the letter on the inputs. The variables of the latches follow the variables of the inputs. The table
-/// `known` is cleared first.
+/// The wanted bit of the machine's step, by the memory state's code in the latches, whose variables follow those of the
+/// inputs, and by the letter on the inputs. Clears `known` first.
 pub(crate) fn literal_of(
     builder: &mut Builder,
     plan: &Plan<'_>,
@@ -80,9 +76,8 @@ pub(crate) fn literal_of(
     over_latches(builder, plan, known, latches, 0)
 }
 
-/// The literal of the wanted bit of the machine's step, for the memory states whose codes are `code` plus a number less
-/// than 2^`latches`. The literal depends on the lowest `latches` latches; for each other latch, a bit of `code` stands
-/// for its value. A code that belongs to no memory state stands for memory state 0.
+/// The same for memory states whose codes are `code` plus a number less than 2^`latches`: the lowest `latches` latches
+/// decide, and bits of `code` stand for the others. A code of no memory state stands for memory state 0.
 fn over_latches(
     builder: &mut Builder,
     plan: &Plan<'_>,
@@ -112,8 +107,7 @@ fn over_latches(
     builder.mux(Literal::positive(variable), where_true, where_false)
 }
 
-/// The literal of the wanted bit of the machine's step from a memory state; `node` is the memory state's decision
-/// diagram. The table `known` has the literals that were already built for diagram nodes.
+/// The same from one memory state, by its diagram; `known` has the literals of nodes so far.
 fn over_inputs(
     builder: &mut Builder,
     plan: &Plan<'_>,
@@ -152,8 +146,7 @@ fn over_inputs(
     }
 }
 
-/// The bit `wanted` of a row of the machine, as a constant literal (0 or 1); a leaf of a diagram has the index of this
-/// row.
+/// The bit of the row at a diagram's leaf, as a constant.
 fn constant(machine: &Machine, wanted: Wanted, leaf: u64) -> Literal
     ensures { result ≡ (if wanted_bit wanted (row_at_leaf machine.now leaf) then 1 else 0) }
 {
@@ -163,7 +156,7 @@ fn constant(machine: &Machine, wanted: Wanted, leaf: u64) -> Literal
     }
 }
 
-/// The bit `wanted` of a row of the machine's table.
+/// The bit of a row.
 fn bit_of_row(wanted: Wanted, row: Row) -> bool
     ensures { result ≡ wanted_bit wanted row }
 {
@@ -173,14 +166,14 @@ fn bit_of_row(wanted: Wanted, row: Row) -> bool
     }
 }
 
-/// The bit with the given index in a number.
+/// A bit of a number.
 fn has_bit(number: u64, place: u32) -> bool
     ensures { result ≡ is_in place number }
 {
     place < 64 && number >> place & 1 == 1
 }
 
-/// The index of a proposition in a list, or `None` if the list does not have it.
+/// The index of a proposition in a list.
 fn place_among(list: &[u32], proposition: u32) -> Option<usize>
     ensures found { IfSome result (λ place. slice_get list.now place ≡ Some proposition) }
     ensures none { IfNone result (is_among proposition list.now ≡ false) }

@@ -7,20 +7,20 @@ ghost use Rattle.ps_circuit.specs.Circuits.{CircuitData};
 ghost use Rattle.ps_aiger.specs.Encoded.{Encodes, IsTidy};
 ghost use Rattle.ps_aiger.specs.Wires.{IsOutOfLiterals, IsWired};
 
-/// Machines with the same behaviour have at most one circuit: any two of their circuits are equal, names included.
+/// Machines with the same behaviour have at most one circuit, names included.
 pub fn one_circuit()
     ensures { (b o : Behaviour) (c d : CircuitData) → IsMachine b → BehavesAs b o → Encodes b c →
         IsTidy c → IsWired b c →
         Encodes o d → IsTidy d → IsWired o d → c ≡ d }
 {}
 
-/// A circuit has a literal for each variable, so a machine whose gates need too many variables has no circuit.
+/// A machine whose gates need too many variables has none.
 pub fn circuit_has_literals()
     ensures { (b o : Behaviour) (c : CircuitData) → IsMachine b → BehavesAs b o → Encodes b c → IsTidy c → IsWired b c →
         ¬ IsOutOfLiterals o }
 {}
 
-/// Each machine has a circuit, unless the circuit would need more than 2147483647 variables.
+/// Every other machine has one.
 pub fn circuit_is_there()
     ensures { (b : Behaviour) → IsMachine b →
         IsOutOfLiterals b ⊎ ((c : CircuitData) × Encodes b c × IsTidy c × IsWired b c) }

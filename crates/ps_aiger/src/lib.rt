@@ -3,22 +3,18 @@
 //! | Call | What it gives |
 //! |---|---|
 //! | `encode(machine)` | the circuit of a machine, with the names of the propositions as symbols |
+//! | `one_circuit` | a law: machines with the same behaviour have at most one circuit |
+//! | `circuit_has_literals` | a law: a machine whose gates need too many variables has none |
+//! | `circuit_is_there` | a law: every other machine has one |
 //!
-//! Whatever code the latches hold, the circuit's step is the machine's step from the memory state with this code; a
-//! code that belongs to no memory state stands for memory state 0. There are no more latches than the memory states
-//! need. If the machine moves first, the circuit's outputs do not depend on its inputs. `encode` fails only if out of
-//! memory, or if the circuit needs more than 2147483647 variables.
+//! The latches, no more than needed, hold the number of a memory state in binary, and the circuit's step is the
+//! machine's from this state; a code of no memory state stands for memory state 0. If the machine moves first, the
+//! outputs do not depend on the inputs. `encode` fails only if out of memory, or if the circuit needs more than
+//! 2147483647 variables.
 //!
-//! | Law | What it says |
-//! |---|---|
-//! | `one_circuit` | machines with the same behaviour have at most one circuit |
-//! | `circuit_has_literals` | a machine whose gates need too many variables has no circuit |
-//! | `circuit_is_there` | every other machine has a circuit |
-//!
-//! The latches hold the number of a memory state in binary. Each output, and each next value of a latch, is a literal
-//! that is built from the machine's decision diagrams: each node of a diagram becomes a choice by the proposition that
-//! the node tests. For each bit, a table that is indexed by the nodes has the literals that were built. A gate that
-//! exists already is not built again.
+//! Outputs and next values are built from the machine's decision diagrams, in which each node becomes a choice by the
+//! proposition that it tests. For each bit, a table by nodes has the literals that were built, and no gate is built
+//! twice.
 #![tactic(auto)]
 
 mod encoding;

@@ -1,4 +1,4 @@
-//! The literals of diagram nodes.
+//! The literals of diagrams' nodes.
 
 ghost use Rattle.std.specs.Prelude.{◌≡◌, IfOk, None, Some, length, replicate, set};
 ghost use Rattle.ps_aiger.specs.Inner.Functions.{literal_at};
@@ -8,7 +8,7 @@ use ps_diagram::Node;
 use std::alloc::{AllocError, Global};
 use std::marker::Model;
 
-/// For each node of a store of diagrams, the literal that was built for it, or `None`.
+/// For each node of a store, the literal that was built for it.
 #[derive(Drop)]
 pub(crate) struct NodeLiterals {
     literals: Vec<Option<Literal>>,
@@ -23,7 +23,7 @@ impl Model for NodeLiterals {
 }
 
 impl NodeLiterals {
-    /// A table for the given number of nodes, without literals.
+    /// A table without literals.
     pub(crate) fn new(alloc: Global, nodes: usize) -> Result<Self, AllocError>
         ensures { IfOk result (λ known. known ≡ replicate nodes None) }
     {
@@ -32,14 +32,12 @@ impl NodeLiterals {
         Ok(NodeLiterals { literals })
     }
 
-    /// Removes all literals.
     pub(crate) fn clear(&mut self)
         ensures { self.new ≡ replicate (length self.old) None }
     {
         self.literals.fill(None);
     }
 
-    /// The literal of a node.
     pub(crate) fn get(&self, node: Node) -> Option<Literal>
         ensures { result ≡ literal_at self.now node }
     {
@@ -49,7 +47,7 @@ impl NodeLiterals {
         }
     }
 
-    /// Records the literal of a node, if the table has room for the node.
+    /// Records a literal, if the table has room for the node.
     pub(crate) fn put(&mut self, node: Node, literal: Literal)
         ensures { self.new ≡ set self.old node (Some literal) }
     {
