@@ -1,4 +1,4 @@
-//! Closed walks on which each mark occurs.
+//! Closed walks with each mark.
 
 ghost use Rattle.std.specs.Prelude.{◌≡◌, ◌<◌, ◌-◌, ◌++◌, ◌∷◌, ◌+◌, ℕ, IfOk, IfNone, IfSome, List, OnOk, Some, length};
 ghost use Rattle.std.specs.Prelude.{slice_get};
@@ -14,9 +14,8 @@ use crate::marked::Marked;
 use ps_components::{Components, Graph, components_of, way_back};
 use std::alloc::{AllocError, Global};
 
-/// A closed walk of one or more edges on which each mark occurs: each edge leads to the vertex of the next one, and the
-/// last edge to the vertex of the first. The result is `None` if no closed walk has each mark on one of its edges.
-/// Fails if out of memory.
+/// A closed walk of one or more edges on which each mark occurs, if there is one: each edge leads to the vertex of the
+/// next, and the last to that of the first. Fails if out of memory.
 pub fn fair_cycle<G: Marked>(alloc: Global, graph: &G) -> Result<Option<Vec<Edge>>, AllocError>
     ensures found { IfOk result (λ cycle. IfSome cycle (λ walk.
         IsFairCycle (G.graph graph.now) (G.marks graph.now) walk.items)) }
@@ -27,8 +26,7 @@ pub fn fair_cycle<G: Marked>(alloc: Global, graph: &G) -> Result<Option<Vec<Edge
     fair_cycle_within(alloc, graph, &components)
 }
 
-/// The edges of a path from one vertex to another, each of which leads to the vertex of the next one; no edges if the
-/// vertices are the same. The result is `None` if there is no path. Fails if out of memory.
+/// The edges of a path, if there is one; none if it begins at its end. Fails if out of memory.
 pub fn walk_to<G: Graph>(
     alloc: Global,
     graph: &G,
@@ -47,7 +45,7 @@ pub fn walk_to<G: Graph>(
     Ok(Some(walk))
 }
 
-/// The result of `fair_cycle`, given the components of all vertices.
+/// The same, by the components of all vertices.
 fn fair_cycle_within<G: Marked>(
     alloc: Global,
     graph: &G,
@@ -71,7 +69,7 @@ fn fair_cycle_within<G: Marked>(
     Ok(Some(closed_walk(alloc, &inner, &full.edges)?))
 }
 
-/// A closed walk through the given edges within a component. Fails if out of memory.
+/// A closed walk through these edges within a component.
 fn closed_walk<G: Graph>(
     alloc: Global,
     inner: &Inner<G>,
@@ -93,7 +91,7 @@ fn closed_walk<G: Graph>(
     Ok(walk)
 }
 
-/// Extends a walk by a path within a component, from one vertex of the component to another. Fails if out of memory.
+/// Extends a walk by a path within a component.
 fn go_on<G: Graph>(
     alloc: Global,
     inner: &Inner<G>,
@@ -115,8 +113,7 @@ fn go_on<G: Graph>(
     append_trail(inner.graph, &trail, walk)
 }
 
-/// Extends a walk by the edges of a path, whose vertices are listed backwards from its end to its start. Fails if out of
-/// memory.
+/// Extends a walk by a path, whose vertices are listed from its end to its start.
 fn append_trail<G: Graph>(
     graph: &G,
     trail: &[usize],
@@ -134,7 +131,6 @@ fn append_trail<G: Graph>(
     Ok(())
 }
 
-/// An edge from one vertex to another.
 fn edge_to<G: Graph>(graph: &G, from: usize, to: usize) -> Edge
     requires { Link (G.graph graph.now) from to }
     ensures vertex { result.vertex ≡ from }
@@ -148,7 +144,6 @@ fn edge_to<G: Graph>(graph: &G, from: usize, to: usize) -> Edge
     unreachable!()
 }
 
-/// The vertex to which an edge leads.
 fn end_of<G: Graph>(graph: &G, edge: Edge) -> usize
     requires { (to : ℕ) × IsEdge (G.graph graph.now) edge to }
     ensures { IsEdge (G.graph graph.now) edge result }

@@ -1,10 +1,10 @@
-//! Edges of a graph.
+//! Edges.
 
-/// A link of a graph, given by the vertex from which it leads, and by the slot of this vertex that holds its target.
+/// A link, by the vertex from which it leads and the slot there that holds its target.
 #[derive(Clone, Copy, Debug, PartialEq, Eq)]
 pub struct Edge {
-    /// The vertex from which the edge leads.
+    /// The vertex.
     pub vertex: usize,
-    /// The slot of the vertex.
+    /// The slot.
     pub slot: usize,
 }

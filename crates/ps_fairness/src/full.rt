@@ -1,4 +1,4 @@
-//! Strongly connected components in which each mark is on an edge.
+//! Components in which each mark is on an edge.
 
 ghost use Rattle.std.specs.Prelude.{◌≡◌, ◌<◌, ◌↔◌, ℕ, All, IfOk, IfNone, IfSome, IsTrue, length};
 ghost use Rattle.ps_components.specs.ComponentLists.{AreComponents, IsIn};
@@ -10,17 +10,16 @@ use crate::marked::Marked;
 use ps_components::{Components, Graph};
 use std::alloc::{AllocError, Global};
 
-/// Edges within a component, such that each mark is on one of them.
+/// Edges within a component, one at least, with each mark on one of them.
 #[derive(Drop)]
 pub(crate) struct Full {
-    /// The number of the component.
+    /// The component's number.
     pub(crate) number: usize,
-    /// The edges, of which there is at least one.
+    /// The edges.
     pub(crate) edges: Vec<Edge>,
 }
 
-/// Edges within a component such that each mark is on one of them. The result is `None` if in each component some mark
-/// is on no edge, or there is no edge. Fails if out of memory.
+/// Such edges of any component; `None` if in each component some mark is on no edge, or there is no edge.
 pub(crate) fn full_component<G: Marked>(
     alloc: Global,
     graph: &G,
@@ -37,8 +36,7 @@ pub(crate) fn full_component<G: Marked>(
     Ok(None)
 }
 
-/// Edges within the component with a given number, at least one and at most one for each mark, such that each mark is
-/// on one of them. The result is `None` if there are no such edges. Fails if out of memory.
+/// Such edges of this component, at most one for each mark.
 fn marked_edges<G: Marked>(
     alloc: Global,
     graph: &G,
@@ -60,7 +58,7 @@ fn marked_edges<G: Marked>(
     Ok(Some(edges))
 }
 
-/// Whether one of the edges bears a mark, if there is a mark with this number.
+/// Whether one of the edges bears the mark.
 fn is_on_one<G: Marked>(graph: &G, edges: &[Edge], mark: usize) -> bool
     requires { All (IsSlot (G.graph graph.now)) edges.now }
     ensures { IsTrue result → IsOnOne (G.marks graph.now) mark edges.now }
@@ -73,7 +71,7 @@ fn is_on_one<G: Marked>(graph: &G, edges: &[Edge], mark: usize) -> bool
     false
 }
 
-/// An edge within the component with a given number that bears a mark, if there is a mark with this number.
+/// An edge within the component that bears the mark.
 fn edge_within<G: Marked>(
     graph: &G,
     components: &Components,
@@ -98,8 +96,7 @@ fn edge_within<G: Marked>(
     None
 }
 
-/// The first edge from a vertex to the component with a given number that bears a mark, if there is a mark with this
-/// number.
+/// The first such edge from a vertex.
 fn edge_from<G: Marked>(
     graph: &G,
     components: &Components,
@@ -122,7 +119,7 @@ fn edge_from<G: Marked>(
     None
 }
 
-/// Whether the slot of an edge holds a target in the component with a given number.
+/// Whether an edge leads into the component.
 fn leads_into<G: Graph>(graph: &G, components: &Components, edge: Edge, number: usize) -> bool
     requires components { AreComponents (G.graph graph.now) components.now }
     requires vertex { IsIn components.now edge.vertex number }
@@ -135,7 +132,7 @@ fn leads_into<G: Graph>(graph: &G, components: &Components, edge: Edge, number: 
     }
 }
 
-/// Whether an edge bears a mark, if there is a mark with this number.
+/// Whether an edge bears the mark, if there is one with this number.
 fn bears<G: Marked>(graph: &G, edge: Edge, mark: usize) -> bool
     requires { IsSlot (G.graph graph.now) edge }
     ensures { IsTrue result ↔ Bears (G.marks graph.now) mark edge }

@@ -1,11 +1,11 @@
-//! The edges within one strongly connected component, as a graph.
+//! A component as a graph.
 
 ghost use Rattle.std.specs.Prelude.{◌≡◌, ◌<◌, None, length, slice_index_or};
 ghost use Rattle.ps_fairness.specs.Inner.Inside.{inner_graph, is_number};
 
 use ps_components::{Components, Graph};
 
-/// A graph without the edges that do not lead to the component with a given number.
+/// A graph with the edges that lead into one component alone.
 #[derive(Drop)]
 pub(crate) struct Inner<'a, G: Graph> {
     pub(crate) graph: &'a G,
@@ -35,7 +35,7 @@ impl<'a, G: Graph> Graph for Inner<'a, G> {
     }
 }
 
-/// Whether a vertex is in the component with a given number.
+/// Whether a vertex is in the component.
 pub(crate) fn is_in(components: &Components, vertex: usize, number: usize) -> bool
     requires { vertex < length components.now.numbers }
     ensures { result ≡ is_number (slice_index_or components.now.numbers vertex None) number }

@@ -5,15 +5,13 @@
 //!
 //! | Call | What it gives |
 //! |---|---|
-//! | `fair_cycle(graph)` | a closed walk of one or more edges on which each mark occurs, or none if there is none |
-//! | `walk_to(graph, from, to)` | the edges of a path from one vertex to another, or none if there is none |
+//! | `fair_cycle(graph)` | a closed walk of one or more edges on which each mark occurs, if there is one |
+//! | `walk_to(graph, from, to)` | the edges of a path from one vertex to another, if there is one |
 //!
-//! All edges of a closed walk are in one strongly connected component. Conversely, if each mark is on an edge within a
-//! component, paths within the component join these edges to a closed walk. So the search takes the components one
-//! after another, and looks in each for an edge with the first mark, then for one with the second, until a mark is
-//! missing. The time is at most proportional to the number of vertices, and to the number of slots times the number of
-//! marks; the walk has at most as many edges as the component has vertices, times the number of marks (or times 1 if
-//! there are no marks).
+//! A closed walk is within one strongly connected component, and edges of one component can be joined to a closed walk.
+//! So the search looks in each component for an edge with the first mark, then for one with the second, until a mark is
+//! missing. The time is at most proportional to the number of vertices, and to that of slots times that of marks; the
+//! walk has at most as many edges as the component has vertices, times the number of marks, or 1.
 #![tactic(auto)]
 
 mod cycles;

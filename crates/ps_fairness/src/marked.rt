@@ -5,9 +5,9 @@ ghost use Rattle.ps_fairness.specs.Marks.{Marks};
 
 use ps_components::Graph;
 
-/// A graph whose edges bear marks, which are numbered from 0. Each edge bears any number of them.
+/// A graph whose edges bear any number of marks, which are numbered from 0.
 pub trait Marked: Graph {
-    /// In clauses, the marks of the graph that the value represents.
+    /// The marks, in clauses.
     ghost marks: { Self → Marks };
 
     /// The number of marks.

@@ -1,4 +1,4 @@
-//! Parsing a solution.
+//! The parser of solutions.
 
 ghost use Rattle.std.specs.Prelude.{◌≡◌, ◌<◌, length, IfOk, IfSome, codes};
 ghost use Rattle.ps_text.specs.Answers.{next_of, offset_of};
@@ -21,14 +21,9 @@ use ps_ids::Ids;
 use ps_pgsolver::{Kind, Token, Tokens};
 use std::alloc::Global;
 
-/// Parses a solution of a game. Each winner in the text is 0 or 1. In the text, vertices and moves are given by ids of
-/// the game; the parsed solution stores the indices of these vertices.
-///
-/// # Errors
-///
-/// [`CertFault::Text`] with the first error of the text and the offset of its token. If the text has no other error,
-/// but some vertex has no entry, the error is `OtherGame` at the end of the text. Apart from errors of the text, the
-/// only error is out of memory.
+/// Parses a solution, whose text names vertices by ids, into indices. Fails with the first error of the text and the
+/// offset of its token; with `OtherGame` at the end of the text if there is no other error, but some vertex has no
+/// entry; or if out of memory.
 pub fn read(alloc: Global, text: &[u8], game: &NamedGame) -> Result<Solution, CertFault>
     ensures answer { IsSolutionAnswer game.now.ids text.now result }
     ensures won { IfOk result (λ solution. length solution.won ≡ vertex_count game.now.game) }
@@ -47,14 +42,13 @@ pub fn read(alloc: Global, text: &[u8], game: &NamedGame) -> Result<Solution, Ce
     Ok(solved.into_solution())
 }
 
-/// The fault that reports an error at an offset.
 fn fault(cause: CertCause, offset: usize) -> CertFault
     ensures { result ≡ faults.Text cause offset }
 {
     CertFault::Text { cause, offset }
 }
 
-/// Parses the whole text of a solution, and returns its entries.
+/// Parses a whole text.
 fn solution_text(alloc: Global, text: &[u8], ids: &Ids) -> Result<Solved, CertFault>
     ensures answer { TextAnswers ids.now (stream_of text.now) result }
     ensures places { IfOk result (λ solved. length solved.named ≡ length ids.now) }
@@ -66,7 +60,7 @@ fn solution_text(alloc: Global, text: &[u8], ids: &Ids) -> Result<Solved, CertFa
     Ok(solved)
 }
 
-/// Parses a line such as `paritysol 7;`, if the text begins with one.
+/// Parses a line such as `paritysol 7;`, if it comes first.
 fn heading(tokens: &mut Tokens) -> Result<(), CertFault>
     ensures { ReadsAs (λ u. u) parts.heading tokens.old result tokens.new }
 {
@@ -77,7 +71,7 @@ fn heading(tokens: &mut Tokens) -> Result<(), CertFault>
     Ok(())
 }
 
-/// Parses the number, which has no meaning, and the semicolon of a line such as `paritysol 7;`.
+/// Parses its number, which has no meaning, and the semicolon.
 fn value_line(tokens: &mut Tokens) -> Result<(), CertFault>
     ensures { ReadsAs (λ u. u) parts.value_line tokens.old result tokens.new }
 {
@@ -85,7 +79,6 @@ fn value_line(tokens: &mut Tokens) -> Result<(), CertFault>
     semicolon(tokens)
 }
 
-/// Parses the entries.
 fn entries(alloc: Global, tokens: &mut Tokens, ids: &Ids) -> Result<Solved, CertFault>
     ensures part { ReadsAs (λ solved. solved) (parts.entries ids.now) tokens.old result tokens.new }
     ensures places { IfOk result (λ solved. length solved.named ≡ length ids.now) }
@@ -98,7 +91,7 @@ fn entries(alloc: Global, tokens: &mut Tokens, ids: &Ids) -> Result<Solved, Cert
     Ok(solved)
 }
 
-/// Parses an entry of a solution, and adds it to the entries that were read before.
+/// Parses an entry, and adds it.
 fn entry(tokens: &mut Tokens, ids: &Ids, solved: &mut Solved) -> Result<(), CertFault>
     requires { length solved.old.named ≡ length ids.now }
     ensures part { ReadsAs (λ _. solved.new) (parts.entry ids.now solved.old) tokens.old result tokens.new }
@@ -112,7 +105,7 @@ fn entry(tokens: &mut Tokens, ids: &Ids, solved: &mut Solved) -> Result<(), Cert
     Ok(())
 }
 
-/// Parses the id that begins an entry, of a vertex that has no entry yet. Returns the vertex's index.
+/// Parses the id of a vertex that has no entry yet, and returns its index.
 fn vertex(tokens: &mut Tokens, ids: &Ids, solved: &Solved) -> Result<usize, CertFault>
     requires { length solved.now.named ≡ length ids.now }
     ensures part { ReadsAs (λ v. v) (parts.vertex ids.now solved.now) tokens.old result tokens.new }
@@ -123,7 +116,6 @@ fn vertex(tokens: &mut Tokens, ids: &Ids, solved: &Solved) -> Result<usize, Cert
     unless_named(id, start, ids, solved)
 }
 
-/// Parses a winner.
 fn winner(tokens: &mut Tokens) -> Result<Player, CertFault>
     ensures { ReadsAs (λ w. w) parts.winner tokens.old result tokens.new }
 {
@@ -132,7 +124,7 @@ fn winner(tokens: &mut Tokens) -> Result<Player, CertFault>
     one_of_two(winner, start)
 }
 
-/// Parses the move of an entry, if the next token is a number.
+/// Parses a move, if a number comes next.
 fn choice(tokens: &mut Tokens, ids: &Ids) -> Result<Option<usize>, CertFault>
     ensures part { ReadsAs (λ c. c) (parts.choice ids.now) tokens.old result tokens.new }
     ensures within { IfOk result (λ c. IfSome c (λ v. v < length ids.now)) }
@@ -144,8 +136,7 @@ fn choice(tokens: &mut Tokens, ids: &Ids) -> Result<Option<usize>, CertFault>
     Ok(Some(successor))
 }
 
-/// Parses the id of the vertex to which a move leads, which may be any vertex of the game. Returns the index of this
-/// vertex.
+/// Parses the id of any vertex, and returns its index.
 fn successor(tokens: &mut Tokens, ids: &Ids) -> Result<usize, CertFault>
     ensures part { ReadsAs (λ v. v) (parts.successor ids.now) tokens.old result tokens.new }
     ensures within { IfOk result (λ v. v < length ids.now) }
@@ -155,14 +146,12 @@ fn successor(tokens: &mut Tokens, ids: &Ids) -> Result<usize, CertFault>
     if_known(id, start, ids)
 }
 
-/// Parses a number.
 fn number(tokens: &mut Tokens) -> Result<u64, CertFault>
     ensures { ReadsAs (λ n. n) parts.number tokens.old result tokens.new }
 {
     any_number(tokens)
 }
 
-/// Parses a semicolon.
 fn semicolon(tokens: &mut Tokens) -> Result<(), CertFault>
     ensures { ReadsAs (λ u. u) parts.semicolon tokens.old result tokens.new }
 {
@@ -172,7 +161,7 @@ fn semicolon(tokens: &mut Tokens) -> Result<(), CertFault>
     semicolon_of(tokens.next())
 }
 
-/// Parses any number that fits in 64 bits.
+/// Parses a number that fits in 64 bits.
 fn any_number(tokens: &mut Tokens) -> Result<u64, CertFault>
     ensures answer { result ≡ value_answer any_of_number (next_of tokens.old)
         (offset_of tokens.old.pieces tokens.old.end) }
@@ -195,7 +184,7 @@ fn finish(tokens: &Tokens) -> Result<(), CertFault>
     }
 }
 
-/// The index of the vertex whose id is the number at offset `start`, if the vertex has no entry yet.
+/// The index of a vertex by its id, if it has no entry yet.
 fn unless_named(id: u64, start: usize, ids: &Ids, solved: &Solved) -> Result<usize, CertFault>
     requires { length solved.now.named ≡ length ids.now }
     ensures answer { result ≡ vertex_of_number ids.now solved.now start id }
@@ -207,7 +196,7 @@ fn unless_named(id: u64, start: usize, ids: &Ids, solved: &Solved) -> Result<usi
     }
 }
 
-/// Returns the number at offset `start` as a winner, if it is 0 or 1.
+/// The number as a winner, if it is 0 or 1.
 fn one_of_two(winner: u64, start: usize) -> Result<Player, CertFault>
     ensures { result ≡ winner_of_number start winner }
 {
@@ -218,7 +207,7 @@ fn one_of_two(winner: u64, start: usize) -> Result<Player, CertFault>
     }
 }
 
-/// The index of the vertex whose id is the number at offset `start`. The function fails if no vertex has this id.
+/// The index of a vertex by its id, if there is one.
 fn if_known(id: u64, start: usize, ids: &Ids) -> Result<usize, CertFault>
     ensures answer { result ≡ successor_of_number ids.now start id }
     ensures within { IfOk result (λ v. v < length ids.now) }
@@ -229,7 +218,6 @@ fn if_known(id: u64, start: usize, ids: &Ids) -> Result<usize, CertFault>
     }
 }
 
-/// Checks that a token is a semicolon.
 fn semicolon_of(token: Token) -> Result<(), CertFault>
     ensures { result ≡ semicolon_answer (sign_of token.entry.kind) token.entry.start }
 {
@@ -239,7 +227,6 @@ fn semicolon_of(token: Token) -> Result<(), CertFault>
     }
 }
 
-/// Interprets a token as a number.
 fn number_of(token: Token) -> Result<u64, CertFault>
     requires { IsPlain token.kind }
     ensures { result ≡ value_answer any_of_number (sign_of token.entry.kind) token.entry.start }

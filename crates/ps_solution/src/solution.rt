@@ -1,15 +1,14 @@
-//! A parsed solution: who is claimed to win each vertex of a game, and by which move.
+//! Parsed solutions.
 
 use ps_game::{Region, Strategy};
 use std::marker::Model;
 
-/// For each vertex of a game, the player who is claimed to win it, and the move that is given there, or none.
+/// Who is said to win each vertex of a game, and by which move.
 #[derive(Drop)]
 pub struct Solution {
-    /// The vertices that player 0 is claimed to win; player 1 is claimed to win all other vertices.
+    /// The vertices said to be won by player 0; the others, by player 1.
     pub won: Region,
-    /// The move that the solution gives for each vertex, or none. The parser accepts the move of a vertex even if the
-    /// claimed winner doesn't own the vertex.
+    /// The move at each vertex, or none; it may be there even if the winner does not own the vertex.
     pub moves: Strategy,
 }
 

@@ -1,4 +1,4 @@
-//! The entries of a solution that the parser has read so far.
+//! The entries that were read.
 
 ghost use Rattle.std.specs.Prelude.{◌≡◌, ◌<◌, ◌↔◌, length, IfOk, IfSome, IsTrue};
 ghost use Rattle.ps_game.specs.Regions.{has};
@@ -9,8 +9,7 @@ use ps_game::{Player, Region, Strategy};
 use std::alloc::{AllocError, Global};
 use std::marker::Model;
 
-/// The entries read so far: which vertices of the game have one, which of these player 0 wins, and the moves that the
-/// entries give.
+/// Which vertices have an entry, which of these player 0 wins, and their moves.
 #[derive(Drop)]
 pub(crate) struct Solved {
     named: Region,
@@ -29,7 +28,7 @@ impl Model for Solved {
 }
 
 impl Solved {
-    /// The state before any entry is read, for a game with `vertices` vertices.
+    /// No entries.
     pub(crate) fn new(alloc: Global, vertices: usize) -> Result<Self, AllocError>
         ensures { IfOk result (λ solved. solved ≡ none_solved vertices) }
     {
@@ -40,7 +39,7 @@ impl Solved {
         })
     }
 
-    /// Whether an entry for the given vertex was read.
+    /// Whether a vertex has an entry.
     pub(crate) fn has(&self, vertex: usize) -> bool
         requires { vertex < length self.now.named }
         ensures { result ≡ has self.now.named vertex }
@@ -48,7 +47,7 @@ impl Solved {
         self.named.contains(vertex)
     }
 
-    /// Adds the entry of a vertex, with its winner and its move.
+    /// Adds an entry.
     pub(crate) fn name(&mut self, vertex: usize, winner: Player, choice: Option<usize>)
         requires vertex { vertex < length self.old.named }
         requires choice { IfSome choice (λ successor. successor < length self.old.named) }
@@ -75,7 +74,7 @@ impl Solved {
         true
     }
 
-    /// The solution that the entries define.
+    /// The solution of these entries.
     pub(crate) fn into_solution(self) -> Solution
         ensures value { result ≡ solution_of self }
         ensures won { length result.won ≡ length self.named }

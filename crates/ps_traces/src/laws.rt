@@ -1,4 +1,4 @@
-//! Laws about lasso traces, which return to earlier values of the latches.
+//! Laws about lasso traces.
 
 ghost use Rattle.std.specs.Prelude.{◌≡◌, ◌≢◌, ℕ, ◌<◌, Bool, List, length};
 ghost use Rattle.ps_hoa.specs.Files.{FileData};
@@ -38,22 +38,21 @@ use ps_automaton::automaton_is_there;
 use ps_machine::lassos_won;
 use ps_simulate::circuit_has_one_values;
 
-/// Every periodic input extends to a lasso trace of a circuit. For each stem and each non-empty lap of letters with one
-/// bit for each input, some lasso trace reads the stem and one or more laps, and then repeats one or more laps.
+/// Each stem and each non-empty lap of letters, with a bit for each input, extend to a lasso trace, which reads the
+/// stem and one or more laps, and repeats one or more.
 pub fn every_input_goes_on()
     ensures { (c : CircuitData) → IsCircuit c → EachInputGoesOn c }
 {
     circuit_has_one_values();
 }
 
-/// If the names of a circuit's inputs and outputs are those of the propositions, each once, exactly one letter belongs
-/// to each step of a trace.
+/// If inputs and outputs have the names of the propositions, each once, a step of a trace has exactly one letter.
 pub fn every_trace_has_letters()
     ensures { (role : Role) (file : FileData) (c : CircuitData) (moments : List Moment) → AreNames file.names →
         HasSymbols role file.names file.controllable c → HasLetters file.names c moments }
 {}
 
-/// There is a word of the trace on each stimulus, for a circuit with the inputs and outputs that its role requires.
+/// A circuit with its role's inputs and outputs has a word on each stimulus.
 pub fn word_is_there()
     ensures { (role : Role) (names : List (List ℕ)) (controllable : List ℕ) (c : CircuitData)
         (stem lap : List (List Bool)) → AreDistinct names → IsCircuit c → HasSymbols role names controllable c →
@@ -62,9 +61,7 @@ pub fn word_is_there()
     circuit_has_one_values();
 }
 
-/// There is a verdict on each stimulus. A stimulus is a stem, and a non-empty lap that repeats; each letter of both has
-/// one bit for each input. The law is about files that were parsed and that psyn admits, and about circuits with the
-/// inputs and outputs of a role.
+/// A parsed file that psyn admits has a verdict on such a circuit and each stimulus: a stem, and a non-empty lap.
 pub fn verdict_is_there()
     ensures { (role : Role) (file : FileData) (c : CircuitData) (stem lap : List (List Bool)) → IsSoundFile file →
         IsAdmitted file → IsCircuit c →
@@ -75,16 +72,14 @@ pub fn verdict_is_there()
     circuit_has_one_values();
 }
 
-/// If the player of a circuit moves first, the circuit's outputs must not depend on its inputs (`IsInTime`). A circuit
-/// whose outputs are independent of its inputs at all latch values has this property at the latch values that traces
-/// reach. If the environment moves first, the laws about joint traces require that its circuit's outputs are
-/// independent of the inputs, but only at latch values that traces reach.
+/// Outputs that depend on no input, at all latch values if their player moves first (`IsInTime`), depend on none at
+/// those that traces reach: joint traces need no more.
 pub fn in_time_where_reached()
     ensures { (order : Order) (role : Role) (c : CircuitData) → IsInTime order role c →
         IsInTimeWhereReached order role c }
 {}
 
-/// The circuit of an environment and a finite-state controller have exactly one joint trace of each length.
+/// An environment's circuit and a finite-state controller have exactly one joint trace of each length.
 pub fn meeting_is_one()
     ensures { (order : Order) (c : CircuitData) (k : FiniteController) (count : ℕ) → IsCircuit c →
         IsInTimeWhereReached order Environment c → IsController order c k → IsOneMeeting c k count }
@@ -92,8 +87,7 @@ pub fn meeting_is_one()
     circuit_has_one_values();
 }
 
-/// The joint trace of an environment's circuit and a controller extends to a lasso trace, which also returns to the
-/// same memory state of the controller.
+/// It extends to a lasso trace, which also returns to the same memory state of the controller.
 pub fn every_meeting_goes_on()
     ensures { (order : Order) (c : CircuitData) (k : FiniteController) → IsCircuit c →
         IsInTimeWhereReached order Environment c → IsController order c k → MeetsInLasso c k }
@@ -101,8 +95,8 @@ pub fn every_meeting_goes_on()
     circuit_has_one_values();
 }
 
-/// If the automaton accepts no lasso trace of an environment's circuit, it rejects the infinite joint trace of this
-/// circuit and any finite-state controller.
+/// If the automaton accepts no lasso trace of an environment's circuit, it rejects the joint trace with each
+/// finite-state controller.
 pub fn every_meeting_is_rejected()
     ensures { (order : Order) (file : FileData) (c : CircuitData) (k : FiniteController) → AreNames file.names →
         IsCircuit c → HasSymbols Environment file.names file.controllable c → IsInTimeWhereReached order Environment c →
@@ -111,15 +105,14 @@ pub fn every_meeting_is_rejected()
     circuit_has_one_values();
 }
 
-/// The word of each lasso trace of a machine's circuit is the word of a lasso of the machine.
+/// Each word of a lasso trace of a machine's circuit is one of a lasso of the machine.
 pub fn circuit_has_machine_words()
     ensures { (m : Behaviour) (c : CircuitData) (stem lap : List ℕ) → IsMachine m → Encodes m c →
         IsLassoWord m.names c stem lap → IsLasso m stem lap }
 {}
 
-/// If the automaton accepts the words of all lassos of player 0's machine, it accepts the words of all lasso traces of
-/// the machine's circuit. If the automaton rejects the words of all lassos of player 1's machine, it rejects the words
-/// of all lasso traces of the machine's circuit.
+/// If all words of lassos of player 0's machine are accepted, so are those of its circuit; if those of player 1's
+/// machine are rejected, so are those of its circuit.
 pub fn circuit_is_won()
     ensures accepted { (file : FileData) (m : Behaviour) (c : CircuitData) → IsMachine m → m.names ≡ file.names →
         Encodes m c → LassosWon file m → m.player ≡ 0 → AllAccepted file c }
@@ -127,14 +120,13 @@ pub fn circuit_is_won()
         Encodes m c → LassosWon file m → m.player ≢ 0 → NoneAccepted file c }
 {}
 
-/// The circuit of a machine has the inputs, the outputs and the order of moves of the machine's role (`HasShape`).
+/// A machine's circuit has the inputs, the outputs and the order of moves of its role (`HasShape`).
 pub fn circuit_has_shape()
     ensures { (order : Order) (role : Role) (file : FileData) (m : Behaviour) (c : CircuitData) → IsMachine m →
         IsMachineFor order role file m → Encodes m c → HasShape order role file c }
 {}
 
-/// If all lassos of a machine are won by the machine's player, the machine's circuit has all properties of a winner's
-/// circuit (`IsWitness`).
+/// The circuit of a machine whose player wins all its lassos is a witness (`IsWitness`).
 pub fn circuit_answers()
     ensures { (order : Order) (file : FileData) (m : Behaviour) (c : CircuitData) → IsMachine m →
         IsMachineFor order (role_of m.player) file m → Encodes m c → LassosWon file m →
@@ -143,9 +135,8 @@ pub fn circuit_answers()
     circuit_has_one_values();
 }
 
-/// If player 0 wins vertex 0, where plays begin, the circuit made from a valid certificate of an automaton's game is a
-/// controller: the automaton accepts each of its lasso traces. If player 1 wins vertex 0, the circuit is an
-/// environment: the automaton accepts none of its lasso traces.
+/// The circuit by a valid certificate of an automaton's game is a witness: a controller, all of whose lasso traces are
+/// accepted, if player 0 wins vertex 0, and else an environment, none of whose are.
 pub fn certified_circuit_answers()
     ensures { (file : FileData) (chain : Chain) (a : AutomatonData) (order : Order) (keys : List Key)
         (game : ParityGame) (certificate : CertificateData) (m : Behaviour) (c : CircuitData) →
@@ -159,7 +150,7 @@ pub fn certified_circuit_answers()
     circuit_has_one_values();
 }
 
-/// The law states what `certified_circuit_answers` states, but for a game that is made from any automaton of the file.
+/// The same for a game of any automaton of the file.
 pub fn certified_circuit_of_file_answers()
     ensures { (order : Order) (file : FileData) (game : NamedGameData) (is_game : IsGameOfFile order file game)
         (certificate : CertificateData) (m : Behaviour) (c : CircuitData) → Fits game.game certificate →

@@ -2,9 +2,9 @@
 //!
 //! | Call | What it gives |
 //! |---|---|
-//! | `run::run` | reads the whole input, writes the answer to it, and returns the exit status |
+//! | `run::run` | reads the whole input, writes its answer to the output, and returns the exit status |
 //! | `run::run_by` | as `run`, with solvers that are known at compile time |
-//! | `synthesis::synthesise` | the report on an HOA text, with a solver that is chosen at run time: the whole promise |
+//! | `synthesis::synthesise` | the report on an HOA text, with a solver chosen at run time (docs/PROMISE.md) |
 #![tactic(auto)]
 
 ghost use Rattle.std.specs.Prelude.{◌≡◌, ◌+◌, false, []};
@@ -32,8 +32,7 @@ fn main(rt: HostRuntime) -> ExitCode {
     ))
 }
 
-/// Answers the input with psyn's own solver, and with the solver that replays a given certificate. Returns the exit
-/// status.
+/// Answers the input with psyn's own solver, and with that which replays a given certificate.
 fn answered<R: Source, W: Sink>(alloc: Global, reader: &mut R, writer: &mut W) -> u8
     requires reader { R.has_failed reader.old ≡ false }
     requires writer { W.has_failed writer.old ≡ false }

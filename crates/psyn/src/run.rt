@@ -1,4 +1,4 @@
-//! The program, from reading its input to writing its answer.
+//! The program.
 
 ghost use Rattle.std.specs.Prelude.{◌≡◌, ◌+◌, false};
 ghost use Rattle.ps_program.specs.Input.{ConsumesAtMost, input_limit};
@@ -13,12 +13,12 @@ use ps_program::{
 };
 use std::alloc::Global;
 
-/// Reads the whole input, writes the answer to it, and returns the exit status.
+/// Reads the whole input, writes its answer, and returns the exit status. `built_in` solves games, unless the input has
+/// a certificate, which `replay` takes.
 ///
-/// Reading stops at the first read that fails, or at the first byte past `INPUT_LIMIT`. Nothing is written after a
-/// write or a flush that failed, or after a write that accepted no bytes. If a write or the flush failed, or if a write
-/// accepted no bytes, the exit status is 1, and the output is a prefix of the answer. The solver `built_in` solves
-/// games; the solver `replay` is used if the input contains a certificate.
+/// Reading stops at the first read that fails, or at the first byte past `INPUT_LIMIT`; writing, at the first write or
+/// flush that fails, or write that accepts no bytes. Then the exit status is 1, and the output is a prefix of the
+/// answer.
 pub fn run<R: Source, W: Sink>(
     alloc: Global,
     reader: &mut R,
@@ -40,7 +40,7 @@ pub fn run<R: Source, W: Sink>(
     run_by(alloc, reader, writer, &mut built_in, &mut replay)
 }
 
-/// Like `run`, but with solvers whose types are known at compile time.
+/// As `run`, with solvers whose types are known at compile time.
 pub fn run_by<R: Source, W: Sink, S: Solver, T: Solver>(
     alloc: Global,
     reader: &mut R,
