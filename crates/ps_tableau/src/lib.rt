@@ -21,7 +21,7 @@
 //! | `Set::number()` | the number of a set; equal sets of one tableau have one number |
 //! | `laws::fair_run_satisfies` | a law: a word with a fair run from a state satisfies its obligations |
 //! | `laws::satisfied_has_fair_run` | a law: such a word, if decided at each index, has a fair run from there |
-//! | `laws::fair_run_has_round` | a law: with finitely many values, a fair run has a round that always postpones no until |
+//! | `laws::fair_run_has_round` | a law: with finitely many values, a fair run has a round that postpones no until |
 //! | `laws::wrong_covers_are_none` | a law: covers of an until without postponing or without a second way are wrong |
 //! | `laws::covers_of_each_operator` | a law: the covers of a formula, by those of its operands |
 //! | `laws::covers_of_more_obligations` | a law: the covers of several obligations are products |
