@@ -1,4 +1,4 @@
-//! The type of certificates of parity games.
+//! Certificates.
 
 ghost use Rattle.std.specs.Prelude.{◌≡◌, ℕ, ◌<◌, length, Option, slice_index};
 ghost use Rattle.ps_certificate.specs.Certificates.{CertificateData, winner_of, choice_of, counts_of, opposing};
@@ -11,11 +11,9 @@ use std::marker::Model;
 /// Who wins each vertex of a game, by which moves, and the counts that prove it.
 #[derive(Debug, Drop)]
 pub struct Certificate {
-    /// The odd priorities of the game, ascending. Player 0 loses a play that repeats a loop whose greatest priority is
-    /// odd.
+    /// The odd priorities of the game, ascending: those by which player 0 loses.
     pub odd: Vec<u64>,
-    /// The even priorities of the game, ascending. Player 1 loses a play that repeats a loop whose greatest priority is
-    /// even.
+    /// The even priorities of the game, ascending: those by which player 1 loses.
     pub even: Vec<u64>,
     /// One entry for each vertex of the game.
     pub entries: Entries,
@@ -33,7 +31,7 @@ impl Model for Certificate {
 
 #[tactic(auto, unfolding(crate::specs::Certificates::winner_of, crate::specs::Certificates::choice_of, crate::specs::Certificates::counts_of, crate::specs::Certificates::opposing))]
 impl Certificate {
-    /// The winner that the certificate gives for a vertex.
+    /// The winner of a vertex.
     pub fn winner(&self, vertex: usize) -> u8
         requires { vertex < length self.now.entries }
         ensures { result ≡ winner_of self.now vertex }
@@ -41,7 +39,7 @@ impl Certificate {
         self.entries.winner(vertex)
     }
 
-    /// The move that the certificate gives for a vertex.
+    /// The move of a vertex.
     pub fn choice(&self, vertex: usize) -> Option<usize>
         requires { vertex < length self.now.entries }
         ensures { result ≡ choice_of self.now vertex }
@@ -49,7 +47,7 @@ impl Certificate {
         self.entries.choice(vertex)
     }
 
-    /// The counts that the certificate has for a vertex.
+    /// The counts of a vertex.
     pub fn counts(&self, vertex: usize) -> Row<'_>
         requires { vertex < length self.now.entries }
         ensures { result ≡ counts_of self.now vertex }
@@ -57,7 +55,7 @@ impl Certificate {
         self.entries.counts(vertex)
     }
 
-    /// The priorities that oppose a player: those of the opponent's parity, in ascending order.
+    /// The priorities that oppose a player: those of the opponent's parity, ascending.
     pub fn opposing(&self, player: Player) -> &[u64]
         ensures { result.now ≡ opposing self.now player }
     {

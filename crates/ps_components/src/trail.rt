@@ -1,4 +1,4 @@
-//! Paths between two vertices, found by breadth-first search and listed from the end back to the start.
+//! Paths, found by breadth-first search.
 
 ghost use Rattle.std.specs.Prelude.{◌≡◌, ℕ, ◌+◌, ◌<◌, ◌≤◌, length, slice_get, Some, OnOk, IfOk, IfSome, IfNone};
 ghost use Rattle.ps_components.specs.Graphs.{SameOrWay, Link};
@@ -9,22 +9,22 @@ ghost use Rattle.ps_components.specs.declared.trail.Step.{Step};
 use crate::graph::Graph;
 use std::alloc::{AllocError, Global};
 
-/// A step of a breadth-first search: a vertex that was reached, and the index of the step from which it was reached.
+/// A vertex that was reached, and the index of the step from which it was.
 #[derive(Clone, Copy)]
 pub struct Step {
     item: usize,
     from: usize,
 }
 
-/// The state of a breadth-first search: the vertices reached so far, in the order in which they were reached.
+/// The vertices reached so far, in order.
 #[derive(Drop)]
 struct Spread {
     seen: Vec<bool>,
     steps: Vec<Step>,
 }
 
-/// A path from `start` to `end` without repeated vertices, listed backwards from `end` to `start`. `None` if `end` is
-/// not reachable from `start`. Fails if out of memory.
+/// A path from `start` to `end` without repeated vertices, listed backwards; `None` if there is none. Fails if out of
+/// memory.
 pub fn way_back<G: Graph>(
     alloc: Global,
     graph: &G,
@@ -49,7 +49,6 @@ pub fn way_back<G: Graph>(
 }
 
 impl Spread {
-    /// A breadth-first search that has reached only the vertex `start`. Fails if out of memory.
     fn new<G: Graph>(alloc: Global, graph: &G, start: usize) -> Result<Self, AllocError>
         requires { start < (G.graph graph.now).count }
         ensures spread { IfOk result (λ s. IsSpread (G.graph graph.now) s.seen.items s.steps.items 0) }
@@ -65,7 +64,7 @@ impl Spread {
         Ok(Spread { seen, steps })
     }
 
-    /// Records the targets of all links from the vertex of step `place` as reached. Fails if out of memory.
+    /// Reaches the targets of all links from the vertex of step `place`.
     fn reach_from<G: Graph>(&mut self, graph: &G, place: usize) -> Result<(), AllocError>
         requires place { place < length self.old.steps.items }
         requires spread { IsSpread (G.graph graph.now) self.old.seen.items self.old.steps.items place }
@@ -84,8 +83,7 @@ impl Spread {
         Ok(())
     }
 
-    /// Records that the vertex `to` was reached from the vertex of the search step with the index `place`, unless `to`
-    /// was reached before. Fails if out of memory.
+    /// Reaches `to` from the vertex of step `place`, unless it was reached before.
     fn reach<G: Graph>(&mut self, graph: &G, to: usize, place: usize) -> Result<(), AllocError>
         requires { LeadsTo (G.graph graph.now) to place self.old.seen.items self.old.steps.items }
         ensures { OnOk result (Reaches (G.graph graph.now) to place self.old.seen.items self.old.steps.items
@@ -102,7 +100,7 @@ impl Spread {
     }
 }
 
-/// The path from the vertex of the first step to the vertex of step `place`, listed backwards. Fails if out of memory.
+/// The path from the vertex of the first step to that of step `place`, listed backwards.
 fn trail_from<G: Graph>(
     alloc: Global,
     graph: &G,

@@ -1,5 +1,4 @@
-//! Builds a game from vertices and edges that are added in any order. At the end, repeated successors are dropped, in
-//! time proportional to the number of vertices and edges.
+//! Builds a game from vertices and edges in any order, in time proportional to their number.
 
 ghost use Rattle.std.specs.Prelude.{◌≡◌, ◌<◌, ◌≤◌, ◌+◌, ◌↔◌, ℕ, [], IfOk, OnOk, OnErr, Err, IfSome, IfNone, Some, None};
 ghost use Rattle.std.specs.Prelude.{length, find, nat_le, take, map};
@@ -16,8 +15,7 @@ use smallvec::SmallVec;
 use std::alloc::{AllocError, Global};
 use std::marker::Model;
 
-/// A vertex of an unfinished game. Up to four successors are stored inside the value without a heap allocation, and
-/// most vertices have no more.
+/// A vertex of an unfinished game. Up to four successors, which most vertices have, take no memory of their own.
 #[derive(Drop)]
 pub(crate) struct Vertex {
     owner: Player,
@@ -31,8 +29,7 @@ impl Model for Vertex {
     ghost view = { λ v. record { owner = v.owner; priority = v.priority; successors = v.successors.items } };
 }
 
-/// Builds a game, vertex by vertex and edge by edge, in any order. A call fails if out of memory; then the unfinished
-/// game is unchanged.
+/// Builds a game from vertices and edges in any order. A call fails if out of memory; then nothing changes.
 #[derive(Drop)]
 pub struct GameBuilder {
     alloc: Global,
@@ -49,7 +46,7 @@ impl Model for GameBuilder {
 
 #[tactic(auto, unfolding(crate::specs::Games::vertex_count, crate::specs::Games::owner_of, crate::specs::Games::priority_of, crate::specs::Games::successors_of))]
 impl GameBuilder {
-    /// An unfinished game without vertices.
+    /// No vertices.
     pub fn new(alloc: Global) -> Self
         ensures { result ≡ [] }
     {
@@ -59,7 +56,7 @@ impl GameBuilder {
         }
     }
 
-    /// Adds a vertex with an owner, 0 or 1, and returns the number of the vertex.
+    /// Adds a vertex with an owner, 0 or 1, and returns its number.
     pub fn vertex(&mut self, owner: u8, priority: u64) -> Result<usize, AllocError>
         requires { owner < 2 }
         ensures number { IfOk result (λ vertex. vertex ≡ vertex_count self.old) }
@@ -76,7 +73,7 @@ impl GameBuilder {
         Ok(number)
     }
 
-    /// Adds an edge from an existing vertex to a vertex that may be added later.
+    /// Adds an edge from a vertex to one that may be added later.
     pub fn edge(&mut self, vertex: usize, successor: usize) -> Result<(), AllocError>
         requires { vertex < vertex_count self.old }
         ensures ok { OnOk result (self.new ≡ with_edge self.old vertex successor) }
@@ -91,10 +88,9 @@ impl GameBuilder {
     ///
     /// # Errors
     ///
-    /// The fault is [`GameFault::NoSuccessor`], with the smallest vertex that no edge leaves, if there is such a
-    /// vertex. If each vertex has a successor, the fault is [`GameFault::UnknownSuccessor`], with the smallest vertex
-    /// that has an edge to a vertex that was not added, and with the target of its first such edge. Otherwise
-    /// [`GameFault::OutOfMemory`].
+    /// [`GameFault::NoSuccessor`] with the smallest vertex that no edge leaves; if there is none,
+    /// [`GameFault::UnknownSuccessor`] with the smallest vertex that has an edge to a vertex that was not added, and
+    /// the target of its first such edge; else [`GameFault::OutOfMemory`].
     pub fn finish(self) -> Result<Game, GameFault>
         ensures game { IfOk result (λ game. game ≡ without_repeats self) }
         ensures no_successor { (v : ℕ) → (result ≡ Err (GameFault.NoSuccessor v)) ↔ IsFirstBare self v }
@@ -115,8 +111,7 @@ impl GameBuilder {
     }
 }
 
-/// The game with the given vertices, without repeated successors. Each vertex must have a successor, and each successor
-/// must be a vertex.
+/// The game with these vertices, without repeated successors.
 pub(crate) fn distinct_game(alloc: Global, mut vertices: Vec<Vertex>) -> Result<Game, AllocError>
     requires owners { All (λ v. v.owner < 2) vertices.items }
     requires bare { NoneBare vertices.items }
@@ -128,7 +123,6 @@ pub(crate) fn distinct_game(alloc: Global, mut vertices: Vec<Vertex>) -> Result<
     game_of(alloc, &vertices)
 }
 
-/// The game with the given vertices.
 fn game_of(alloc: Global, vertices: &[Vertex]) -> Result<Game, AllocError>
     requires { IsGame vertices.now }
     ensures { IfOk result (λ game. game ≡ vertices.now) }
@@ -140,7 +134,7 @@ fn game_of(alloc: Global, vertices: &[Vertex]) -> Result<Game, AllocError>
     Ok(arrays.as_game())
 }
 
-/// A vertex with a newly allocated list of the given successors.
+/// A vertex with a copy of these successors.
 pub(crate) fn listed_vertex(
     alloc: Global,
     owner: Player,
@@ -164,7 +158,6 @@ pub(crate) fn listed_vertex(
     })
 }
 
-/// The smallest vertex that no edge leaves.
 #[tactic(auto, unfolding(crate::specs::Games::vertex_count, crate::specs::Games::successors_of))]
 fn first_bare(vertices: &[Vertex]) -> Option<usize>
     ensures some { IfSome result (IsFirstBare vertices.now) }
@@ -178,8 +171,7 @@ fn first_bare(vertices: &[Vertex]) -> Option<usize>
     None
 }
 
-/// The smallest vertex with an unknown successor (a number that is not a vertex), and the first unknown successor of
-/// that vertex.
+/// The smallest vertex with a successor that is no vertex, and the first of these.
 #[tactic(auto, unfolding(crate::specs::Games::vertex_count, crate::specs::Games::successors_of))]
 fn first_unknown(vertices: &[Vertex]) -> Option<(usize, usize)>
     requires { NoneBare vertices.now }
@@ -194,7 +186,6 @@ fn first_unknown(vertices: &[Vertex]) -> Option<(usize, usize)>
     None
 }
 
-/// The first of the vertex's successors that is not less than the number of vertices.
 fn unknown_successor(vertex: &Vertex, count: usize) -> Option<usize>
     ensures { result ≡ find (λ successor. nat_le count successor) vertex.now.successors }
 {
@@ -205,8 +196,8 @@ fn unknown_successor(vertex: &Vertex, count: usize) -> Option<usize>
         .find(|successor| count <= *successor)
 }
 
-/// Drops all repeated successors, in time proportional to the number of vertices and edges. For each vertex w, `seen`
-/// has v + 1 (a stamp), if v is the last processed vertex with an edge to w, and 0 if no such vertex was processed.
+/// Drops repeated successors. For each vertex w, `seen` has v + 1 (a stamp) if v is the last processed vertex with an
+/// edge to w, and 0 without one.
 #[tactic(auto, unfolding(crate::specs::Games::vertex_count, crate::specs::Games::successors_of))]
 fn drop_repeats(vertices: &mut [Vertex], seen: &mut [usize])
     requires known { NoneUnknown vertices.old }
@@ -221,8 +212,8 @@ fn drop_repeats(vertices: &mut [Vertex], seen: &mut [usize])
     }
 }
 
-/// Moves the first occurrence of each number to the front, in order, and returns the number of distinct numbers. A
-/// number has occurred before if its entry in `seen` is the stamp.
+/// Moves the first occurrence of each number to the front, in order, and returns how many there are. A number whose
+/// entry in `seen` is the stamp has occurred before.
 fn keep_first_places(numbers: &mut [usize], seen: &mut [usize], stamp: usize) -> usize
     requires known { All (λ number. number < length seen.old) numbers.old }
     requires fresh { All (λ earlier. earlier < stamp) seen.old }
