@@ -14,25 +14,24 @@ use ps_referee::{JudgeFault, certificate_of_solution, judge};
 use ps_zielonka::{regions, regions_within};
 use std::alloc::{AllocError, Global};
 
-/// The number of rounds with limits on the solver's work, before one without.
+/// The number of rounds with limits.
 const ROUNDS: u64 = 8;
 
-/// The factor by which the limits grow from round to round.
+/// How the limits grow from round to round.
 const GROWTH: u64 = 64;
 
-/// How many times for each vertex of the game the recursion may place one (decide or attract it) in the first round. In
-/// practical games about ten suffice.
+/// For each vertex of the game, how many times the recursion may place vertices (decide or attract them) in the first
+/// round. In practical games about ten suffice.
 const PLACED_EACH: u64 = 256;
 
 /// How many more times it may do so.
 const PLACED_BESIDE: u64 = 1024;
 
-/// The priorities of a game are few if each is less than this. The recursion then takes no exponential time, but its
-/// work may grow faster than the number n of vertices, so its limit in the first round is at least n * n / 2.
+/// The priorities of a game are few if each is less than this. The recursion then takes no exponential time, but it may
+/// grow faster than the number n of vertices, so its limit in the first round is at least n * n / 2.
 const FEW_PRIORITIES: u64 = 4;
 
-/// For each time that `PLACED_EACH` and `PLACED_BESIDE` allow, how many array cells an attempt at strategy improvement
-/// may read or write.
+/// For each of these times, how many array cells an attempt at strategy improvement may read or write.
 const CELLS_EACH: u64 = 64;
 
 /// The limits of one round.
@@ -40,13 +39,11 @@ const CELLS_EACH: u64 = 64;
 struct Budget {
     /// How many times the recursion may place a vertex.
     placed: u64,
-    /// How many array cells an attempt may read or write. One that fails for another reason sets this to 0; then no
-    /// other follows.
+    /// How many array cells an attempt may use. One that fails otherwise sets this to 0; then no other follows.
     cells: u64,
 }
 
 impl Budget {
-    /// The limits of the first round.
     fn first<A: Arena>(arena: &A) -> Budget {
         let count = arena.count() as u64;
         let linear = count
@@ -114,7 +111,7 @@ impl Solver for BuiltIn {
     }
 }
 
-/// The certificate of a game, computed on flat arrays whose numbers have the width `W`.
+/// The certificate of a game, on flat arrays whose numbers have the width `W`.
 fn certificate_in<W: Width>(alloc: Global, game: &Game) -> Result<Certificate, SolveFault>
     requires { FitsWithin game.now W.LIMIT }
     ensures { Finds result (IsLeastCertificate game.now) }
@@ -123,9 +120,9 @@ fn certificate_in<W: Width>(alloc: Global, game: &Game) -> Result<Certificate, S
     certificate_of(alloc, &flat)
 }
 
-/// The certificate of a game. In each round, the recursion is limited; practical games stay within the first limit.
-/// Then comes an attempt at strategy improvement, unless a higher limit would not have helped an earlier one. Its
-/// result may be wrong, so it is checked. The last round has no limit.
+/// The certificate of a game. In each round, first the recursion is limited; practical games stay within the first
+/// limit. Then comes an attempt, unless a higher limit would not have helped an earlier one. Its result may be wrong,
+/// so it is checked. The last round has no limit.
 fn certificate_of<A: Arena>(alloc: Global, arena: &A) -> Result<Certificate, SolveFault>
     ensures { Finds result (IsLeastCertificate (A.game arena.now)) }
 {
@@ -171,7 +168,7 @@ fn solved_within<A: Arena>(
 }
 
 /// The certificate that an attempt finds, or None if its limit does not suffice, the game is too large, or the result
-/// is wrong. In the last two cases the limit becomes 0, since a higher one would not help.
+/// is wrong. In these last cases the limit becomes 0.
 fn attempted<A: Arena>(
     alloc: Global,
     arena: &A,
@@ -218,7 +215,7 @@ fn tried<A: Arena>(
     }
 }
 
-/// The certificate that the recursion finds, however long it takes.
+/// The certificate that the recursion finds.
 fn certificate_without_bound<A: Arena>(alloc: Global, arena: &A) -> Result<Certificate, SolveFault>
     ensures { Finds result (IsLeastCertificate (A.game arena.now)) }
 {

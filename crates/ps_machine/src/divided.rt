@@ -17,13 +17,12 @@ pub enum Division {
     ByClasses(Divided),
 }
 
-/// For each state whose classes were computed, the classes of the first player's letters: those of one class lead to
-/// the same steps.
+/// The classes of the first player's letters at some states: those of one class lead to the same steps.
 #[derive(Drop)]
 pub struct Divided {
     /// The store of the classes' diagrams, which also has those of the automaton's steps.
     pub store: Store,
-    /// The classes of each of these states.
+    /// The classes of each state where they were computed.
     pub classes: IndexMap<u32, Classes>,
 }
 

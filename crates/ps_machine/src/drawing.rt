@@ -1,5 +1,4 @@
-//! Makes the diagrams of a machine. That of a memory state leads each letter of the other player to a row: a letter to
-//! output, and a next memory state.
+//! Makes the diagrams of a machine.
 
 ghost use Rattle.std.specs.Prelude.{◌≡◌, ◌≢◌, ◌↔◌, ℕ, ◌<◌, true, Any, IsTrue, OnOk, Some, length, slice_get};
 ghost use Rattle.std.specs.Prelude.{slice_index};
@@ -29,14 +28,14 @@ use ps_diagram::{Class, Node, Store};
 use ps_game::{Arena, Game};
 use std::alloc::{AllocError, Global};
 
-/// What a machine is made from, which does not change meanwhile.
+/// What a machine is made from.
 #[derive(Drop)]
 pub(crate) struct Plan<'a> {
     pub order: Order,
     pub automaton: &'a Automaton,
     /// The automaton's game.
     pub game: &'a Game,
-    /// What each vertex of the game stands for.
+    /// What each vertex stands for.
     pub keys: &'a [Key],
     pub certificate: &'a Certificate,
     /// Whether the winner of vertex 0 moves first.
@@ -52,7 +51,7 @@ pub(crate) struct Drawing {
     /// The rows, whose indices are the leaves of the machine's diagrams.
     pub rows: IndexSet<Row>,
     /// For each leaf of the automaton's diagrams, which stands for a step, the index of the machine's row. Only what
-    /// the last call of `place_rows` has set is valid.
+    /// the last `place_rows` has set is valid.
     pub places: Vec<u64>,
 }
 
@@ -103,7 +102,6 @@ impl Plan<'_> {
         unreachable!()
     }
 
-    /// Whether the successor at the index `number` stands for the key.
     fn leads(&self, vertex: usize, number: usize, key: Key) -> bool
         requires game { IsGameOf (board_by self.now) (mover_of self.now.order) self.now.keys.now self.now.game.now }
         requires vertex { vertex < vertex_count self.now.game.now }
@@ -155,7 +153,7 @@ impl Drawing {
     }
 
     /// Makes the diagram of a memory state for a player who moves first. Its move leads to a class of letters; the
-    /// result is the diagram of the steps after this class, with indices of rows in place of steps.
+    /// result is the diagram of the steps after it, with indices of rows in place of steps.
     fn first_node(
         &mut self,
         plan: &Plan<'_>,
@@ -174,7 +172,7 @@ impl Drawing {
     }
 
     /// Adds a row for each leaf that needs one: the output `letter`, and the memory state after the leaf's step from
-    /// the vertex `chosen`. Records the index of each leaf's row.
+    /// the vertex `chosen`. Records each leaf's row.
     fn place_rows(
         &mut self,
         plan: &Plan<'_>,
@@ -212,7 +210,7 @@ fn rest_of(classes: &[Class], letter: u64) -> Node
     }
 }
 
-/// Records the index of the row for a leaf; the list is first extended by zeros if it is too short.
+/// Records the index of the row for a leaf.
 fn note(places: &mut Vec<u64>, leaf: u64, place: u64) -> Result<(), AllocError>
     ensures noted { OnOk result (slice_get places.new.items leaf ≡ Some place) }
     ensures others { OnOk result ((other n : ℕ) → other ≢ leaf → slice_get places.old.items other ≡ Some n →

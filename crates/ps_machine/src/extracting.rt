@@ -180,7 +180,6 @@ fn draw_by_letters(
     })
 }
 
-/// Makes the diagrams of all memory states, letter by letter.
 fn nodes_by_letters(
     alloc: Global,
     plan: &Plan<'_>,
@@ -225,7 +224,6 @@ fn draw_by_classes(
     })
 }
 
-/// Makes the diagrams of all memory states.
 fn nodes_of(
     alloc: Global,
     plan: &Plan<'_>,

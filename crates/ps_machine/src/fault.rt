@@ -12,8 +12,8 @@ use thiserror::Error;
 /// Why a solver gives no certificate.
 #[derive(Debug, Drop, Error)]
 pub enum SolveFault {
-    /// The solver reported a cycle of vertices that its moves for a player allow, and that this player loses if a play
-    /// repeats it for ever.
+    /// The solver reported a cycle that its moves for a player allow, and that this player loses if a play repeats it
+    /// for ever.
     #[error("a cycle that its player loses")]
     BadCycle(Vec<usize>),
     /// The text that the solver was fed is not that of a certificate of the game.

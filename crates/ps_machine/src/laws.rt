@@ -58,8 +58,8 @@ pub fn game_is_there()
         (game : NamedGameData) × IsGameOfFile order file game }
 {}
 
-/// The game that a file defines is one: each vertex has the owner 0 or 1, and at least one successor; all are different
-/// vertices of the game.
+/// The game that a file defines is one: each vertex has the owner 0 or 1, and at least one successor; its successors
+/// are different vertices of the game.
 pub fn game_of_file_is_game()
     ensures { (order : Order) (file : FileData) (game : NamedGameData) → IsGameOfFile order file game →
         IsGame game.game }
@@ -97,7 +97,7 @@ pub fn one_machine_of_file()
 {}
 
 /// Each game has a certificate that psyn's own solver may return: it fits and is valid, and its counts are the least
-/// for its moves. That a call returns it is not said: memory may run out.
+/// for its moves. A call may still run out of memory.
 pub fn each_game_has_a_certificate()
     ensures { (game : NamedGameData) → IsGame game.game →
         (certificate : CertificateData) × AnswersLeast game (Ok certificate) }

@@ -1,4 +1,4 @@
-//! What the builder of a game asks of the automaton.
+//! What the builder of a game asks.
 
 ghost use Rattle.std.specs.Prelude.{ℕ, ◌<◌, ◌≤◌, List, IfOk, OnOk, length, slice_index};
 ghost use Rattle.ps_automaton.specs.Automata.{AutomatonData};
@@ -13,8 +13,8 @@ use std::alloc::AllocError;
 pub(crate) trait LetterClasses {
     ghost fits: { Self → Order → AutomatonData → Type 0 };
 
-    /// From this place on, what is needed to find the steps behind the classes of a state is stored; the list has their
-    /// least letters, in order.
+    /// From this place on, it is stored how to find the steps behind the classes of a state, whose least letters are
+    /// listed.
     ghost divided: { Self → ℕ → ℕ → List ℕ → Type 0 };
 
     /// Divides the first player's letters at a state into classes; `letters` then has the least of each, in order.

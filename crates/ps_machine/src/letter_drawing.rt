@@ -185,7 +185,7 @@ impl Drawing {
         self.store.relabel_from(&tried.store, tried.places, &rows)
     }
 
-    /// For each letter of the first player, the index of the row for its class.
+    /// For each letter of the first player, the index of its row.
     fn rows_behind(
         &mut self,
         alloc: Global,
@@ -208,7 +208,7 @@ impl Drawing {
         Ok(rows)
     }
 
-    /// The index of the row for the class of the letter at the index `at`, given those for the letters before it.
+    /// The index of the row for the letter at the index `at`, given those for the letters before it.
     fn row_at(
         &mut self,
         plan: &Plan<'_>,

@@ -21,7 +21,7 @@ use std::alloc::{AllocError, Global};
 #[derive(Drop)]
 pub(crate) struct LetterPlan<'a> {
     pub letters: &'a FewLetters,
-    /// The store of the diagram `places`.
+    /// The store of `places`.
     pub store: Store,
     /// Leads each letter of the opponent to its index in the list of these.
     pub places: Node,

@@ -20,7 +20,6 @@ pub struct Row {
     pub letter: u64,
 }
 
-/// The propositions of a machine.
 #[derive(Drop)]
 pub(crate) struct Propositions {
     pub names: Vec<Vec<u8>>,
@@ -30,7 +29,6 @@ pub(crate) struct Propositions {
     pub outputs: Vec<u32>,
 }
 
-/// The diagrams of a machine.
 #[derive(Drop)]
 pub(crate) struct Diagrams {
     pub store: Store,

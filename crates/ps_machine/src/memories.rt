@@ -8,7 +8,6 @@ use crate::used::Found;
 use indexmap::IndexSet;
 use std::alloc::{AllocError, Global};
 
-/// The memory states of a machine.
 #[derive(Drop)]
 pub(crate) struct Memories {
     /// For each memory state, the smallest vertex that it stands for: a reachable one of the first player. The list

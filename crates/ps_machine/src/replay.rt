@@ -8,8 +8,7 @@ use ps_certificate::{CertFault, Certificate, read};
 use ps_game::NamedGame;
 use std::alloc::{AllocError, Global};
 
-/// Parses the text that it was fed as a certificate of the game. It is not sure: the certificate fits the game, but may
-/// be wrong.
+/// Parses what it was fed as a certificate of the game. It is not sure: this fits the game, but may be wrong.
 #[derive(Drop)]
 pub struct Replay {
     alloc: Global,

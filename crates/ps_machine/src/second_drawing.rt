@@ -20,7 +20,7 @@ use std::alloc::{AllocError, Global};
 
 impl Plan<'_> {
     /// The step that the winner, who moves second, chooses after the least letter of a class, and the vertex that
-    /// stands for it: a successor of `vertex`, whose successor at the index `number` is tried first.
+    /// stands for it. Of the successors of `vertex`, the one at the index `number` is tried first.
     pub fn reply(&self, vertex: usize, number: usize, state: u32, letter: u64) -> (usize, Step)
         requires { CanReply self.now vertex state letter }
         ensures stands { StandsAt self.now.keys.now result.0 (First result.1.state result.1.priority) }
