@@ -15,7 +15,7 @@ use crate::rising::Rising;
 use ps_game::{Arena, Player};
 
 /// The first opposing priority for which an edge breaks the rule of counts. A binary search finds the first that is not
-/// less than the priority of either end of the edge; from there on, only nonzero counts are compared.
+/// below either end of the edge; from there on, only nonzero counts are compared.
 fn broken_priority<A: Arena>(
     arena: &A,
     certificate: &Certificate,
@@ -77,7 +77,7 @@ fn unranked_at<A: Arena>(arena: &A, certificate: &Certificate, vertex: usize) ->
     None
 }
 
-/// The first flaw in the counts of the vertices up to `vertex`, given that of the earlier ones.
+/// The first flaw in the counts up to `vertex`, given that of the earlier ones.
 fn unranked_through<A: Arena>(
     arena: &A,
     certificate: &Certificate,

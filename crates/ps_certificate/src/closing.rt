@@ -1,5 +1,4 @@
-//! The first half of a certificate's check: no move is wrong, and remaining edges lead to vertices with the same
-//! winner.
+//! The first half of a certificate's check.
 
 ghost use Rattle.std.specs.Prelude.{◌≡◌, ◌≢◌, ℕ, ◌<◌, ◌↔◌, IsTrue, IsOk, IfErr, OnOk, IfNone, IfSome, length};
 ghost use Rattle.ps_game.specs.Games.{vertex_count, owner_of, successors_of, HasEdge};
@@ -39,7 +38,7 @@ fn has_right_move<A: Arena>(arena: &A, certificate: &Certificate, vertex: usize)
     }
 }
 
-/// The successor to which a vertex's first escape leads.
+/// The end of a vertex's first escape.
 fn first_escape<A: Arena>(arena: &A, certificate: &Certificate, vertex: usize) -> Option<usize>
     requires { HasRightEntry (A.game arena.now) certificate.now vertex }
     ensures none { IfNone result (StaysInside (A.game arena.now) certificate.now vertex) }

@@ -7,7 +7,7 @@ use ps_game::NonzeroCount;
 use std::alloc::{AllocError, Global};
 use std::marker::Model;
 
-/// A growing list of counts, of which only the nonzero ones are stored, each with its index.
+/// A growing list of counts, stored as in a `Row`.
 #[derive(Debug, Drop)]
 pub(crate) struct Counts {
     width: usize,

@@ -1,4 +1,4 @@
-//! The parsers of single fields of a certificate's text.
+//! The parsers of single fields.
 
 ghost use Rattle.std.specs.Prelude.{◌≡◌, ◌≢◌, ◌<◌, drop};
 ghost use Rattle.std.specs.List.{Contains};
@@ -22,7 +22,7 @@ pub(crate) fn ends(cursor: &Cursor) -> bool
     matches!(cursor.peek(), Some(b' ' | b'\n' | b':'))
 }
 
-/// Parses the next number: a single 0, or digits that don't begin with 0.
+/// Parses the next number: 0, or digits that don't begin with 0.
 pub(crate) fn number(cursor: &mut Cursor) -> Result<u64, CertFault>
     ensures { TellsNumber cursor.old result cursor.new }
 {

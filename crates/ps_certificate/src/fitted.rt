@@ -1,4 +1,4 @@
-//! Whether a certificate has the form that a game requires.
+//! Whether a certificate fits a game.
 
 ghost use Rattle.std.specs.Prelude.{◌≡◌, ℕ, ◌+◌, ◌%◌, ◌<◌, ◌≤◌, ◌↔◌, IsTrue, length};
 ghost use Rattle.std.specs.List.{All};
@@ -46,7 +46,7 @@ fn window_present<A: Arena>(arena: &A, window: Rising<'_>) -> bool
     true
 }
 
-/// Whether a short list has exactly the game's priorities of one parity, by one pass over the vertices.
+/// Whether a short list has exactly the game's priorities of one parity.
 fn is_just<A: Arena>(arena: &A, parity: u64, rising: Rising<'_>) -> bool
     requires right_parity { All (λ p. p % 2 ≡ parity) rising.list.now }
     requires short { length rising.list.now ≤ 1024 }
@@ -108,7 +108,6 @@ fn lists_priorities<A: Arena>(arena: &A, parity: u64, list: &[u64]) -> bool
     is_complete(arena, parity, rising) && all_present(arena, rising)
 }
 
-/// Whether the entry of a vertex has the form that `fits` states.
 fn entry_fits(certificate: &Certificate, vertices: usize, vertex: usize) -> bool
     requires { vertex < length certificate.now.entries }
     ensures { IsTrue result ↔ EntryFits vertices certificate.now vertex }

@@ -12,8 +12,8 @@ use crate::fields::{all_counts, ends, number};
 use crate::rising::Rising;
 use ps_text::cursor::Cursor;
 
-/// Parses the counts for these priorities, and the end of the line: all, or the nonzero ones of a compact text. They
-/// replace the list `counts`.
+/// Parses the counts for these priorities, all or those of a compact text, and the end of the line. They replace
+/// `counts`.
 pub(crate) fn counts_for(
     cursor: &mut Cursor,
     priorities: Rising<'_>,
@@ -30,8 +30,7 @@ pub(crate) fn counts_for(
     }
 }
 
-/// Parses pairs of a priority and its count, each after a space, and the end of the line. Counts that are left out are
-/// 0.
+/// Parses pairs of a priority and its count, and the end of the line. Counts that are left out are 0.
 fn pairs(cursor: &mut Cursor, priorities: Rising<'_>, counts: &mut Counts) -> Result<(), CertFault>
     ensures { Tells (λ _. counts.new) (parts.counts_in true priorities.entry.list.now) cursor.old result
         cursor.new }
@@ -69,7 +68,7 @@ fn pair(
     Ok((place, count))
 }
 
-/// Parses the priority of a pair, which must be greater than `last`. Returns its index.
+/// Parses the priority of a pair. Returns its index.
 fn priority(
     cursor: &mut Cursor,
     priorities: Rising<'_>,

@@ -44,7 +44,7 @@ impl<'a> Places<'a> {
         })
     }
 
-    /// The index of the vertex with an id, or `None` if the number is not an id.
+    /// The index of the vertex with an id, if there is one.
     #[inline(always)]
     pub(crate) fn place(&self, id: u64) -> Option<usize>
         ensures place { result ≡ position (λ other. id == other) self.now }

@@ -18,7 +18,6 @@ pub(crate) fn is_rising(list: &[u64]) -> bool
     true
 }
 
-/// An ascending list of numbers.
 #[derive(Clone, Copy)]
 pub(crate) struct Rising<'a> {
     pub(crate) list: &'a [u64],

@@ -1,4 +1,4 @@
-//! The counts of one vertex. Most are 0; only the others are stored, each with its index.
+//! The counts of one vertex, of which only the nonzero ones are stored, each with its index.
 
 ghost use Rattle.std.specs.Prelude.{◌≡◌, ◌==◌, ◌<◌, ◌↔◌, length, slice_index, IfNone, IfSome, IsTrue, OnOk};
 ghost use Rattle.ps_certificate.specs.Sparse.{IsFirstFrom, IsFirstAbove, AreAtMost, AreBefore, AreRising, count_at};
@@ -16,7 +16,7 @@ pub(crate) struct Stored<'a> {
 }
 
 impl<'a> Stored<'a> {
-    /// The number of stored counts whose index is less than `place`. The search skips the first `hint` if it may.
+    /// The number of stored counts whose index is less than `place`; the search skips the first `hint` if it may.
     fn first_from(&self, hint: usize, place: usize) -> usize
         ensures { IsFirstFrom self.now.list.now place result }
     {
@@ -28,7 +28,7 @@ impl<'a> Stored<'a> {
         number
     }
 
-    /// Whether there are `number` stored counts, the first of all, whose indices are less than `place`.
+    /// Whether there are `number` stored counts or more, of which the first `number` have indices less than `place`.
     fn is_before(&self, number: usize, place: usize) -> bool
         ensures { IsTrue result ↔ AreBefore self.now.list.now place number }
     {

@@ -123,7 +123,6 @@ fn entries(
     Ok(entries)
 }
 
-/// Parses the whole text.
 fn entries_of(
     alloc: Global,
     text: &[u8],

@@ -69,7 +69,7 @@ fn write_text(
     Ok(out)
 }
 
-/// An estimate of the text's length, which often suffices, so that the buffer need not grow.
+/// An estimate of the text's length, so that the buffer seldom grows.
 fn room_for(entries: &Entries, compact: bool) -> usize {
     let mut room: usize = 0;
     for vertex in 0..entries.len() {
