@@ -1,4 +1,4 @@
-//! The interface by which solvers and checkers read a game.
+//! How solvers and checkers read a game.
 
 ghost use Rattle.std.specs.Prelude.{◌≡◌, ◌<◌, length, slice_index};
 ghost use Rattle.ps_game.specs.Games.{ParityGame, IsGame, vertex_count, owner_of, priority_of, successors_of};

@@ -14,7 +14,7 @@ use std::alloc::{AllocError, Global};
 use std::marker::Model;
 
 /// A parity game in four arrays: owners, priorities, the successors of all vertices, and the offset of each vertex's
-/// successors. If `W` is `u32`, it takes 13 bytes a vertex and 4 an edge, and is faster to read than a `Game`.
+/// successors. With `u32`, it takes 13 bytes a vertex and 4 an edge, and is faster to read than a `Game`.
 #[derive(Drop)]
 pub struct FlatGame<W: Width> {
     pub(crate) offsets: Numbers<W>,

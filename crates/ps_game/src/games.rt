@@ -1,4 +1,4 @@
-//! Games as lists of vertices, each with a list of successors.
+//! Games as lists of vertices.
 
 ghost use Rattle.ps_game.specs.Games.{ParityGame, IsGame};
 

@@ -27,8 +27,8 @@ pub fn no_history_wins_outside()
         (v : ℕ) → v < vertex_count game → IsTrue (set v) → AllHistoriesBeaten game player v }
 {}
 
-/// In the subgame of all vertices, a player who holds a set by the definition for subgames (`HoldsWithin`) also holds
-/// it by the definition for paths (`Holds`).
+/// A player who holds a set by the definition for subgames (`HoldsWithin`), within that of all vertices, also holds it
+/// by the definition for paths (`Holds`).
 pub fn holds_on_paths()
     ensures { (game : ParityGame) (player : ℕ) (subgame set : ℕ → Bool) (table : ℕ → Option ℕ) →
         ((v : ℕ) → v < vertex_count game → IsTrue (subgame v)) →

@@ -1,4 +1,4 @@
-//! The nonzero counts of a list, most of whose counts are 0.
+//! The nonzero counts of a list.
 
 /// A nonzero count of a list.
 #[derive(Clone, Copy, Debug, PartialEq)]

@@ -7,7 +7,6 @@ ghost use Rattle.ps_game.specs.Plays.{other_player};
 use crate::arenas::Arena;
 use std::marker::Model;
 
-/// The parity of a number.
 #[derive(Clone, Copy)]
 enum Parity {
     Even,

@@ -50,7 +50,7 @@ impl Subgame {
         Some(Subgame { region })
     }
 
-    /// The region as a subgame, which the caller guarantees that it is.
+    /// The region as a subgame, as the caller guarantees.
     pub fn known<A: Arena>(arena: &A, region: Region) -> Subgame
         requires places { length region ≡ vertex_count (A.game arena.now) }
         requires subgame { IsSubgame (A.game arena.now) (has region) }

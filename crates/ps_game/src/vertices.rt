@@ -1,4 +1,4 @@
-//! A growing list of vertices, which a parser of game texts builds.
+//! A list of vertices, which a parser of game texts builds.
 
 ghost use Rattle.std.specs.Prelude.{◌≡◌, ◌≢◌, ◌==◌, ◌<◌, ◌≤◌, ◌+◌, ◌++◌, ◌∷◌, [], IfOk, OnOk, OnErr, Contains, length};
 ghost use Rattle.std.specs.Prelude.{◌↔◌, IsTrue, map, nat_lt, take, vec_len, vec_capacity};

@@ -7,7 +7,6 @@ pub trait Width: Copy {
     /// In clauses, the number that a value of the type represents.
     ghost value: { Self → ℕ };
 
-    /// The largest number that fits the type.
     ghost LIMIT: { ℕ };
 
     /// The largest number that fits the type.
@@ -22,7 +21,6 @@ pub trait Width: Copy {
     fn number(self) -> usize
         ensures { result ≡ value self };
 
-    /// A clone of a value equals the value.
     ghost clones_equal: { (x y : Self) → Self.is_clone x y → y ≡ x };
 }
 
