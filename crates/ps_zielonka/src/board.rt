@@ -112,9 +112,8 @@ impl<W: Width> Board<W> {
         true
     }
 
-    /// Whether the player can make plays within the subgame go on from a vertex to one that it won: at its own, by the
-    /// first such successor of a higher level than `placed`, which becomes its move; at the opponent's, if the opponent
-    /// won no successor of a higher level.
+    /// Whether the player can make each play within the subgame (of levels above `placed`) go on from a vertex to one
+    /// that it won. At its own vertex, the first such successor becomes its move.
     fn keeps<A: Arena>(
         &mut self,
         edges: &Adjacency<'_, A, W>,
@@ -169,8 +168,8 @@ impl<W: Width> Board<W> {
         None
     }
 
-    /// Takes the vertices from index `turn` on off the trail. Those that the player won become `Unplaced`; the others
-    /// return, with the given level.
+    /// Takes the vertices from index `turn` on off the trail: those that the player won become `Unplaced`, and the
+    /// others return with the given level.
     pub fn reopen(&mut self, frame: &Frame, placed: PlacedLevel) -> Result<(), AllocError>
         requires turn { HasTurn self.old.tables W.LIMIT frame.now.turn }
         requires winners { length self.old.winner.items ≡ length self.old.tables.level }

@@ -15,12 +15,11 @@
 //! | `regions_within` | the same, or none if more vertices are decided or attracted than a budget allows |
 //! | `each_game_is_divided` | a law: on each game player 0 holds a region, and player 1 the rest |
 //!
-//! A strategy has moves only where its player owns and wins. `Counts` records how deep calls are nested: at most the
-//! number of distinct priorities, and at least 1 if there is a vertex, or 2 if the player who wins by the greatest
-//! priority can't attract all vertices to those that have it.
+//! A strategy has moves only where its player owns and wins. `Counts` records how deep calls are nested, which is at
+//! most the number of distinct priorities (`IsDepth` has its bounds). The number of calls can be exponential in it.
 //!
-//! The number of calls can be exponential in the number of priorities. The memory, and the time of an iteration without
-//! its recursive call, are at most proportional to the number of vertices and edges.
+//! The memory, and the time of an iteration without its recursive call, are at most proportional to the number of
+//! vertices and edges.
 #![tactic(auto)]
 
 mod answer;

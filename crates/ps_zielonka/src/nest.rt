@@ -32,7 +32,7 @@ pub struct Nest<W: Width> {
     pub solved: bool,
     /// The most calls that have waited so far.
     pub depth: usize,
-    /// How often vertices were placed, capped at the largest `u64`.
+    /// How often vertices were placed, capped.
     pub work: u64,
 }
 
@@ -186,7 +186,7 @@ impl<W: Width> Nest<W> {
     }
 }
 
-/// Adds the number of vertices in the trail from index `turn` on, capped.
+/// Adds the number of vertices in the trail from index `turn` on.
 fn work_behind<W: Width>(work: u64, tables: &Tables<W>, turn: usize) -> u64 {
     let placed = tables.placed().saturating_sub(turn);
     work.saturating_add(placed as u64)

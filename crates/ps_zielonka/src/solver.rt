@@ -1,4 +1,4 @@
-//! The calls that solve a parity game.
+//! The calls.
 
 ghost use Rattle.std.specs.Prelude.{◌≡◌, IfOk, IfSome, IfNone, OnOk, OnSome};
 ghost use Rattle.ps_attractor.specs.Room.{HasRoom};
@@ -34,7 +34,7 @@ pub fn regions<A: Arena>(
     }
 }
 
-/// Like `regions`, with tables of integers of the type `W`. Fails if out of memory.
+/// Like `regions`, in tables of the type `W`. Fails if out of memory.
 pub fn regions_in<A: Arena, W: Width>(
     alloc: Global,
     arena: &A,
