@@ -1,4 +1,4 @@
-//! Attempts to solve a game with limited work.
+//! Attempts to solve a game.
 
 ghost use Rattle.std.specs.Prelude.{IfOk, length};
 ghost use Rattle.ps_game.specs.Games.{vertex_count};
@@ -13,19 +13,19 @@ use ps_attractor::has_room;
 use ps_game::{Arena, Region, Strategy};
 use std::alloc::{AllocError, Global};
 
-/// How many cells (entries of rows) may be stored anyhow.
+/// How many cells (entries of rows) may be stored with any fuel.
 const ROOM: u64 = 1 << 18;
 
 /// How much fuel allows one more to be stored.
 const FUEL_EACH: u64 = 256;
 
-/// At most so many more for each vertex and edge.
+/// The most that fuel allows, for each vertex and for each edge.
 const ROOM_EACH: u64 = 64;
 
 /// The result of an attempt.
 #[derive(Drop)]
 pub enum Attempted {
-    /// No move can be improved any more. That the players win as stated must be checked.
+    /// No move can be improved. That the players win as stated must be checked.
     Found {
         /// What player 0 presumably wins.
         won: Region,
@@ -41,7 +41,7 @@ pub enum Attempted {
     OutOfRoom,
 }
 
-/// Finds what each player presumably wins, and by which moves. Fails if out of memory.
+/// Finds what each player presumably wins, and its moves. Fails if out of memory.
 pub fn attempt<A: Arena>(alloc: Global, arena: &A, fuel: u64) -> Result<Attempted, AllocError>
     ensures { IfOk result (IsAttemptFor (vertex_count (A.game arena.now))) }
 {

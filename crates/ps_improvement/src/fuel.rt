@@ -1,11 +1,11 @@
 //! The limits of an attempt.
 
-/// How many more cells (entries of rows) an attempt may use.
+/// How many more cells (entries of rows) may be used.
 #[derive(Drop)]
 pub struct Fuel {
-    /// How many may still be read or written.
+    /// How many may be read or written.
     pub left: u64,
-    /// How many more may be stored.
+    /// How many may be stored.
     pub room: u64,
     /// Whether some row was too large to be stored.
     pub is_full: bool,
@@ -17,8 +17,7 @@ impl Fuel {
         self.left = self.left.saturating_sub(cells as u64).saturating_sub(1);
     }
 
-    /// A row of `cells` cells replaces one of `instead`. If it is too large, the fuel is set to 0, which ends the
-    /// attempt.
+    /// A row of `cells` cells replaces one of `instead`. If it is too large, the fuel is set to 0.
     pub fn hold(&mut self, cells: usize, instead: usize) {
         let room = self.room.saturating_add(instead as u64);
         if room < cells as u64 {

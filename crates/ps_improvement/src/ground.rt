@@ -1,4 +1,4 @@
-//! What of a game does not change.
+//! The game that is solved.
 
 ghost use Rattle.std.specs.Prelude.{◌≡◌, ◌<◌, ℕ, All, IfOk, length};
 ghost use Rattle.ps_attractor.specs.Room.{HasRoom};
@@ -47,7 +47,7 @@ pub struct Ground<'a, A: Arena> {
 }
 
 impl<'a, A: Arena> Ground<'a, A> {
-    /// Of a game. Fails if out of memory.
+    /// Computes these of a game. Fails if out of memory.
     pub fn of(alloc: Global, arena: &'a A) -> Result<Ground<'a, A>, AllocError>
         requires { HasRoom (A.game arena.now) usize.MAX }
         ensures { IfOk result (λ ground. A.game ground.arena.now ≡ A.game arena.now) }

@@ -13,8 +13,8 @@
 //! |---|---|
 //! | `attempt(arena, fuel)` | an `Attempted`: a region and the moves of both players, or the reason why there is none |
 //!
-//! The fuel limits the cells of rows that are read or written. Those that are stored are limited to a fixed number, and
-//! more for each vertex and edge.
+//! The fuel limits the cells of rows that are read or written; those that are stored are also limited by the number of
+//! vertices and edges.
 #![tactic(auto)]
 
 mod attempting;

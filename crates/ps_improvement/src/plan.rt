@@ -1,4 +1,4 @@
-//! What the players choose, and the values that follow.
+//! The players' choices, and what follows from them.
 
 ghost use Rattle.std.specs.Prelude.{◌≡◌, ◌<◌, ℕ, IfOk, IfSome, length};
 ghost use Rattle.std.specs.Option.{ForSome};
@@ -11,7 +11,7 @@ use ps_game::{Arena, Region, Strategy};
 use std::alloc::{AllocError, Global};
 use std::cmp::Ordering;
 
-/// The choices of the players, and the value of each vertex.
+/// The players' choices, and the value of each vertex.
 #[derive(Drop)]
 pub struct Plan<'a, A: Arena> {
     alloc: Global,
@@ -61,7 +61,7 @@ impl<'a, A: Arena> Plan<'a, A> {
         }
     }
 
-    /// The value of moving to a vertex, or of stopping if there is none or it is closed.
+    /// The value of moving to a vertex, or of stopping if it is none or closed.
     fn seen(&self, to: Option<usize>) -> Value<'_>
         requires { IfSome to (λ vertex. vertex < length self.now.rows.items) }
     {
@@ -124,7 +124,7 @@ impl<'a, A: Arena> Plan<'a, A> {
         least
     }
 
-    /// The first of the successors that are worth most, if they are worth more than the present move.
+    /// The first of the successors that are worth most, if it is worth more than the present move.
     #[tactic(auto, using(crate::proofs::Within::successor_within))]
     pub fn better(&self, vertex: usize, fuel: &mut Fuel) -> Option<usize>
         requires { vertex < length self.now.rows.items }

@@ -71,7 +71,7 @@ fn order_of_cells(cell: Cell, beside: Cell) -> Ordering {
     }
 }
 
-/// Whether it is worth more or less to meet a priority once more.
+/// Whether to meet a priority once more is worth more or less.
 fn worth_of(priority: u64) -> Ordering {
     if priority % 2 == 0 {
         Ordering::Greater
@@ -80,7 +80,7 @@ fn worth_of(priority: u64) -> Ordering {
     }
 }
 
-/// A row with one priority met once more, in three parts: greater priorities, this one, smaller ones.
+/// A row with one priority met once more: greater priorities, this one, smaller ones.
 #[derive(Drop)]
 pub struct Raised<'a> {
     front: &'a [Cell],

@@ -121,8 +121,8 @@ impl<'a, A: Arena> Settling<'a, A> {
         Ok(())
     }
 
-    /// Moves player 0 to successors that are worth most, where they are worth more than the present move. All
-    /// comparisons use the values before. Returns whether a move changed.
+    /// Moves player 0 to successors that are worth most, if they are worth more than the present move by the values
+    /// before. Returns whether a move changed.
     fn go_on(&mut self, fuel: &mut Fuel) -> bool
         ensures { self.new.ground ≡ self.old.ground }
     {
