@@ -97,7 +97,7 @@ pub fn components_of<G: Graph>(alloc: Global, graph: &G) -> Result<Components, A
     Ok(Components { search })
 }
 
-/// Those of the roots and of all vertices reachable from them. Fails if out of memory.
+/// The components of the roots and of all vertices reachable from them. Fails if out of memory.
 pub fn components_from<G: Graph>(
     alloc: Global,
     graph: &G,

@@ -20,9 +20,8 @@ pub struct Pending {
     to: usize,
 }
 
-/// The state of the search: `active` is the search path, to which new vertices are appended, and `bounds` has the
-/// indices at which its segments begin, whose vertices can reach one another. A link back into the path merges
-/// segments.
+/// The state of the search: `active` is the search path, to which new vertices are appended; `bounds` has the indices
+/// at which its segments begin, whose vertices can reach one another. A link back merges segments.
 #[derive(Drop)]
 pub struct Search {
     /// Unseen, on the search path, or finished.

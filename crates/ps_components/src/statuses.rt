@@ -26,8 +26,8 @@ const LAST_CLOSED: usize = 1 << 63;
 const LAST_NARROW: usize = 1 << 31;
 
 /// A status for each vertex, stored as a code: 0 is unseen, k + 1 is finished in component k, and larger codes are
-/// indices on the search path. Codes take 4 bytes until a path index of 2^31 - 1 or more, or a component number of 2^31
-/// or more, is stored, and then 8. A call that is out of memory changes nothing.
+/// indices on the search path. Codes take 4 bytes until an index of 2^31 - 1 or more, or a component of 2^31 or more,
+/// is stored, and then 8. A call that is out of memory changes nothing.
 #[derive(Drop)]
 pub struct Statuses {
     alloc: Global,
@@ -98,7 +98,7 @@ impl Statuses {
         }
     }
 
-    /// Marks a vertex as being at index `place` of the search path.
+    /// Marks a vertex as active, at this index of the search path.
     pub fn put(&mut self, item: usize, place: usize) -> Result<(), AllocError>
         requires item { item < length self.old }
         requires place { place + 1 < 2 ^ 63 }

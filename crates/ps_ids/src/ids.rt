@@ -13,11 +13,11 @@ use std::alloc::{AllocError, Global};
 use std::collections::BTreeMap;
 use std::marker::Model;
 
-/// The table `near` is at most this many times as long as the list.
+/// `near` is at most this many times as long as the list.
 const MOST_PER_ID: usize = 4;
 
 /// Distinct ids in order. One whose index is its distance from `first` needs no entry; the table `near` has the indices
-/// of others near `first`, and the tree `far` the rest. So no choice of ids makes a search slow or takes much memory.
+/// of others near `first`, and the tree `far` the rest.
 #[derive(Drop)]
 pub struct Ids {
     list: Vec<u64>,
@@ -36,7 +36,7 @@ impl Model for Ids {
 }
 
 impl Ids {
-    /// No ids. If 0, 1, 2 and so on are added in this order, no table is stored.
+    /// No ids. If 0, 1, 2 and so on are added, no table is stored.
     pub fn new(alloc: Global) -> Self
         ensures { result ≡ [] }
     {
@@ -72,7 +72,7 @@ impl Ids {
         list
     }
 
-    /// The index of an id, or `None` if the number is no id.
+    /// The index of an id, if the number is one.
     #[inline(always)]
     pub fn place(&self, id: u64) -> Option<usize>
         ensures place { result ≡ position (λ other. id == other) self.now }
@@ -85,7 +85,7 @@ impl Ids {
         self.recorded_place(id)
     }
 
-    /// What `place` returns; not inlined, since it is called only if an index is recorded or `id` is at most `first`.
+    /// Not inlined, since it is called only if an index is recorded or `id` is at most `first`.
     #[inline(never)]
     fn recorded_place(&self, id: u64) -> Option<usize>
         ensures place { result ≡ position (λ other. id == other) self.now }
@@ -138,7 +138,6 @@ fn place_below(place: usize, count: usize) -> Option<usize>
     if place < count { Some(place) } else { None }
 }
 
-/// The index that the table records.
 fn near_place(near: &[u32], first: u64, id: u64) -> Option<usize>
     ensures { MatchOption result ((first ≤ id) → slice_index near.now (own_place first id) ≡ 0)
         (λ place. (first ≤ id) × (slice_index near.now (own_place first id) ≡ place + 1)) }
@@ -181,7 +180,7 @@ fn keep_place(
     record_place(near, far, first, id, place)
 }
 
-/// In the table if the id is near `first` and the index plus 1 fits into 4 bytes, else in the tree.
+/// Records the index in the table if the id is near `first` and 4 bytes hold the index plus 1, else in the tree.
 #[inline(never)]
 fn record_place(
     near: &mut Vec<u32>,
@@ -204,7 +203,7 @@ fn record_place(
     }
 }
 
-/// Writes an entry of the table, which is extended by zeros if it is too short.
+/// Writes an entry of the table, which is extended if it is too short.
 fn put_near(near: &mut Vec<u32>, distance: usize, entry: u32) -> Result<(), AllocError>
     requires { distance < 2 ^ 62 }
     ensures ok { OnOk result ((k : ℕ) → slice_index near.new.items k ≡

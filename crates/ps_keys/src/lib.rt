@@ -1,8 +1,8 @@
 //! Lists and maps in which a key is found by its hash, for keys that a text can choose.
 //!
-//! The toolchain's hash tables hash a key byte by byte and have a fixed seed, so a text could choose keys that make
-//! them slow. These hash it by a few multiplications, and find it by open addressing with linear probing. If a search
-//! gets long, the seed is changed.
+//! The toolchain's hash tables hash a key byte by byte with a fixed seed, so a text could choose keys that make them
+//! slow. These hash it by a few multiplications, and find it by open addressing with linear probing. If a search gets
+//! long, the seed is changed.
 //!
 //! | Call | What it gives |
 //! |---|---|

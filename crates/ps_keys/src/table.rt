@@ -12,11 +12,11 @@ use std::alloc::{AllocError, Global};
 /// The number of slots for the first key.
 const FEWEST: usize = 32;
 
-/// The most slots; a table that would need more is refused as if out of memory.
+/// The most slots; more are refused as if out of memory.
 const MOST: usize = 1 << 32;
 
 /// If a search for a new key passes more slots than this, the table grows and gets a new seed, unless it has at least
-/// `SPARSE` times as many slots as keys.
+/// `SPARSE` slots for each key.
 const LONG: usize = 256;
 
 const SPARSE: usize = 32;
@@ -40,8 +40,7 @@ pub(crate) struct Free {
 }
 
 /// Finds the keys of a list, by open addressing with linear probing. The number of slots is a power of two, at most
-/// five eighths of them used. A search begins where the low bits of the hash say, and goes round to the key or an empty
-/// slot, past `reach` slots at most.
+/// five eighths of them used. A search begins where the low bits of the hash say, and goes round.
 ///
 /// A slot holds 0 if it is empty, else the index of a key, from 1, and in the bits above it the key's tag, a part of
 /// the hash, so that a search seldom reads another key.
