@@ -11,7 +11,7 @@ use ps_diagram::{Case, Product, Store};
 use ps_hoa::{HoaFile, Row};
 use std::alloc::{AllocError, Global};
 
-/// The labels of a row's edges as products of literals, or None if some edge has no label, or another one.
+/// The labels of a row's edges as products of literals, or None if some edge has no label, or one of another form.
 pub(crate) fn products_of(
     alloc: Global,
     store: &Store,

@@ -5,8 +5,8 @@ ghost use Rattle.ps_hoa.specs.Causes.{cause_number};
 
 use ps_text::faults::{Cause, Fault};
 
-/// Why an HOA text is rejected. In brackets stands the part of the format description that the text violates. The
-/// limits and the rules for names are psyn's own.
+/// Why an HOA text is rejected; in brackets, the part of the format description that it violates. The limits and the
+/// rules for names are psyn's own.
 #[derive(Clone, Copy, Debug, PartialEq, Eq)]
 pub enum HoaCause {
     /// The text does not begin with `HOA:` (HOA v1: header).

@@ -27,10 +27,10 @@ pub(crate) enum Connective {
 
 /// A grammar of operands with connectives between them.
 pub(crate) trait Infix {
-    /// A row of operands that is being parsed.
+    /// What the parser returns.
     type Value: Drop;
 
-    /// The type of a row of operands that is being parsed.
+    /// A row of operands that is being parsed.
     type Operands: Drop;
 
     ghost Meaning: { Type 0 };

@@ -86,7 +86,7 @@ pub(crate) fn new_alias<'a>(tokens: &mut Tokens<'a>, names: &Names) -> Result<&'
     new_alias_of(token, names)
 }
 
-/// The name of an alias that a token is. It must be new, and a text may have only so many.
+/// The name of an alias that a token is. It must be new, and one of at most `ALIAS_LIMIT`.
 fn new_alias_of<'a>(token: Token<'a>, names: &Names) -> Result<&'a [u8], HoaFault>
     ensures { Takes (λ name. name.now) alias_name_in (parts.IsBadAlias names.now) (piece_of token.entry) result }
 {

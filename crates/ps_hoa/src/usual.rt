@@ -6,7 +6,7 @@ use ps_label::Label;
 /// The most operands for which space is made.
 const MOST: usize = 64;
 
-/// The number for the first label.
+/// The number before any label was parsed.
 const FIRST: usize = 4;
 
 /// For each connective, how many operands to make space for: as many as a row of an earlier label has, since labels of

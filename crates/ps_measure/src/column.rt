@@ -37,7 +37,8 @@ impl Column {
     }
 
     /// Computes the least counts for the priority of `low`. The count of a component starts at 1 if it has a vertex of
-    /// `roots`, else at 0. If no counts keep the rule, returns a link on a cycle to a vertex of this priority.
+    /// `roots`, else at 0. If no counts keep the rule, returns a link to a vertex of this priority that lies on a
+    /// cycle.
     pub(crate) fn work_out(
         &mut self,
         low: &Low,
