@@ -36,14 +36,14 @@ impl Model for Ids {
 }
 
 impl Ids {
-    /// No ids. If 0, 1, 2 and so on are added, no table is stored.
+    /// No ids, with 0 as `first`.
     pub fn new(alloc: Global) -> Self
         ensures { result ≡ [] }
     {
         Ids::starting_at(alloc, 0)
     }
 
-    /// No ids; the same for `first`, `first` + 1 and so on.
+    /// No ids. Those that count up from `first` need no table.
     pub fn starting_at(alloc: Global, first: u64) -> Self
         ensures { result ≡ [] }
     {
