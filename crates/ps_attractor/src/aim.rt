@@ -1,17 +1,16 @@
-//! The parameters of one attractor computation: the player, the target, and the levels that mark vertices.
+//! What an attractor is computed from.
 
 use ps_game::Player;
 
-/// The parameters of one attractor computation: the player, the index in the worklist at which the target begins, and
-/// the levels that mark attracted and unattracted vertices.
+/// The parameters of one attractor computation.
 #[derive(Clone, Copy)]
 pub struct Aim {
     /// The player who attracts.
     pub player: Player,
-    /// The index of the worklist at which the target's vertices begin.
+    /// Where the target begins in the trail.
     pub begin: usize,
-    /// The level that a vertex gets when it is attracted.
+    /// The level that attracted vertices get.
     pub level: usize,
-    /// The level of the vertices of the subgame that are not yet attracted.
+    /// The level of those that may still be attracted.
     pub free: usize,
 }

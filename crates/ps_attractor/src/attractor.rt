@@ -1,4 +1,4 @@
-//! The attractor within a subgame, computed with newly allocated tables.
+//! The attractor within a subgame.
 
 ghost use Rattle.std.specs.Prelude.{◌≡◌, ◌≢◌, ◌+◌, ◌<◌, ◌≤◌, ℕ, List, [], Bool, false, IfOk, OnOk, IsSome, IsTrue};
 ghost use Rattle.std.specs.Prelude.{length, slice_index};
@@ -19,33 +19,30 @@ use crate::tables::Tables;
 use ps_game::{Arena, Player, Region, Strategy, Subgame, Width};
 use std::alloc::{AllocError, Global};
 
-/// The level of the vertices outside the subgame.
+/// The level outside the subgame.
 const OUTSIDE: usize = 0;
 
-/// The level of the target's vertices and of the attracted vertices.
+/// The level of attracted vertices.
 const PLACED: usize = 1;
 
-/// The level of the vertices of the subgame that are not yet attracted.
+/// The level of the others in the subgame.
 const FREE: usize = 2;
 
-/// The vertices from which a player can force every play within a subgame to a target, with moves and ranks.
+/// An attractor, with moves and ranks.
 #[derive(Drop)]
 pub struct Attracted {
     /// The vertices from which the player can force every play to the target.
     pub region: Region,
-    /// A move at each vertex of the player that is in `region` but not in the target.
+    /// A move at each vertex of the player in `region` outside the target.
     pub moves: Strategy,
-    /// A rank for each vertex of `region`. Outside the target, the rank decreases along the player's moves and along
-    /// every edge of the other player within the subgame.
+    /// A rank for each vertex of `region`, which outside the target falls along the player's moves and along every edge
+    /// of the other player within the subgame.
     pub rank: Vec<usize>,
 }
 
-/// The attractor of a player to a target within a subgame. The attractor is the least set that contains the target, the
-/// player's vertices with an edge into the set, and the other player's vertices whose edges within the subgame all lead
-/// into the set.
-///
-/// Fails if out of memory. For games with 2^63 - 2 vertices or more, or 2^64 edges or more, the call always returns the
-/// out-of-memory error.
+/// The attractor of a player to a target within a subgame: the least set that contains the target, the player's
+/// vertices with an edge into it, and the other player's whose edges within the subgame all lead there. Fails if out of
+/// memory, and always for games with 2^63 - 2 vertices or more, or 2^64 edges or more.
 pub fn attract<A: Arena>(
     alloc: Global,
     arena: &A,
@@ -79,7 +76,6 @@ pub fn attract<A: Arena>(
     }
 }
 
-/// The attractor, computed with tables that store integers of the type `W`. Fails if out of memory.
 fn attract_in<A: Arena, W: Width>(
     alloc: Global,
     arena: &A,
@@ -96,7 +92,6 @@ fn attract_in<A: Arena, W: Width>(
     read_off(alloc, arena, &tables, player, target)
 }
 
-/// The region, the moves and the ranks of the attractor that the tables record. Fails if out of memory.
 fn read_off<A: Arena, W: Width>(
     alloc: Global,
     arena: &A,
@@ -117,7 +112,6 @@ fn read_off<A: Arena, W: Width>(
     })
 }
 
-/// Tables that record the player's attractor to the target within the subgame. Fails if out of memory.
 fn attracted_tables<A: Arena, W: Width>(
     alloc: Global,
     edges: &Adjacency<'_, A, W>,
@@ -140,7 +134,7 @@ fn attracted_tables<A: Arena, W: Width>(
     Ok(tables)
 }
 
-/// Initial tables, whose worklist has exactly the vertices of the target. Fails if out of memory.
+/// Tables whose trail is the target.
 fn laid_out<W: Width>(
     alloc: Global,
     count: usize,
@@ -165,7 +159,6 @@ fn laid_out<W: Width>(
     Ok(tables)
 }
 
-/// The set of the target's vertices and the attracted vertices. Fails if out of memory.
 fn placed_region<W: Width>(
     alloc: Global,
     tables: &Tables<W>,
@@ -184,7 +177,7 @@ fn placed_region<W: Width>(
     Ok(region)
 }
 
-/// The moves at the player's vertices that were attracted and are not in the target. Fails if out of memory.
+/// The player's moves outside the target.
 fn placed_moves<A: Arena, W: Width>(
     alloc: Global,
     arena: &A,
@@ -208,7 +201,7 @@ fn placed_moves<A: Arena, W: Width>(
     Ok(moves)
 }
 
-/// For each vertex, its first index in the worklist, which is its rank. Fails if out of memory.
+/// The first index of each vertex in the trail, its rank.
 fn first_places<W: Width>(
     alloc: Global,
     tables: &Tables<W>,

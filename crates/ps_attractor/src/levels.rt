@@ -1,4 +1,4 @@
-//! A list of levels, which mark the vertices of a game, stored as integers of the type `W`.
+//! The levels of vertices.
 
 ghost use Rattle.std.specs.Prelude.{◌≡◌, ◌<◌, ◌≤◌, IfOk, length, replicate, slice_index, slice_set};
 ghost use Rattle.ps_attractor.specs.Levels.{IsLevel};
@@ -7,8 +7,7 @@ use ps_game::{Numbers, Width};
 use std::alloc::{AllocError, Global};
 use std::marker::Model;
 
-/// A level for each vertex. The level `usize::MAX` can be stored in every integer type `W`: the largest number of the
-/// type represents it.
+/// A level for each vertex. The largest number of the type `W` represents the level `usize::MAX`.
 #[derive(Drop)]
 pub struct Levels<W: Width> {
     numbers: Numbers<W>,
@@ -24,7 +23,7 @@ impl<W: Width> Model for Levels<W> {
 }
 
 impl<W: Width> Levels<W> {
-    /// A list of levels in which each of `count` vertices has the given level. Fails if out of memory.
+    /// The same level for `count` vertices.
     pub fn filled(alloc: Global, level: usize, count: usize) -> Result<Levels<W>, AllocError>
         requires { IsLevel W.LIMIT level }
         ensures { IfOk result (λ levels. levels ≡ replicate count level) }

@@ -1,4 +1,4 @@
-//! Whether an integer type is large enough for the tables of a game.
+//! Whether an integer type is large enough for a game.
 
 ghost use Rattle.std.specs.Prelude.{◌↔◌, ◌≤◌, IsTrue};
 ghost use Rattle.ps_game.specs.Games.{vertex_count};
@@ -8,8 +8,7 @@ ghost use Rattle.ps_attractor.specs.Room.{HasRoom};
 use ps_game::{Arena, Width};
 use std::alloc::{AllocError, Global};
 
-/// Whether the integer type `W` can hold the number of edges of a game, and the number 2n + 4 of levels for a game with
-/// n vertices.
+/// Whether the type `W` can hold the number of edges, and the 2n + 4 levels for n vertices.
 pub fn has_room<A: Arena, W: Width>(arena: &A) -> bool
     ensures { IsTrue result ↔ HasRoom (A.game arena.now) W.LIMIT }
 {
@@ -17,8 +16,7 @@ pub fn has_room<A: Arena, W: Width>(arena: &A) -> bool
     limit >= 4 && arena.count() <= (limit - 4) / 2 && has_room_for_edges::<A, W>(arena)
 }
 
-/// The error for a game that is too large for every integer type. The error is made by requesting memory for
-/// `usize::MAX` numbers, which no memory can hold.
+/// The error for a game that is too large for every type, made by a request for `usize::MAX` numbers.
 pub fn no_room(alloc: Global) -> AllocError {
     match Vec::<usize>::with_capacity(alloc, usize::MAX) {
         Err(refused) => refused,
@@ -26,7 +24,6 @@ pub fn no_room(alloc: Global) -> AllocError {
     }
 }
 
-/// Whether the integer type `W` can hold the number of edges of a game.
 fn has_room_for_edges<A: Arena, W: Width>(arena: &A) -> bool
     ensures { IsTrue result ↔ (edges_before (A.game arena.now) (vertex_count (A.game arena.now)) ≤ W.LIMIT) }
 {

@@ -1,6 +1,4 @@
-//! The tables of an attractor computation: the level and the move of each vertex, and the worklist (called trail). The
-//! tables also remember, for each vertex of the other player, which successor was last found unattracted. The view of
-//! the tables in contracts omits these remembered successors, since no result depends on them.
+//! The tables of an attractor computation.
 
 ghost use Rattle.std.specs.Prelude.{◌≡◌, ◌<◌, ◌≤◌, [], IfOk, OnOk, OnErr, length, replicate, take, slice_index};
 ghost use Rattle.std.specs.Prelude.{slice_set};
@@ -12,8 +10,9 @@ use ps_game::{Numbers, Width};
 use std::alloc::{AllocError, Global};
 use std::marker::Model;
 
-/// A level and a move for each vertex, and the worklist (called trail), which lists the attracted vertices in order.
-/// Levels, moves and trail are stored as integers of the type `W`.
+/// A level and a move for each vertex, and the trail of attracted vertices in order, as integers of the type `W`; also,
+/// for the other player's vertices, the successor that was last found not attracted. Contracts leave it out, since no
+/// result depends on it.
 #[derive(Drop)]
 pub struct Tables<W: Width> {
     level: Levels<W>,
@@ -34,9 +33,7 @@ impl<W: Width> Model for Tables<W> {
 }
 
 impl<W: Width> Tables<W> {
-    /// Tables in which all vertices have one given level and the worklist is empty. The worklist has the capacity for
-    /// all vertices. Fails if out of
-    /// memory.
+    /// One level for all vertices, and an empty trail with room for all. Fails if out of memory.
     pub fn new(alloc: Global, count: usize, level: usize) -> Result<Tables<W>, AllocError>
         requires room { count ≤ W.LIMIT }
         requires fits { IsLevel W.LIMIT level }
@@ -64,7 +61,7 @@ impl<W: Width> Tables<W> {
         self.level.at(vertex)
     }
 
-    /// The move that the tables record at a vertex.
+    /// The move at a vertex.
     pub fn chosen(&self, vertex: usize) -> usize
         requires { vertex < length self.now.moves }
         ensures { result ≡ slice_index self.now.moves vertex }
@@ -72,14 +69,14 @@ impl<W: Width> Tables<W> {
         self.moves.at(vertex)
     }
 
-    /// The number of vertices in the worklist.
+    /// The number of vertices in the trail.
     pub fn placed(&self) -> usize
         ensures { result ≡ length self.now.trail }
     {
         self.trail.len()
     }
 
-    /// The vertex at an index of the worklist.
+    /// The vertex at an index of the trail.
     pub fn vertex_at(&self, place: usize) -> usize
         requires { place < length self.now.trail }
         ensures { result ≡ slice_index self.now.trail place }
@@ -107,7 +104,7 @@ impl<W: Width> Tables<W> {
         self.moves.set(vertex, successor);
     }
 
-    /// Appends a vertex to the worklist and sets the vertex's level. Fails if out of memory; then nothing changes.
+    /// Appends a vertex to the trail and sets its level. Fails if out of memory; then nothing changes.
     pub fn place(&mut self, vertex: usize, level: usize) -> Result<(), AllocError>
         requires vertex { vertex < length self.old.level }
         requires fits { IsLevel W.LIMIT level }
@@ -119,7 +116,7 @@ impl<W: Width> Tables<W> {
         Ok(())
     }
 
-    /// Truncates the worklist to its first `placed` vertices.
+    /// Cuts the trail to its first `placed` vertices.
     pub fn cut(&mut self, placed: usize)
         ensures trail { self.new.trail ≡ take placed self.old.trail }
         ensures level { self.new.level ≡ self.old.level }
@@ -128,16 +125,14 @@ impl<W: Width> Tables<W> {
         self.trail.truncate(placed);
     }
 
-    /// The index of the successor at which the last search for an unattracted successor of a vertex ended. An index
-    /// that does not fit 32 bits is
-    /// stored as the largest 32-bit number.
+    /// The index of the successor at which the last search ended, capped at 32 bits.
     pub(crate) fn watched(&self, vertex: usize) -> usize
         requires { vertex < length self.now.level }
     {
         self.watch[vertex] as usize
     }
 
-    /// Remembers the index of the successor at which a search for an unattracted successor of a vertex ended.
+    /// Remembers where a search at a vertex ended.
     pub(crate) fn watch(&mut self, vertex: usize, number: usize)
         requires { vertex < length self.old.level }
         ensures { self.new ≡ self.old }

@@ -1,5 +1,4 @@
-//! The computation of an attractor. Each attracted vertex is appended to the worklist, which is the `trail` of the
-//! tables.
+//! The computation of an attractor.
 
 ghost use Rattle.std.specs.Prelude.{◌≡◌, ◌≢◌, ◌+◌, ◌<◌, ◌≤◌, ℕ, Bool, IfSome, IfNone, OnOk, OnErr, IsTrue, false};
 ghost use Rattle.std.specs.Prelude.{length, slice_index};
@@ -16,13 +15,9 @@ use ps_game::{Arena, Width};
 use std::alloc::AllocError;
 
 impl<W: Width> Tables<W> {
-    /// Extends the worklist by the vertices that are attracted to the target. The target's vertices are those that the
-    /// worklist has from index `aim.begin` on before the call. The entries of the worklist are processed in order: the
-    /// unattracted predecessors of each entry are appended if the player can force every play from them to the target.
-    /// The time is proportional to the number of edges into the processed vertices, plus the number of edges from those
-    /// vertices of the other player that have an edge into a processed vertex.
-    ///
-    /// Fails if out of memory; then the vertices that were already attracted stay in the worklist.
+    /// Extends the trail by what is attracted to the target, which is the trail from index `aim.begin` on. For each
+    /// entry in order, those predecessors are appended from which the player can force every play to the target. Fails
+    /// if out of memory; what was attracted so far then stays in the trail.
     pub fn attract<A: Arena>(
         &mut self,
         edges: &Adjacency<'_, A, W>,
@@ -47,7 +42,7 @@ impl<W: Width> Tables<W> {
         Ok(())
     }
 
-    /// Examines each edge into the vertex at index `place` of the worklist. Fails if out of memory.
+    /// Examines each edge into the vertex at index `place`.
     fn spread<A: Arena>(
         &mut self,
         edges: &Adjacency<'_, A, W>,
@@ -73,7 +68,7 @@ impl<W: Width> Tables<W> {
         Ok(())
     }
 
-    /// Examines the edge from `source` to the attracted vertex `reached`. Fails if out of memory.
+    /// Examines the edge from `source` to the attracted vertex `reached`.
     fn look<A: Arena>(
         &mut self,
         edges: &Adjacency<'_, A, W>,
@@ -96,8 +91,7 @@ impl<W: Width> Tables<W> {
         self.place(source, aim.level)
     }
 
-    /// Whether a vertex has an unattracted successor. The search for an unattracted successor starts where the previous
-    /// search at the same vertex ended.
+    /// Whether some successor is not attracted, from where the last search ended.
     fn has_free<A: Arena>(
         &mut self,
         edges: &Adjacency<'_, A, W>,
@@ -125,8 +119,7 @@ impl<W: Width> Tables<W> {
         }
     }
 
-    /// The index of the first unattracted successor of a vertex, among the indices from `from` up to, but not
-    /// including, `to`.
+    /// The first index of such a successor, from `from` up to `to`, which is excluded.
     fn first_free<A: Arena>(
         &self,
         edges: &Adjacency<'_, A, W>,

@@ -25,9 +25,8 @@ use ps_hoa::HoaFile;
 use std::alloc::{AllocError, Global};
 use std::marker::Model;
 
-/// A total, deterministic automaton with a priority on each edge. If the HOA text has no edge for a state at a letter,
-/// the step leads to the sink, whose number is the count of states. Each leaf of the decision diagrams is the index of
-/// a pair of a state and a priority; different leaves stand for different pairs.
+/// A total, deterministic automaton with a priority on each edge. The sink's number is the count of states. Each leaf
+/// of the diagrams is the index of a pair of a state and a priority; different leaves stand for different pairs.
 #[derive(Drop)]
 pub struct Automaton {
     alloc: Global,
@@ -69,14 +68,12 @@ impl Model for Automaton {
 }
 
 impl Automaton {
-    /// The deterministic automaton of an HOA file. A letter is a number whose bit p is the truth value of proposition
-    /// p.
+    /// The deterministic automaton of an HOA file. Bit p of a letter is the truth of proposition p.
     ///
     /// # Errors
     ///
-    /// Fails if the acceptance condition contains a complemented set, or else is not a chain. If the condition is a
-    /// chain, fails if two edges of a state are taken at a common letter, but differ in their targets or sets. Also
-    /// fails if memory runs out.
+    /// Fails if the acceptance condition contains a complemented set, or else is not a chain, or else if two edges of a
+    /// state are taken at a common letter, but differ in their targets or sets; also if memory runs out.
     pub fn build(alloc: Global, file: &HoaFile) -> Result<Automaton, AutomatonFault>
         ensures built { IfOk result (λ automaton. (chain : Chain) × IsBuiltFrom file.now chain automaton) }
         ensures admitted { OnOk result (IsAdmitted file.now) }
@@ -86,7 +83,6 @@ impl Automaton {
         Ok(Automaton::from_draft(alloc, file, draft)?)
     }
 
-    /// The automaton of an HOA file, made from the decision diagrams of the automaton's steps.
     fn from_draft(alloc: Global, file: &HoaFile, draft: Draft) -> Result<Automaton, AllocError>
         requires { (chain : Chain) × (chain_of file.now.condition ≡ Some chain) ×
             IsDraft file.now chain draft.pairs.steps draft.pairs.store draft.nodes.items }
@@ -142,7 +138,7 @@ impl Automaton {
         self.start
     }
 
-    /// The store that holds the decision diagrams.
+    /// The store of the diagrams.
     pub fn store(&self) -> &Store
         ensures store { result.now ≡ self.now.store }
         ensures propositions { result.now.propositions ≡ length self.now.names }
@@ -151,8 +147,7 @@ impl Automaton {
         &self.store
     }
 
-    /// The decision diagram of the steps of a state, or of the sink. The diagram's leaf at a letter is the index of a
-    /// step; the method `pair` returns the step with a given index.
+    /// The diagram of the steps of a state, or of the sink. Its leaf at a letter is the index of a step for `pair`.
     pub fn node(&self, state: u32) -> Node
         requires { state ≤ self.now.states }
         ensures node { result ≡ node_of self.now state }
@@ -161,7 +156,7 @@ impl Automaton {
         self.nodes[state as usize]
     }
 
-    /// The step whose index is a leaf of the decision diagrams.
+    /// The step whose index is a leaf.
     pub fn pair(&self, leaf: u64) -> Step
         requires { leaf < length self.now.steps }
         ensures pair { result ≡ pair_of self.now leaf }
@@ -182,8 +177,7 @@ impl Automaton {
         }
     }
 
-    /// Whether the automaton accepts the word that consists of a stem and a lap that repeats for ever. Fails if memory
-    /// runs out.
+    /// Whether the automaton accepts a stem and a lap that repeats for ever. Fails if memory runs out.
     pub fn accepts(&self, stem: &[u64], lap: &[u64]) -> Result<bool, AllocError>
         requires some { 0 < length lap.now }
         requires stem { All (λ letter. letter < 2 ^ length self.now.names) stem.now }
@@ -196,7 +190,7 @@ impl Automaton {
         Ok(self.greatest_of_laps(orbit.state, lap, orbit.laps) % 2 == 0)
     }
 
-    /// The state after the letters have been read, and the greatest priority of the edges taken.
+    /// The state after the letters, and the greatest priority on the way.
     fn read(&self, state: u32, letters: &[u64]) -> Step
         requires { state ≤ self.now.states }
         ensures state { result.state ≡ state_behind (auto_of self.now) state letters.now }
@@ -216,8 +210,7 @@ impl Automaton {
         }
     }
 
-    /// A state that is reached from the given state by reading the word `lap` zero or more times, and how many further
-    /// readings of `lap` lead from the reached state back to itself.
+    /// A state that is reached by reading `lap` zero or more times, and how many further laps lead back to it.
     fn returning(&self, first: u32, lap: &[u64]) -> Result<Orbit, AllocError>
         requires { first ≤ self.now.states }
         ensures returns { IfOk result (λ orbit. Returns (auto_of self.now) first lap.now orbit.state orbit.laps) }
@@ -237,7 +230,7 @@ impl Automaton {
         })
     }
 
-    /// The greatest priority of the edges taken while the word `lap` is read `laps` times.
+    /// The greatest priority of the edges taken in `laps` laps.
     fn greatest_of_laps(&self, state: u32, lap: &[u64], laps: usize) -> u64
         requires { state ≤ self.now.states }
         ensures { result ≡ greatest_of_laps (auto_of self.now) state lap.now laps }
@@ -253,7 +246,7 @@ impl Automaton {
     }
 }
 
-/// The decision diagrams of the steps of a file's automaton, or the first fault for which the file has no automaton.
+/// The diagrams of a file's automaton, or the first fault for which it has none.
 fn draft_of(alloc: Global, file: &HoaFile) -> Result<Draft, AutomatonFault>
     ensures draft { IfOk result (λ draft. (chain : Chain) × (chain_of file.now.condition ≡ Some chain) ×
         IsDraft file.now chain draft.pairs.steps draft.pairs.store draft.nodes.items) }
@@ -270,7 +263,6 @@ fn draft_of(alloc: Global, file: &HoaFile) -> Result<Draft, AutomatonFault>
     drafted(alloc, file, &Levels { chain, numbers })
 }
 
-/// A copy of the propositions' names.
 fn copied(alloc: Global, names: &[Vec<u8>]) -> Result<Vec<Vec<u8>>, AllocError>
     ensures { IfOk result (λ copy. map bytes_of copy.items ≡ map bytes_of names.now) }
 {
@@ -281,7 +273,7 @@ fn copied(alloc: Global, names: &[Vec<u8>]) -> Result<Vec<Vec<u8>>, AllocError>
     Ok(copy)
 }
 
-/// A state, and the number of repetitions of a lasso's repeated part (laps) that lead from the state back to itself.
+/// A state, and the number of laps that lead from it back to itself.
 #[derive(Clone, Copy)]
 struct Orbit {
     state: u32,

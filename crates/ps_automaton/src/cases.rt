@@ -1,4 +1,4 @@
-//! The edges of a state whose labels are conjunctions of literals, as the cases of the diagram of the state's steps.
+//! Edges whose labels are conjunctions of literals, as the cases of the diagram of a state's steps.
 
 ghost use Rattle.std.specs.Prelude.{◌≡◌, IfOk, IfSome, length};
 ghost use Rattle.ps_hoa.specs.Sound.{IsSoundFile, IsSoundRow};
@@ -11,8 +11,7 @@ use ps_diagram::{Case, Product, Store};
 use ps_hoa::{HoaFile, Row};
 use std::alloc::{AllocError, Global};
 
-/// The labels of a row's edges as products of literals, or None if some edge has no label, or a label that is no
-/// conjunction of literals. Fails if out of memory.
+/// The labels of a row's edges as products of literals, or None if some edge has no label, or one of another form.
 pub(crate) fn products_of(
     alloc: Global,
     store: &Store,
@@ -39,8 +38,7 @@ pub(crate) fn products_of(
     Ok(Some(products))
 }
 
-/// A case for each product: the leaf is the entry of the list `places`, and the kind the target's acceptance sets.
-/// Fails if out of memory.
+/// A case for each product: the leaf is its entry of `places`, and the kind its target's acceptance sets.
 pub(crate) fn cases_of(
     alloc: Global,
     products: &[Product],

@@ -1,4 +1,4 @@
-//! The chain of an acceptance condition, and the priorities that the chain gives to edges.
+//! The chain of an acceptance condition.
 
 ghost use Rattle.std.specs.Prelude.{◌≡◌, IfOk, Some, map, not, option_map};
 ghost use Rattle.ps_hoa.specs.Values.{condition_of};
@@ -10,21 +10,18 @@ ghost use Rattle.ps_automaton.specs.Inner.Views.{chain_data, link_data};
 use ps_hoa::Cond;
 use std::alloc::{AllocError, Global};
 
-/// A link of a chain: an acceptance set, and whether a run is accepted if it meets this set infinitely often, but no
-/// earlier link's set.
+/// A link of a chain.
 #[derive(Clone, Copy)]
 pub(crate) struct Link {
-    /// The number of the set.
+    /// The number of an acceptance set.
     pub set: u32,
     /// Whether a run is accepted if it meets the set infinitely often, but no earlier link's set.
     pub accepts: bool,
 }
 
-/// The first link whose set a run meets infinitely often decides whether the run is accepted. If the run meets no
-/// link's set infinitely often, the chain's base states whether the run is accepted.
+/// The first link whose set a run meets infinitely often decides whether the run is accepted.
 #[derive(Drop)]
 pub(crate) struct Chain {
-    /// The links of the chain, in order.
     pub links: Vec<Link>,
     /// Whether a run is accepted if it meets no link's set infinitely often.
     pub base: bool,
@@ -58,7 +55,6 @@ pub(crate) fn is_complemented(condition: &Cond) -> bool
     }
 }
 
-/// The chain of an acceptance condition, if the condition is a chain.
 pub(crate) fn chain_of(alloc: Global, condition: &Cond) -> Result<Option<Chain>, AllocError>
     ensures { IfOk result (λ chain. option_map chain_data chain ≡ chains.chain_of (condition_of condition.now)) }
 {
@@ -67,8 +63,7 @@ pub(crate) fn chain_of(alloc: Global, condition: &Cond) -> Result<Option<Chain>,
     Ok(base.map(|base| Chain { links, base }))
 }
 
-/// Appends the links of a condition's chain to `links` and returns the chain's base, or returns `None` if the condition
-/// is not a chain.
+/// Appends the links of a condition's chain, and returns its base, or `None` if the condition is not a chain.
 fn base_behind(condition: &Cond, links: &mut Vec<Link>) -> Result<Option<bool>, AllocError>
     ensures { IfOk result (λ base. with_base links.new.items base ≡ in_front (Some (map link_data links.old.items))
         (chains.chain_of (condition_of condition.now))) }
@@ -94,15 +89,15 @@ fn base_behind(condition: &Cond, links: &mut Vec<Link>) -> Result<Option<bool>, 
 /// Which operands of a disjunction or a conjunction are links.
 #[derive(Clone, Copy)]
 enum Gathered {
-    /// All operands.
+    /// All.
     All,
-    /// All operands but the one at the given index are links.
+    /// All but the one at this index.
     AllBut(usize),
-    /// At least two operands are not links.
+    /// At least two are not.
     TooFew,
 }
 
-/// Appends the links of the operands of a disjunction or a conjunction to `links`.
+/// Appends the links of the operands of a disjunction or a conjunction.
 fn gather(operands: &[Cond], accepts: bool, links: &mut Vec<Link>) -> Result<Gathered, AllocError>
     ensures { IfOk result (λ gathered. IsGathered accepts operands.now links.old.items links.new.items gathered) }
 {
@@ -120,7 +115,7 @@ fn gather(operands: &[Cond], accepts: bool, links: &mut Vec<Link>) -> Result<Gat
     })
 }
 
-/// The link of an operand of a disjunction or a conjunction, if the operand is a link.
+/// The link of an operand, if it is one.
 fn link_of(operand: &Cond, accepts: bool) -> Option<Link>
     ensures { option_map link_data result ≡ chains.link_of accepts (condition_of operand.now) }
 {
@@ -131,8 +126,7 @@ fn link_of(operand: &Cond, accepts: bool) -> Option<Link>
     }
 }
 
-/// Appends the link of a single `Inf` or `Fin` to `links` and returns the chain's base, or returns `None` if the set is
-/// complemented.
+/// Appends the link of a single `Inf` or `Fin`, and returns the chain's base, or `None` if the set is complemented.
 fn one_link(
     set: u32,
     complemented: bool,

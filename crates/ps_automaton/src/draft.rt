@@ -38,13 +38,11 @@ use std::alloc::{AllocError, Global};
 /// The decision diagrams of the states, followed by the diagram of the sink.
 #[derive(Drop)]
 pub(crate) struct Draft {
-    /// The store of the diagrams, and the list of steps whose indices are the leaves.
+    /// The store of the diagrams, and the steps whose indices are the leaves.
     pub pairs: Pairs,
-    /// A diagram for each state, and then one for the sink.
     pub nodes: Vec<Node>,
 }
 
-/// Builds the diagrams of the steps of all states and of the sink.
 pub(crate) fn drafted(
     alloc: Global,
     file: &HoaFile,
@@ -59,7 +57,7 @@ pub(crate) fn drafted(
     Ok(Draft { pairs, nodes })
 }
 
-/// A diagram store without diagrams, and a list of steps that has only the step to the sink.
+/// A store without diagrams, and a list of steps that has only the step to the sink.
 fn opened(alloc: Global, file: &HoaFile) -> Result<Pairs, AllocError>
     ensures letters { IfOk result (λ pairs. pairs.store.propositions ≡ length file.now.names) }
     ensures steps { IfOk result (λ pairs. AreSteps file.now.states pairs.steps) }
@@ -76,7 +74,7 @@ fn opened(alloc: Global, file: &HoaFile) -> Result<Pairs, AllocError>
     })
 }
 
-/// The diagrams of the steps of all states, followed by the diagram of the sink.
+/// The diagrams of all states, and of the sink.
 fn nodes_of(pairs: &mut Pairs, file: &HoaFile, levels: &Levels) -> Result<Vec<Node>, AutomatonFault>
     requires letters { pairs.old.store.propositions ≡ length file.now.names }
     requires steps { AreSteps file.now.states pairs.old.steps }
@@ -97,7 +95,6 @@ fn nodes_of(pairs: &mut Pairs, file: &HoaFile, levels: &Levels) -> Result<Vec<No
     Ok(nodes)
 }
 
-/// The diagrams of the steps of all states.
 fn nodes_of_states(pairs: &mut Pairs, source: &Source) -> Result<Vec<Node>, AutomatonFault>
     requires { IsSource source.now pairs.old }
     ensures letters { OnOk result (pairs.new.store.propositions ≡ length source.now.file.now.names) }
@@ -115,7 +112,6 @@ fn nodes_of_states(pairs: &mut Pairs, source: &Source) -> Result<Vec<Node>, Auto
     Ok(nodes)
 }
 
-/// The diagram of a state's steps.
 fn state_node(pairs: &mut Pairs, source: &Source, state: u32) -> Result<Node, AutomatonFault>
     requires { IsSource source.now pairs.old }
     ensures grows { OnOk result (Grows source.now.file.now.states pairs.old pairs.new) }
@@ -129,7 +125,7 @@ fn state_node(pairs: &mut Pairs, source: &Source, state: u32) -> Result<Node, Au
     row_node(pairs, source, row)
 }
 
-/// The diagram of a row's label, if the row has a label.
+/// The diagram of a row's label, if it has one.
 fn label_node(store: &mut Store, source: &Source, row: &Row) -> Result<Option<Node>, AllocError>
     requires row { IsSoundRow source.now.file.now (row_data row.now) }
     requires letters { store.old.propositions ≡ length source.now.file.now.names }
@@ -144,7 +140,7 @@ fn label_node(store: &mut Store, source: &Source, row: &Row) -> Result<Option<No
     Ok(Some(node))
 }
 
-/// The diagram of the steps of the state to which a row belongs.
+/// The diagram of the steps of the row's state.
 fn row_node(pairs: &mut Pairs, source: &Source, row: &Row) -> Result<Node, AutomatonFault>
     requires { IsRowReady source.now (row_data row.now) pairs.old }
     ensures steps { MakesSteps source.now (row_data row.now) pairs.old pairs.new result }
@@ -162,7 +158,7 @@ fn row_node(pairs: &mut Pairs, source: &Source, row: &Row) -> Result<Node, Autom
     node_by_labels(pairs, source, row)
 }
 
-/// Whether each edge in a state's row is taken at a single letter, whose number is the index of the edge.
+/// Whether each edge of a row is taken at a single letter, whose number is the index of the edge.
 fn is_by_letters(row: &Row) -> bool
     ensures { IsTrue result → (file : FileData) → IsSoundRow file (row_data row.now) →
         IsByLetters file (row_data row.now) }
@@ -173,7 +169,7 @@ fn is_by_letters(row: &Row) -> bool
     }
 }
 
-/// The diagram of the steps of a state, if each edge of the state is taken at exactly one letter.
+/// The diagram of a row for which `is_by_letters` is true.
 fn node_by_letters(pairs: &mut Pairs, source: &Source, row: &Row) -> Result<Node, AllocError>
     requires ready { IsRowReady source.now (row_data row.now) pairs.old }
     requires by_letters { IsByLetters source.now.file.now (row_data row.now) }
@@ -184,8 +180,8 @@ fn node_by_letters(pairs: &mut Pairs, source: &Source, row: &Row) -> Result<Node
     Ok(node)
 }
 
-/// The diagram of the steps of a state whose edges have conjunctions of literals as labels; None for other states, or
-/// if `Store::of_cases` returns None.
+/// The diagram of a row whose labels are conjunctions of literals; None for others, or if `Store::of_cases` returns
+/// None.
 fn node_by_cases(pairs: &mut Pairs, source: &Source, row: &Row) -> Result<Option<Node>, AllocError>
     requires { IsRowReady source.now (row_data row.now) pairs.old }
     ensures { MayMakeSteps source.now (row_data row.now) pairs.old pairs.new result }
@@ -196,8 +192,7 @@ fn node_by_cases(pairs: &mut Pairs, source: &Source, row: &Row) -> Result<Option
     node_of_products(pairs, source, row, &products)
 }
 
-/// The diagram of the steps of a state, whose edges are taken at the letters at which the products in a list are true,
-/// or None if `Store::of_cases` returns None.
+/// The diagram of a row, given its labels as products; None if `Store::of_cases` returns None.
 fn node_of_products(
     pairs: &mut Pairs,
     source: &Source,
@@ -214,8 +209,8 @@ fn node_of_products(
     pairs.store.of_cases(&mut cases, 0)
 }
 
-/// The diagram of the steps of a state, made letter by letter; None without sets of letters, if the labels are too
-/// short for this to be worth it, or if `edges_by_letter` returns None.
+/// The diagram of a row, made letter by letter; None without sets of letters, if the labels are too short for this, or
+/// if `edges_by_letter` returns None.
 fn node_by_sets(pairs: &mut Pairs, source: &Source, row: &Row) -> Result<Option<Node>, AllocError>
     requires { IsRowReady source.now (row_data row.now) pairs.old }
     ensures { MayMakeSteps source.now (row_data row.now) pairs.old pairs.new result }
@@ -234,14 +229,13 @@ fn node_by_sets(pairs: &mut Pairs, source: &Source, row: &Row) -> Result<Option<
     Ok(Some(node))
 }
 
-/// Whether joining a row's edges letter by letter takes less time than joining the diagrams of their labels: there are
-/// at most 64 letters, or the labels have at least one literal or operator for each 8 letters.
+/// Whether joining edges letter by letter takes less time than joining diagrams: there are at most 64 letters, or the
+/// labels have at least one literal or operator for each 8 letters.
 fn is_worth_letters(row: &Row, propositions: usize) -> bool {
     propositions <= 6 || propositions < 64 && size_of_labels(row) >= 1 << (propositions - 3)
 }
 
-/// The diagram whose leaf at a letter is the index of the step to the target of the edge that the list `edges` has for
-/// this letter. If the list has no edge for a letter, the leaf is 0, the index of the step to the sink.
+/// The diagram whose leaf at a letter is the index of the step of its edge in `edges`, or 0, the step to the sink.
 fn node_of_edges(
     pairs: &mut Pairs,
     levels: &Levels,
@@ -267,7 +261,6 @@ fn node_of_edges(
     Ok(node)
 }
 
-/// The targets of the edges in a state's row, in the order of the edges.
 fn targets_of(alloc: Global, row: &Row) -> Result<Vec<Target>, AllocError>
     requires { (file : FileData) × IsSoundFile file × IsSoundRow file (row_data row.now) }
     ensures { IfOk result (λ targets. AreTargets (row_data row.now) targets.items) }
@@ -279,7 +272,7 @@ fn targets_of(alloc: Global, row: &Row) -> Result<Vec<Target>, AllocError>
     Ok(targets)
 }
 
-/// The diagram of the steps of a state, made by joining the diagrams of the labels of its edges.
+/// The diagram of a row, made by joining the diagrams of its labels.
 fn node_by_labels(pairs: &mut Pairs, source: &Source, row: &Row) -> Result<Node, AutomatonFault>
     requires { IsRowReady source.now (row_data row.now) pairs.old }
     ensures steps { MakesSteps source.now (row_data row.now) pairs.old pairs.new result }
@@ -296,8 +289,7 @@ fn node_by_labels(pairs: &mut Pairs, source: &Source, row: &Row) -> Result<Node,
     Ok(node_of_union(pairs, source.levels, &union)?)
 }
 
-/// The diagram of a state's steps, made from the joined diagram of the state's edges. The leaves of the joined diagram
-/// are indices of targets. At a letter at which no edge of the state is taken, the step leads to the sink.
+/// The diagram of steps, made from the joined diagram of a state's edges, whose leaves are indices of targets.
 fn node_of_union(pairs: &mut Pairs, levels: &Levels, union: &Union) -> Result<Node, AllocError>
     requires held { IsNode pairs.old.store union.now.node }
     requires within { (letter : ℕ) → letter < 2 ^ pairs.old.store.propositions →
@@ -318,7 +310,6 @@ fn node_of_union(pairs: &mut Pairs, levels: &Levels, union: &Union) -> Result<No
     Ok(named)
 }
 
-/// The indices of the steps to the given targets.
 fn places_of(
     alloc: Global,
     steps: &mut StepList,
@@ -340,8 +331,7 @@ fn places_of(
     Ok(places)
 }
 
-/// The indices of the steps of the edges in a state's row, in the order of the edges. No list of targets is made, since
-/// a state may have many edges.
+/// The indices of the steps of a row's edges. No list of targets is made, since there may be many edges.
 fn places_of_edges(
     alloc: Global,
     steps: &mut StepList,

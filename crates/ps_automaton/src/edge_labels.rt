@@ -11,8 +11,7 @@ ghost use Rattle.ps_automaton.specs.Inner.Drafts.{IsFit};
 use ps_hoa::{Edge, Guard, Row};
 use ps_label::{Label, Literal};
 
-/// The label of an edge of a row: its own label or the label of the state; None if the edge is taken at a single
-/// letter.
+/// The label of an edge: its own or the state's; None if it is taken at a single letter.
 pub(crate) fn label_of<'a>(row: &'a Row, edge: &'a Edge) -> Option<&'a Label>
     ensures { IfSome result (λ label. (file : FileData) → IsSoundRow file (row_data row.now) →
         IsFit file (edge_data edge.now).guard →
@@ -36,7 +35,6 @@ pub(crate) fn size_of_labels(row: &Row) -> usize {
     size
 }
 
-/// The number of literals and operators in a label.
 fn size_of(label: &Label) -> usize {
     match label {
         Label::Truth(_) | Label::Atom(_) | Label::Named(_) => 1,
@@ -53,7 +51,6 @@ fn size_of(label: &Label) -> usize {
     }
 }
 
-/// The number of literals and operators in a conjunction of literals.
 fn size_of_literals(literals: &[Literal]) -> usize {
     let mut size: usize = 1;
     for literal in literals {

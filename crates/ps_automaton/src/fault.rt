@@ -16,15 +16,14 @@ pub enum AutomatonFault {
     /// The acceptance condition is not a chain.
     #[error("the condition is no chain")]
     NonParity,
-    /// Two edges of a state are taken at a common letter, but differ in their targets or their sets. (States are
-    /// counted from 0.)
+    /// Two edges of a state are taken at a common letter, but differ in their targets or their sets.
     #[error("state {state} has edges {first} and {second} that share a letter")]
     Nondeterministic {
-        /// The number that the state has in the text.
+        /// The state's number in the text, from 0.
         state: u32,
-        /// The index of the earlier edge in the state's row, counted from 0.
+        /// The index of the earlier edge in the state's row, from 0.
         first: usize,
-        /// The index of the later of the two edges in the state's row, counted from 0.
+        /// The index of the later edge.
         second: usize,
     },
     /// Memory ran out.

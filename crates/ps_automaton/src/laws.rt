@@ -10,8 +10,8 @@ ghost use Rattle.ps_automaton.specs.Chains.{Chain, chain_of, greatest_level, hol
 ghost use Rattle.ps_automaton.specs.declared.fault.AutomatonFault.{AutomatonFault};
 ghost use Rattle.ps_automaton.specs.declared.fault.AutomatonFault.TheVariants.{OutOfMemory};
 
-/// A chain gives each edge a priority. In a part of a run with at least one edge, the greatest priority that the chain
-/// gives is even exactly if the acceptance condition is true for the sets that the part meets.
+/// In a part of a run with at least one edge, the greatest priority that a chain gives is even exactly if the
+/// acceptance condition is true for the sets that the part meets.
 pub fn greatest_level_decides()
     ensures { (condition : Condition) (chain : Chain) (edges : List (ℕ → Bool)) → chain_of condition ≡ Some chain →
         0 < length edges → is_even (greatest_level chain edges) ≡ holds (is_met edges) condition }
@@ -23,8 +23,7 @@ pub fn automaton_is_there()
         (chain : Chain) × (auto : Auto) × (chain_of file.condition ≡ Some chain) × IsAutoOf file chain auto }
 {}
 
-/// An HOA file is either admitted, or refused for exactly one fault other than running out of memory. Whatever the
-/// file, a call of `Automaton::build` may also run out of memory.
+/// An HOA file is either admitted, or refused for exactly one fault; besides, a call may always run out of memory.
 pub fn refusal_is_one()
     ensures some { (file : FileData) → IsAdmitted file ⊎ ((fault : AutomatonFault) × (fault ≢ OutOfMemory) ×
         IsRefused file fault) }

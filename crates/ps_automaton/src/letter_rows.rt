@@ -13,9 +13,9 @@ use crate::targets::Target;
 use ps_hoa::{HoaFile, Row};
 use std::alloc::{AllocError, Global};
 
-/// For each letter, the index of the first edge of a row that is taken there, if there is one. If two edges with
-/// different targets are taken at one letter, the result is None. The contract allows None for every row: the edges are
-/// then joined as diagrams, which is slower, but also correct. Fails if out of memory.
+/// For each letter, the index of the first edge that is taken there, if there is one; None if two edges with different
+/// targets share a letter. The contract allows None for every row: the edges are then joined as diagrams, which is
+/// slower, but also right.
 pub(crate) fn edges_by_letter(
     alloc: Global,
     sets: &LetterSets,
@@ -48,7 +48,6 @@ pub(crate) fn edges_by_letter(
     Ok(Some(edges))
 }
 
-/// A list of the given length whose entries are all None, because no letter has an edge yet. Fails if out of memory.
 fn no_edges(alloc: Global, letters: usize) -> Result<Vec<Option<usize>>, AllocError>
     ensures letters { IfOk result (λ edges. length edges.items ≡ letters) }
     ensures none { IfOk result (λ edges. (letter : ℕ) → edge_at edges.items letter ≡ None) }
@@ -60,8 +59,8 @@ fn no_edges(alloc: Global, letters: usize) -> Result<Vec<Option<usize>>, AllocEr
     Ok(edges)
 }
 
-/// Adds the edge with the index `place` at the letters of a set. Returns false if one of these letters already has an
-/// edge with another target, and true otherwise.
+/// Adds the edge with the index `place` at the letters of a set. Returns false if one of them has an edge with another
+/// target.
 fn add(edges: &mut [Option<usize>], set: &[u64], place: usize, targets: &[Target]) -> bool
     requires few { length edges.old ≤ 64 * length set.now }
     requires within { place < length targets.now }
@@ -86,8 +85,7 @@ fn add(edges: &mut [Option<usize>], set: &[u64], place: usize, targets: &[Target
     true
 }
 
-/// For each letter, the entry of the list `places` for the first edge that is taken there, or 0 without an edge. Fails
-/// if out of memory.
+/// For each letter, the entry of `places` for its edge, or 0 without one.
 pub(crate) fn leaves_of(
     alloc: Global,
     edges: &[Option<usize>],

@@ -1,5 +1,5 @@
-//! The letters at which labels are true, as sets of letters. A set of letters is a list of bit masks, of 64 letters
-//! each: bit k of the mask with the index w is 1 if the letter 64 * w + k is in the set.
+//! The letters at which labels are true, as lists of bit masks: bit k of the mask with the index w is 1 if the letter
+//! 64 * w + k is in the set.
 
 ghost use Rattle.std.specs.Prelude.{◌≡◌, ℕ, ◌+◌, ◌*◌, ◌^◌, ◌<◌, ◌≤◌, Bool, IfOk, IfSome, List, length};
 ghost use Rattle.ps_label.specs.Expression.{AreOver, AreOverFrom, IsOver, expression, literal_expression};
@@ -14,29 +14,28 @@ use ps_hoa::HoaFile;
 use ps_label::{Label, Labels, Literal};
 use std::alloc::{AllocError, Global};
 
-/// The greatest number of propositions for which sets of letters are used.
+/// The most propositions for which sets of letters are used.
 const MOST: usize = 10;
 
-/// For each proposition and each alias of a file, the mask of those of 64 letters at which it is true.
+/// The masks of one block of 64 letters.
 #[derive(Drop)]
 pub(crate) struct WordSets {
-    /// For each proposition, the mask of the letters at which it is true.
+    /// A mask for each proposition.
     pub propositions: Vec<u64>,
-    /// For each alias, the mask of the letters at which it is true.
+    /// A mask for each alias.
     pub aliases: Vec<u64>,
 }
 
-/// For each proposition and each alias of a file, the set of letters at which it is true.
+/// The sets of letters at which propositions and aliases are true.
 #[derive(Drop)]
 pub(crate) struct LetterSets {
-    /// The masks of the first 64 letters, of the next 64 letters, and so on.
+    /// One for each block of 64 letters, in order.
     pub words: Vec<WordSets>,
 }
 
 impl LetterSets {
-    /// The sets of a file's propositions and aliases, or None if the file has more than 10 propositions. The contract
-    /// allows None for every file: without sets of letters the edges are joined as diagrams, which is slower, but also
-    /// correct. Fails if out of memory.
+    /// The sets of a file's propositions and aliases, or None beyond 10 propositions. The contract allows None for
+    /// every file (see `edges_by_letter`).
     pub(crate) fn of(alloc: Global, file: &HoaFile) -> Result<Option<LetterSets>, AllocError>
         ensures { IfOk result (λ made. IfSome made (AreLetterSets file.now)) }
     {
@@ -51,7 +50,7 @@ impl LetterSets {
         Ok(Some(LetterSets { words }))
     }
 
-    /// The set of letters at which a label is true. Fails if out of memory.
+    /// The set of letters at which a label is true.
     pub(crate) fn of_label(
         &self,
         alloc: Global,
@@ -72,7 +71,7 @@ impl LetterSets {
 }
 
 impl WordSets {
-    /// The masks of 64 letters, of which `first` is the first. Fails if out of memory.
+    /// The masks of the 64 letters from `first` on.
     fn of(alloc: Global, file: &HoaFile, first: u64) -> Result<WordSets, AllocError>
         requires letters { first < 2 ^ 32 }
         requires few { length file.now.names ≤ 10 }
@@ -87,7 +86,7 @@ impl WordSets {
     }
 }
 
-/// The number of masks of 64 letters for all letters over the given number of propositions.
+/// The number of masks for all letters.
 fn words_for(propositions: usize) -> u64
     requires few { propositions ≤ 10 }
     ensures enough { 2 ^ propositions ≤ 64 * result }
@@ -100,8 +99,6 @@ fn words_for(propositions: usize) -> u64
     }
 }
 
-/// For each of the first `count` propositions, the mask of the letters at which the proposition is true, among 64
-/// letters, of which `first` is the first. Fails if out of memory.
 fn sets_of_propositions(alloc: Global, count: usize, first: u64) -> Result<Vec<u64>, AllocError>
     requires letters { first < 2 ^ 32 }
     requires few { count ≤ 10 }
@@ -115,7 +112,7 @@ fn sets_of_propositions(alloc: Global, count: usize, first: u64) -> Result<Vec<u
     Ok(sets)
 }
 
-/// The mask of the letters at which a proposition is true, among 64 letters, of which `first` is the first.
+/// The mask of a proposition for the 64 letters from `first` on.
 fn set_of_proposition(proposition: usize, first: u64) -> u64
     requires letters { first < 2 ^ 32 }
     requires few { proposition < 64 }
@@ -130,8 +127,6 @@ fn set_of_proposition(proposition: usize, first: u64) -> u64
     set
 }
 
-/// For each alias, the mask of the letters at which the alias is true, given the masks of the propositions. Fails if
-/// out of memory.
 fn sets_of_aliases(
     alloc: Global,
     propositions: &[u64],
@@ -150,7 +145,7 @@ fn sets_of_aliases(
     Ok(sets)
 }
 
-/// The mask of the letters at which a label is true, given the masks of the propositions and of the aliases.
+/// The mask of a label, given those of propositions and aliases.
 fn set_of(propositions: &[u64], aliases: &[u64], label: &Label) -> u64
     requires { IsOver (length aliases.now) (length propositions.now) (expression label.now) }
     ensures { (first letter : ℕ) → ArePropositionSets first propositions.now → letter < 64 →
@@ -180,7 +175,6 @@ fn set_of(propositions: &[u64], aliases: &[u64], label: &Label) -> u64
     }
 }
 
-/// The mask of the letters at which all literals are true, given the masks of the propositions.
 fn set_of_literals(propositions: &[u64], literals: &[Literal]) -> u64
     requires { (aliases : ℕ) ×
         AreOver aliases (length propositions.now) (operands_in (literal_expressions literals.now)) }
@@ -194,7 +188,6 @@ fn set_of_literals(propositions: &[u64], literals: &[Literal]) -> u64
     set
 }
 
-/// The mask of the letters at which a literal is true, given the masks of the propositions.
 fn set_of_literal(propositions: &[u64], literal: Literal) -> u64
     requires { (aliases : ℕ) × IsOver aliases (length propositions.now) (literal_expression literal) }
     ensures { (first letter : ℕ) → ArePropositionSets first propositions.now → letter < 64 → (known : List Bool) →

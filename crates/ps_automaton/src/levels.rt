@@ -1,4 +1,4 @@
-//! The steps to the targets of edges, with the priorities that the chain gives to the edges.
+//! The steps to the targets of edges.
 
 ghost use Rattle.std.specs.Prelude.{◌≡◌};
 ghost use Rattle.ps_automaton.specs.Inner.Numbering.{AreSetsBelow, IsTable};
@@ -9,12 +9,10 @@ use crate::numbers::Numbers;
 use crate::step::Step;
 use crate::targets::Target;
 
-/// A chain, and the table of the priorities that the chain gives to edges.
+/// A chain, and the priorities that it gives to edges.
 #[derive(Drop)]
 pub(crate) struct Levels {
-    /// The chain.
     pub chain: Chain,
-    /// The priorities that the chain gives to edges.
     pub numbers: Numbers,
     ghost few: { AreSetsBelow 64 (chain_data chain).links },
     ghost table: { IsTable (chain_data chain) numbers.base numbers.by_set },
@@ -23,7 +21,7 @@ pub(crate) struct Levels {
 impl Levels {
     ghost use Rattle.ps_automaton.specs.Inner.Drafts.{step_of_target};
 
-    /// The step to a target, with the priority that the chain gives to the target's sets.
+    /// The step to a target, with the priority of its sets.
     pub(crate) fn step_to(&self, target: Target) -> Step
         ensures { result ≡ step_of_target (chain_data self.now.chain) target }
     {

@@ -9,7 +9,6 @@ ghost use Rattle.ps_automaton.specs.Inner.Views.{chain_data};
 
 use crate::chain::Chain;
 
-/// The largest number of acceptance sets.
 const SETS: usize = 64;
 
 /// The priority of an edge without acceptance sets, and for each set the priority of an edge that has only this set.
@@ -19,7 +18,7 @@ pub(crate) struct Numbers {
     by_set: [u64; SETS],
 }
 
-/// The priorities that a chain gives to edges, computed from the chain's last link to its first.
+/// The priorities that a chain gives, computed from its last link to its first.
 pub(crate) fn table_of(chain: &Chain) -> Numbers
     requires { AreSetsBelow 64 (chain_data chain.now).links }
     ensures { IsTable (chain_data chain.now) result.base result.by_set }
@@ -37,14 +36,14 @@ pub(crate) fn table_of(chain: &Chain) -> Numbers
     Numbers { base, by_set }
 }
 
-/// The priority of an edge that is in no acceptance set of the chain: 0 if the chain's base is true, else 1.
+/// The priority of an edge in no set of the chain.
 fn base_number(base: bool) -> u64
     ensures { result ≡ chains.base_number base }
 {
     if base { 0 } else { 1 }
 }
 
-/// Whether a number, such as that of an acceptance set or a letter, is in a bit mask.
+/// Whether a number is in a bit mask.
 pub(crate) fn is_in(set: usize, sets: u64) -> bool
     requires { set < 64 }
     ensures { result ≡ labels.is_in set sets }
@@ -52,7 +51,7 @@ pub(crate) fn is_in(set: usize, sets: u64) -> bool
     sets >> set & 1 == 1
 }
 
-/// The priority that a link gives, computed from the priority of the next link.
+/// The priority that a link gives, computed from that of the next link.
 fn raised_number(accepts: bool, next: u64) -> u64
     requires { next < 2 ^ 63 }
     ensures { result ≡ raised accepts next }
@@ -65,7 +64,7 @@ fn raised_number(accepts: bool, next: u64) -> u64
 }
 
 impl Numbers {
-    /// The priority of an edge that has the acceptance sets in the mask.
+    /// The priority of an edge with the acceptance sets in the mask.
     pub(crate) fn level(&self, sets: u64) -> u64
         ensures { (chain : chains.Chain) → AreSetsBelow 64 chain.links → IsTable chain self.now.base self.now.by_set →
             result ≡ level chain (λ set. labels.is_in set sets) }

@@ -1,4 +1,4 @@
-//! A list of different targets of edges, with their indices.
+//! A list of different targets of edges.
 
 ghost use Rattle.std.specs.Prelude.{◌≡◌, List, [], IfOk, OnOk};
 ghost use Rattle.std.specs.BTreeMap.{get};
@@ -10,8 +10,7 @@ use std::alloc::{AllocError, Global};
 use std::collections::BTreeMap;
 use std::marker::Model;
 
-/// A list of different targets, whose indices are in a tree, so that a search takes logarithmic time whatever the
-/// targets are.
+/// Different targets, with their indices in a tree, so that a search takes logarithmic time whatever they are.
 #[derive(Drop)]
 pub(crate) struct Places {
     list: Vec<Target>,
@@ -27,7 +26,6 @@ impl Model for Places {
 }
 
 impl Places {
-    /// An empty list.
     pub(crate) fn new(alloc: Global) -> Self
         ensures { result ≡ [] }
     {
@@ -44,7 +42,7 @@ impl Places {
         self.list.as_slice()
     }
 
-    /// The index of a target; a target that is not in the list is appended.
+    /// The index of a target, which is appended if it is new.
     pub(crate) fn place_of(&mut self, target: Target) -> Result<usize, AllocError>
         ensures placed { IfOk result (IsPlaced self.old self.new target) }
         ensures distinct { OnOk result (AreDistinct self.new) }

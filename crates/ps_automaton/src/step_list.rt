@@ -1,4 +1,4 @@
-//! Different steps, which are numbered in the order in which they were added.
+//! Different steps, numbered in the order in which they were added.
 
 ghost use Rattle.std.specs.Prelude.{◌≡◌, ◌<◌, ℕ, List, [], IfNone, IfOk, IfSome, OnOk, length, slice_get, slice_index};
 ghost use Rattle.ps_automaton.specs.Inner.Places.{AreDistinct, IsPlaced};
@@ -9,15 +9,15 @@ use crate::step::Step;
 use std::alloc::{AllocError, Global};
 use std::marker::Model;
 
-/// A list of different steps. The steps that lead to one state are chained, from the last to the first. A chain has at
-/// most 65 steps, since an edge has one of at most 65 priorities, so a search is short whatever the steps are.
+/// Different steps. Those that lead to one state are chained, from the last to the first. A chain has at most 65, as
+/// many as an edge may have priorities, so a search is short.
 #[derive(Drop)]
 pub(crate) struct StepList {
     list: Vec<Step>,
-    /// For each state, the number of steps up to the last step that leads to the state, or 0 if there is none. States
-    /// after the end of the list have no steps.
+    /// For each state, the number of steps up to the last one that leads to it, or 0. States after the end have no
+    /// steps.
     last: Vec<usize>,
-    /// For each step, the number of steps up to the previous step that leads to the same state, or 0 if there is none.
+    /// For each step, the number of steps up to the previous one that leads to the same state, or 0.
     previous: Vec<usize>,
 }
 
@@ -30,7 +30,6 @@ impl Model for StepList {
 }
 
 impl StepList {
-    /// An empty list.
     pub(crate) fn new(alloc: Global) -> Self
         ensures { result ≡ [] }
     {
@@ -41,7 +40,7 @@ impl StepList {
         }
     }
 
-    /// The index of a step; a step that is not in the list is appended.
+    /// The index of a step, which is appended if it is new.
     pub(crate) fn place_of(&mut self, step: Step) -> Result<usize, AllocError>
         ensures { IfOk result (IsPlaced self.old self.new step) }
     {
@@ -69,7 +68,6 @@ impl StepList {
     }
 }
 
-/// The number of steps up to the last step that leads to the state.
 #[inline]
 fn count_at(last: &[usize], state: u32) -> usize
     ensures { result ≡ slice_index last.now state }
@@ -80,7 +78,7 @@ fn count_at(last: &[usize], state: u32) -> usize
     }
 }
 
-/// Adds entries 0 to the list, if it has no entry for the state.
+/// Appends zeros until the list has an entry for the state.
 fn cover(last: &mut Vec<usize>, state: u32) -> Result<(), AllocError>
     ensures within { OnOk result (state < length last.new.items) }
     ensures same { (k : ℕ) → slice_index last.new.items k ≡ slice_index last.old.items k }
@@ -91,8 +89,7 @@ fn cover(last: &mut Vec<usize>, state: u32) -> Result<(), AllocError>
     last.resize(state as usize + 1, 0)
 }
 
-/// The index of a step, if it is in the list. The first `count` steps are searched: the last of them leads to the same
-/// state, and no later step does.
+/// The index of a step among the first `count`, of which the last leads to the same state, as no later step does.
 fn place_among(list: &[Step], previous: &[usize], count: usize, step: Step) -> Option<usize>
     requires previous { ArePrevious list.now previous.now }
     requires count { IsCount list.now step.state (length list.now) count }

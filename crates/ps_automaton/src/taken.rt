@@ -13,7 +13,7 @@ use ps_diagram::{Node, OverlayError, Store};
 use ps_hoa::{Edge, Guard};
 use std::alloc::AllocError;
 
-/// The diagram of an edge, which has the leaf 1 at the letters at which the edge is taken, and no leaf elsewhere.
+/// The diagram with the leaf 1 at the letters at which an edge is taken, and no leaf elsewhere.
 pub(crate) fn taken(store: &mut Store, guards: &Guards, edge: &Edge) -> Result<Node, AllocError>
     requires { IsReadyTo store.old guards.now edge.now }
     ensures { MakesNode store.old store.new result (λ node. ShowsEdge guards.now.file.now (row_data guards.now.row.now)
@@ -29,7 +29,7 @@ pub(crate) fn taken(store: &mut Store, guards: &Guards, edge: &Edge) -> Result<N
     }
 }
 
-/// The diagram of an edge, which has the leaf `value` at the letters at which the edge is taken, and no leaf elsewhere.
+/// Like `taken`, with the leaf `value`.
 pub(crate) fn marked(
     store: &mut Store,
     guards: &Guards,
@@ -65,7 +65,7 @@ fn meet(store: &mut Store, one: Node, other: Node) -> Result<bool, AllocError>
     }
 }
 
-/// The first edge of a state that clashes with the given later edge of the state.
+/// The first edge that clashes with the given later edge of the state.
 pub(crate) fn first_clash(
     store: &mut Store,
     guards: &Guards,
@@ -87,8 +87,7 @@ pub(crate) fn first_clash(
     unreachable!()
 }
 
-/// Whether two edges of the state clash: they are taken at a common letter, but differ in their targets or sets.
-/// `letters` is the diagram of the letters at which the later edge is taken.
+/// Whether two edges clash: they share a letter, but differ in targets or sets. `later` is the diagram of the second.
 fn clashes(
     store: &mut Store,
     guards: &Guards,

@@ -8,17 +8,14 @@ ghost use Rattle.ps_automaton.specs.Inner.Targets.{IsTargetOf};
 
 use ps_hoa::{Edge, Row};
 
-/// A state, and the acceptance sets of an edge that leads to it: those that the edge names, and those of the state that
-/// the edge leaves.
+/// The state to which an edge leads, and the acceptance sets of the edge and of the state that it leaves.
 #[derive(Clone, Copy, PartialEq, Eq)]
 pub(crate) struct Target {
-    /// The state.
     pub state: u32,
-    /// The sets as a bit mask, in which bit k is 1 if the edge has set k.
+    /// Bit k is 1 if the edge has set k.
     pub sets: u64,
 }
 
-/// The target of an edge in a state's row.
 pub(crate) fn target_of(row: &Row, edge: &Edge) -> Target
     requires row { All (λ set. set < 64) (row_data row.now).marks }
     requires edge { All (λ set. set < 64) (edge_data edge.now).marks }
@@ -30,7 +27,6 @@ pub(crate) fn target_of(row: &Row, edge: &Edge) -> Target
     }
 }
 
-/// A list of acceptance sets as a bit mask, in which bit k is 1 if the set k is in the list.
 fn mask_of(sets: &[u32]) -> u64
     requires { All (λ set. set < 64) sets.now }
     ensures { (set : ℕ) → set < 64 → is_in set result ≡ is_among set sets.now }

@@ -13,17 +13,14 @@ use crate::targets::target_of;
 use ps_diagram::{Node, OverlayError, Store};
 use std::alloc::Global;
 
-/// The joined edges of a state: the leaf at a letter is the index of the target of the edge that is taken at this
-/// letter.
+/// The joined edges of a state: the leaf at a letter is the index of the target of its edge.
 #[derive(Drop)]
 pub(crate) struct Union {
-    /// The diagram.
     pub node: Node,
-    /// The targets, whose indices are the leaves of the diagram.
+    /// The targets, whose indices are the leaves.
     pub targets: Places,
 }
 
-/// Joins the edges of a state into one decision diagram.
 pub(crate) fn joined(
     alloc: Global,
     store: &mut Store,
@@ -43,7 +40,6 @@ pub(crate) fn joined(
     Ok(union)
 }
 
-/// Joins all edges of the state, one after the other.
 fn add_all(store: &mut Store, guards: &Guards, union: &mut Union) -> Result<(), AutomatonFault>
     requires { IsJoining guards.now 0 store.old union.old }
     ensures { Joins guards.now (length guards.now.row.now.edges.items) store.old store.new union.new result }
@@ -54,7 +50,7 @@ fn add_all(store: &mut Store, guards: &Guards, union: &mut Union) -> Result<(), 
     Ok(())
 }
 
-/// Joins the state's edge at the index `place` to the diagram of the edges before it.
+/// Joins the edge at the index `place` to the diagram of those before it.
 fn add(
     store: &mut Store,
     guards: &Guards,

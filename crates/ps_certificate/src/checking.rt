@@ -1,5 +1,4 @@
-//! The whole check of a certificate: it is closed, and each edge that the winner's moves allow obeys the rule of
-//! counts.
+//! The whole check of a certificate.
 
 ghost use Rattle.std.specs.Prelude.{◌≡◌, ℕ, ◌+◌, ◌<◌, ◌↔◌, IsTrue, IsOk, IfErr, OnOk, IfNone, IfSome};
 ghost use Rattle.ps_certificate.specs.Certificates.{Fits, IsValid, IsFirstFlaw};
@@ -15,9 +14,8 @@ use crate::flaw::Flaw;
 use crate::rising::Rising;
 use ps_game::{Arena, Player};
 
-/// The first priority for which an edge breaks the certificate's rule of counts, of those that oppose the winner of the
-/// vertex that the edge leaves. A binary search finds the first listed priority that is not less than the priority of
-/// either end of the edge; from there on, only nonzero counts are compared.
+/// The first opposing priority for which an edge breaks the rule of counts. A binary search finds the first that is not
+/// below either end of the edge; from there on, only nonzero counts are compared.
 fn broken_priority<A: Arena>(
     arena: &A,
     certificate: &Certificate,
@@ -46,8 +44,7 @@ fn broken_priority<A: Arena>(
     }
 }
 
-/// The first edge of a vertex that breaks the certificate's rule of counts, as a flaw; only edges that the winner's
-/// moves allow are considered.
+/// The first remaining edge of a vertex that breaks the rule of counts.
 fn unranked_at<A: Arena>(arena: &A, certificate: &Certificate, vertex: usize) -> Option<Flaw>
     requires { IsRankable (A.game arena.now) certificate.now vertex }
     ensures none { IfNone result (KeepsCountsAt (A.game arena.now) certificate.now vertex) }
@@ -80,8 +77,7 @@ fn unranked_at<A: Arena>(arena: &A, certificate: &Certificate, vertex: usize) ->
     None
 }
 
-/// The first flaw in the counts of the vertices up to and including `vertex`, given the first flaw in the counts of the
-/// earlier vertices.
+/// The first flaw in the counts up to `vertex`, given that of the earlier ones.
 fn unranked_through<A: Arena>(
     arena: &A,
     certificate: &Certificate,
@@ -100,15 +96,13 @@ fn unranked_through<A: Arena>(
     }
 }
 
-/// Checks whether a certificate is valid: it is closed, and each edge that the winner's moves allow obeys the rule of
-/// counts. If the certificate is not valid, the error is its first flaw. If the certificate is not closed, its first
-/// flaw is the one that [`crate::closed`] returns. If it is closed, its first flaw is the first edge, of those that the
-/// winner's moves allow, that breaks the rule of counts, ordered by vertex, successor and priority. Allocates no
+/// Checks whether a certificate is valid: it is closed, and each remaining edge obeys the rule of counts. Allocates no
 /// memory.
 ///
 /// # Errors
 ///
-/// The first [`Flaw`].
+/// The first [`Flaw`]: the one that [`crate::closed`] returns, or else the first remaining edge that breaks the rule,
+/// ordered by vertex, successor and priority.
 pub fn check<A: Arena>(arena: &A, certificate: &Certificate) -> Result<(), Flaw>
     requires { Fits (A.game arena.now) certificate.now }
     ensures exact { IsOk result ↔ IsValid (A.game arena.now) certificate.now }

@@ -1,5 +1,4 @@
-//! The first half of a certificate's check: no move is wrong, and each edge that the winner's moves allow leads to a
-//! vertex with the same winner.
+//! The first half of a certificate's check.
 
 ghost use Rattle.std.specs.Prelude.{◌≡◌, ◌≢◌, ℕ, ◌<◌, ◌↔◌, IsTrue, IsOk, IfErr, OnOk, IfNone, IfSome, length};
 ghost use Rattle.ps_game.specs.Games.{vertex_count, owner_of, successors_of, HasEdge};
@@ -12,7 +11,6 @@ use crate::certificate::Certificate;
 use crate::flaw::Flaw;
 use ps_game::Arena;
 
-/// Whether an edge leads from one vertex to another.
 fn has_edge<A: Arena>(arena: &A, vertex: usize, successor: usize) -> bool
     requires { vertex < vertex_count (A.game arena.now) }
     ensures { IsTrue result ↔ HasEdge (A.game arena.now) vertex successor }
@@ -25,7 +23,7 @@ fn has_edge<A: Arena>(arena: &A, vertex: usize, successor: usize) -> bool
     false
 }
 
-/// Whether the move of a vertex is right: a successor if the winner owns the vertex, and otherwise none.
+/// Whether the move of a vertex is right: a successor if the winner owns the vertex, else none.
 fn has_right_move<A: Arena>(arena: &A, certificate: &Certificate, vertex: usize) -> bool
     requires { HasEntry (A.game arena.now) certificate.now vertex }
     ensures { IsTrue result ↔ HasRightMove (A.game arena.now) certificate.now vertex }
@@ -40,8 +38,7 @@ fn has_right_move<A: Arena>(arena: &A, certificate: &Certificate, vertex: usize)
     }
 }
 
-/// The successor to which a vertex's first escape leads. An escape is an edge that the winner's moves allow, but that
-/// leads to a vertex with the other winner.
+/// The end of a vertex's first escape.
 fn first_escape<A: Arena>(arena: &A, certificate: &Certificate, vertex: usize) -> Option<usize>
     requires { HasRightEntry (A.game arena.now) certificate.now vertex }
     ensures none { IfNone result (StaysInside (A.game arena.now) certificate.now vertex) }
@@ -64,8 +61,7 @@ fn first_escape<A: Arena>(arena: &A, certificate: &Certificate, vertex: usize) -
     None
 }
 
-/// The first flaw of a vertex that the first half of the check finds: a wrong move, or else the first edge that the
-/// winner's moves allow and that leads to a vertex with the other winner.
+/// The first flaw of a vertex: a wrong move, or else its first escape.
 pub(crate) fn unsound_at<A: Arena>(
     arena: &A,
     certificate: &Certificate,
@@ -85,15 +81,13 @@ pub(crate) fn unsound_at<A: Arena>(
     }
 }
 
-/// Checks that no move is wrong, and that each edge that the winner's moves allow leads to a vertex with the same
-/// winner. An escape is an edge that the winner's moves allow, but that leads to a vertex with the other winner. The
-/// error is the first flaw of the first vertex that has a wrong move or an escape. At the same vertex, a wrong move
-/// comes before the escapes, which are in the order of the successors. The function ignores the certificate's
-/// priorities and counts, and allocates no memory.
+/// Checks that no move is wrong, and that no remaining edge is an escape, which leads to a vertex with the other
+/// winner. Ignores priorities and counts, and allocates no memory.
 ///
 /// # Errors
 ///
-/// The error is [`Flaw::Move`] or [`Flaw::Escape`], whichever comes first.
+/// [`Flaw::Move`] or [`Flaw::Escape`], of the first vertex that has one: a wrong move, or else its first escape in the
+/// order of the successors.
 pub fn closed<A: Arena>(arena: &A, certificate: &Certificate) -> Result<(), Flaw>
     requires { length certificate.now.entries ≡ vertex_count (A.game arena.now) }
     ensures exact { IsOk result ↔ IsClosed (A.game arena.now) certificate.now }

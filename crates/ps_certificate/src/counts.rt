@@ -7,7 +7,7 @@ use ps_game::NonzeroCount;
 use std::alloc::{AllocError, Global};
 use std::marker::Model;
 
-/// A growing list of counts. Only the nonzero counts are stored, each with its index.
+/// A growing list of counts, stored as in a `Row`.
 #[derive(Debug, Drop)]
 pub(crate) struct Counts {
     width: usize,
@@ -26,7 +26,6 @@ impl Model for Counts {
 }
 
 impl Counts {
-    /// An empty list of counts.
     pub(crate) fn new(alloc: Global) -> Self
         ensures { result ≡ [] }
     {
@@ -36,7 +35,6 @@ impl Counts {
         }
     }
 
-    /// The given counts. Fails if out of memory.
     pub(crate) fn of(alloc: Global, list: &[u64]) -> Result<Self, AllocError>
         ensures { IfOk result (λ counts. counts ≡ list.now) }
     {
@@ -47,7 +45,6 @@ impl Counts {
         Ok(counts)
     }
 
-    /// Removes all counts.
     pub(crate) fn clear(&mut self)
         ensures { self.new ≡ [] }
     {
@@ -55,7 +52,6 @@ impl Counts {
         self.width = 0;
     }
 
-    /// Appends a count. Fails if out of memory.
     pub(crate) fn push(&mut self, count: u64) -> Result<(), AllocError>
         requires { length self.old + 1 < 2 ^ 64 }
         ensures { OnOk result (self.new ≡ self.old ++ count ∷ []) }
@@ -76,7 +72,6 @@ impl Counts {
         self.width = width;
     }
 
-    /// The counts.
     pub(crate) fn row(&self) -> Row<'_>
         ensures { result ≡ self.now }
     {

@@ -4,18 +4,17 @@ ghost use Rattle.ps_certificate.specs.Faults.{cause_number, cause_name};
 
 use ps_text::faults::{Cause, Fault};
 
-/// What is wrong with the text of a certificate, or with the text of a solution, which the crate `ps_solution` parses.
+/// What is wrong with the text of a certificate, or of a solution, which the crate `ps_solution` parses.
 #[derive(Clone, Copy, Debug, PartialEq, Eq)]
 pub enum CertCause {
-    /// The text does not have the form of a certificate, or a number in it does not fit in 64 bits. In a compact text,
-    /// no count may be 0, and the priorities in a line must ascend.
+    /// The text does not have the form of a certificate, or a number does not fit in 64 bits. In a compact text, no
+    /// count may be 0, and the priorities in a line must ascend.
     Syntax,
-    /// At the offset of the error, the text disagrees with the given game; before this offset, the text's form is
-    /// right.
+    /// The text disagrees with the given game at this offset; up to it, its form is right.
     OtherGame,
 }
 
-/// Why the parser returned no certificate: the text has an error, which is given with its offset, or memory ran out.
+/// Why there is no certificate: an error in the text, with its offset, or out of memory.
 pub type CertFault = Fault<CertCause>;
 
 impl Cause for CertCause {

@@ -1,4 +1,4 @@
-//! The functions that parse single fields in the text of a certificate.
+//! The parsers of single fields.
 
 ghost use Rattle.std.specs.Prelude.{◌≡◌, ◌≢◌, ◌<◌, drop};
 ghost use Rattle.std.specs.List.{Contains};
@@ -22,7 +22,7 @@ pub(crate) fn ends(cursor: &Cursor) -> bool
     matches!(cursor.peek(), Some(b' ' | b'\n' | b':'))
 }
 
-/// Parses the next number: a single 0, or digits that don't begin with 0.
+/// Parses the next number: 0, or digits that don't begin with 0.
 pub(crate) fn number(cursor: &mut Cursor) -> Result<u64, CertFault>
     ensures { TellsNumber cursor.old result cursor.new }
 {
@@ -41,7 +41,7 @@ pub(crate) fn number(cursor: &mut Cursor) -> Result<u64, CertFault>
     }
 }
 
-/// Parses the next number; if a space, a newline or a colon follows the number, it must equal `wanted`.
+/// Parses the next number, which must equal `wanted` if a space, a newline or a colon follows.
 pub(crate) fn exactly(cursor: &mut Cursor, wanted: u64) -> Result<u64, CertFault>
     ensures { Tells (λ n. n) (parts.number (λ n. n ≢ wanted)) cursor.old result cursor.new }
 {
@@ -53,7 +53,7 @@ pub(crate) fn exactly(cursor: &mut Cursor, wanted: u64) -> Result<u64, CertFault
     Ok(found)
 }
 
-/// Moves past the rest of a line that must list the given priorities, each after a space.
+/// Moves past the rest of a line, which must list the priorities, each after a space.
 pub(crate) fn priorities(cursor: &mut Cursor, priorities: &[u64]) -> Result<(), CertFault>
     ensures { Tells (λ u. u) (parts.priorities priorities.now) cursor.old result cursor.new }
 {
@@ -64,8 +64,7 @@ pub(crate) fn priorities(cursor: &mut Cursor, priorities: &[u64]) -> Result<(), 
     line_end(cursor, left)
 }
 
-/// Moves past a space and a number, which must be the first of the listed priorities. Returns the list without its
-/// first priority.
+/// Moves past a space and the first of the priorities. Returns the others.
 fn listed<'p>(cursor: &mut Cursor, priorities: &'p [u64]) -> Result<&'p [u64], CertFault>
     ensures { Tells (λ left. left.now) (parts.priority priorities.now) cursor.old result cursor.new }
 {
@@ -78,8 +77,7 @@ fn listed<'p>(cursor: &mut Cursor, priorities: &'p [u64]) -> Result<&'p [u64], C
     Ok(without_first(priorities))
 }
 
-/// Moves past the newline that ends a line of priorities. Any other byte is an error, and so is a newline while
-/// priorities of the game are still missing in the line.
+/// Moves past the newline that ends a line of priorities, none of which may be left.
 fn line_end(cursor: &mut Cursor, left: &[u64]) -> Result<(), CertFault>
     ensures { Tells (λ u. u) (one (take_byte 10) (IsMissing left.now)) cursor.old result cursor.new }
 {
@@ -93,7 +91,7 @@ fn line_end(cursor: &mut Cursor, left: &[u64]) -> Result<(), CertFault>
     Ok(())
 }
 
-/// Parses the version of a certificate's text, 1 or 2. Returns whether the certificate's text is compact.
+/// Parses the version, 1 or 2. Returns whether the text is compact.
 pub(crate) fn version(cursor: &mut Cursor) -> Result<bool, CertFault>
     ensures { Tells (λ v. v) parts.version cursor.old result cursor.new }
 {
@@ -123,7 +121,7 @@ pub(crate) fn winner(cursor: &mut Cursor) -> Result<Player, CertFault>
     Err(cursor.refusal(CertCause::Syntax))
 }
 
-/// Parses a move, which is `-` for none, or the id of a vertex.
+/// Parses a move: `-` for none, or the id of a vertex.
 pub(crate) fn choice(cursor: &mut Cursor, ids: &Places<'_>) -> Result<Option<usize>, CertFault>
     ensures { Tells (λ c. c) (parts.choice ids.now) cursor.old result cursor.new }
 {
@@ -140,7 +138,7 @@ pub(crate) fn choice(cursor: &mut Cursor, ids: &Places<'_>) -> Result<Option<usi
     Ok(vertex)
 }
 
-/// Parses `count` counts, each after a space, and then the end of the line.
+/// Parses `count` counts, each after a space, and the end of the line.
 pub(crate) fn all_counts(
     cursor: &mut Cursor,
     count: usize,
@@ -157,7 +155,6 @@ pub(crate) fn all_counts(
     Ok(())
 }
 
-/// A list without its first element.
 fn without_first(list: &[u64]) -> &[u64]
     ensures { result.now ≡ drop 1 list.now }
 {

@@ -1,4 +1,4 @@
-//! Whether a certificate has the form that a game requires.
+//! Whether a certificate fits a game.
 
 ghost use Rattle.std.specs.Prelude.{◌≡◌, ℕ, ◌+◌, ◌%◌, ◌<◌, ◌≤◌, ◌↔◌, IsTrue, length};
 ghost use Rattle.std.specs.List.{All};
@@ -11,10 +11,10 @@ use crate::certificate::Certificate;
 use crate::rising::{Rising, is_rising};
 use ps_game::{Arena, Player};
 
-/// How many of the certificate's listed priorities are searched for in one pass over the vertices.
+/// How many of the listed priorities are searched for in one pass over the vertices.
 const WINDOW: usize = 1024;
 
-/// Whether an ascending list contains the priority of every vertex whose priority has a given parity.
+/// Whether an ascending list has each of the game's priorities of one parity.
 fn is_complete<A: Arena>(arena: &A, parity: u64, rising: Rising<'_>) -> bool
     ensures { IsTrue result ↔ IsComplete (A.game arena.now) parity rising.entry.list.now }
 {
@@ -27,8 +27,7 @@ fn is_complete<A: Arena>(arena: &A, parity: u64, rising: Rising<'_>) -> bool
     true
 }
 
-/// Whether each number of a short ascending list is the priority of some vertex. The function makes one pass over the
-/// vertices, and searches the list for each vertex's priority.
+/// Whether each number of a short list is the priority of some vertex, by one pass over the vertices.
 fn window_present<A: Arena>(arena: &A, window: Rising<'_>) -> bool
     requires { length window.list.now ≤ 1024 }
     ensures { IsTrue result ↔ All (HasPriority (A.game arena.now)) window.entry.list.now }
@@ -47,8 +46,7 @@ fn window_present<A: Arena>(arena: &A, window: Rising<'_>) -> bool
     true
 }
 
-/// Whether a short ascending list has exactly the game's priorities of one parity. The function makes one pass over the
-/// vertices. If a vertex's priority has the given parity, the list is searched for it.
+/// Whether a short list has exactly the game's priorities of one parity.
 fn is_just<A: Arena>(arena: &A, parity: u64, rising: Rising<'_>) -> bool
     requires right_parity { All (λ p. p % 2 ≡ parity) rising.list.now }
     requires short { length rising.list.now ≤ 1024 }
@@ -74,8 +72,8 @@ fn is_just<A: Arena>(arena: &A, parity: u64, rising: Rising<'_>) -> bool
     true
 }
 
-/// Whether each number of an ascending list is the priority of some vertex. The function makes one pass over the
-/// vertices for every 1024 numbers of the list, and allocates no memory.
+/// Whether each number of a list is the priority of some vertex, by one pass for every 1024 numbers. Allocates no
+/// memory.
 fn all_present<A: Arena>(arena: &A, rising: Rising<'_>) -> bool
     ensures { IsTrue result ↔ All (HasPriority (A.game arena.now)) rising.entry.list.now }
 {
@@ -94,7 +92,6 @@ fn all_present<A: Arena>(arena: &A, rising: Rising<'_>) -> bool
     true
 }
 
-/// Whether a list has exactly the game's priorities of one parity, in ascending order.
 fn lists_priorities<A: Arena>(arena: &A, parity: u64, list: &[u64]) -> bool
     ensures { IsTrue result ↔ ListsPriorities (A.game arena.now) parity list.now }
 {
@@ -111,8 +108,6 @@ fn lists_priorities<A: Arena>(arena: &A, parity: u64, list: &[u64]) -> bool
     is_complete(arena, parity, rising) && all_present(arena, rising)
 }
 
-/// Whether the entry of a vertex has 0 or 1 as its winner, a vertex or none as its move, and one count for each
-/// priority that opposes the winner.
 fn entry_fits(certificate: &Certificate, vertices: usize, vertex: usize) -> bool
     requires { vertex < length certificate.now.entries }
     ensures { IsTrue result ↔ EntryFits vertices certificate.now vertex }
@@ -131,9 +126,9 @@ fn entry_fits(certificate: &Certificate, vertices: usize, vertex: usize) -> bool
     }
 }
 
-/// Whether a certificate fits a game. A certificate that fits has one entry for each vertex, with 0 or 1 as the winner,
-/// a vertex or none as the move, and one count for each priority that opposes the winner. Such a certificate also lists
-/// exactly the odd and the even priorities of the game, each list in ascending order. Allocates no memory.
+/// Whether a certificate fits a game: it lists exactly the odd and the even priorities of the game, each in ascending
+/// order, and has one entry for each vertex, with 0 or 1 as the winner, a vertex or none as the move, and one count for
+/// each priority that opposes the winner. Allocates no memory.
 pub fn fits<A: Arena>(arena: &A, certificate: &Certificate) -> bool
     ensures { IsTrue result ↔ Fits (A.game arena.now) certificate.now }
 {

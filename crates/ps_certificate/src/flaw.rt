@@ -5,27 +5,26 @@ ghost use Rattle.std.specs.Prelude.{◌≡◌};
 /// The first thing that is wrong with a certificate. Vertices are given by their indices, from 0.
 #[derive(Clone, Copy, Debug, PartialEq, Eq)]
 pub enum Flaw {
-    /// The move of a vertex is wrong: the winner owns the vertex and the move is missing or is not a successor, or the
-    /// loser owns the vertex and it has a move.
+    /// A wrong move: the winner owns the vertex and the move is missing or not a successor, or the loser owns it and
+    /// there is a move.
     Move {
         /// The vertex.
         vertex: usize,
-        /// The wrong move that the certificate gives for the vertex, or none if the move is missing.
+        /// The move, or none if it is missing.
         choice: Option<usize>,
     },
     /// The winner's move, or an edge of a vertex that the loser owns, leads to a vertex with the other winner.
     Escape {
         /// The vertex.
         vertex: usize,
-        /// The successor to which the edge leads, and which the other player wins.
+        /// The end of the edge, which the other player wins.
         successor: usize,
     },
-    /// An edge that the winner's moves allow breaks the certificate's rule of counts for a priority that opposes the
-    /// winner.
+    /// A remaining edge breaks the rule of counts for a priority that opposes the winner.
     Rank {
-        /// The vertex that the faulty edge leaves.
+        /// The vertex that the edge leaves.
         vertex: usize,
-        /// The vertex that the faulty edge enters.
+        /// The vertex that it enters.
         successor: usize,
         /// The opposing priority.
         priority: u64,

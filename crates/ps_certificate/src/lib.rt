@@ -1,18 +1,16 @@
 //! Certificates of parity games, which state who wins each vertex, by which move, and why.
 //!
-//! A certificate proves its winners by counts: each vertex has one count for each priority that opposes its winner,
-//! that is, for each priority of the other player's parity. The winner's moves allow an edge (called a remaining edge)
-//! if it is one of these moves, or if it leaves a vertex that the loser owns. The rule of counts is this: along an edge
-//! that the winner's moves allow, the count for a priority does not rise if neither end of the edge has a greater
-//! priority. The count for a priority p falls along an edge that the winner's moves allow, from a vertex of priority p
-//! to a vertex of priority at most p. The file docs/CERTIFICATES.md describes the format of certificates and the rule
-//! of counts, for those who write another checker of certificates.
+//! A certificate proves its winners by counts: each vertex has one for each priority of the other player's parity,
+//! which opposes its winner. An edge remains if it is the winner's move, or leaves a vertex that the loser owns. The
+//! rule of counts: if no end of a remaining edge has a priority above p, the count for p does not rise along it, and
+//! falls if the edge leaves a vertex of priority p. docs/CERTIFICATES.md tells format and rule to those who write
+//! another checker.
 //!
 //! | Call | What it gives |
 //! |---|---|
 //! | `read(text, game)` | the certificate of a text, plain or compact, that fits the game, or the first `CertFault` |
-//! | `fits(arena, certificate)` | exactly whether a certificate has the form that the checks need |
-//! | `closed(arena, certificate)` | Ok exactly if moves are right and stay in their region; else the first `Flaw` |
+//! | `fits(arena, certificate)` | whether a certificate has the form that the checks need |
+//! | `closed(arena, certificate)` | Ok if moves are right and remaining edges stay inside; else the first `Flaw` |
 //! | `check(arena, certificate)` | Ok exactly if the certificate is valid; else the first `Flaw` |
 //! | `ids_of(game)` | the ids of a game's vertices, and the index of each id |
 //! | `write`, `write_compact` | the text with all counts; the text with the nonzero counts, each after its priority |
@@ -23,9 +21,8 @@
 //! | `Row::at`, `len`, `copy_into` | the counts of a vertex as a list, of which only the nonzero counts are stored |
 //! | `Flaw::number`, `name` | the number and name of a flaw in psyn's list of faults |
 //!
-//! The checks `fits`, `closed` and `check` allocate no memory. The check `closed` ignores priorities and counts, and
-//! takes time proportional to the number of edges. The whole check, `check`, takes time proportional to the number of
-//! edges, times the number of priorities.
+//! `fits`, `closed` and `check` allocate no memory. `closed` ignores priorities and counts, and takes time proportional
+//! to the number of edges; `check`, times the number of priorities.
 //!
 //! | Law | What it says |
 //! |---|---|
@@ -34,7 +31,7 @@
 //! | `no_strategy_wins_outside` | no strategy of finite memory and no history table wins outside its player's region |
 //! | `winners_are_one` | valid certificates of one game have the same winner at each vertex |
 //! | `first_flaw_is_one` | a certificate has at most one first flaw |
-//! | `first_flaw_is_there` | a certificate has a first flaw, unless it is closed, or fits and is valid |
+//! | `first_flaw_is_there` | a certificate that is not closed has a first flaw; so has one that fits and is not valid |
 //! | `certificate_text_has_one_answer`, `certificate_text_has_some_answer` | a text has exactly one answer for a game |
 //! | `read_certificate_fits` | the certificate that a text describes fits the game |
 #![tactic(auto)]

@@ -1,4 +1,4 @@
-//! The parser of the nonzero counts in a line of a certificate's compact text, each after its priority.
+//! The parser of the counts in a line.
 
 ghost use Rattle.std.specs.Prelude.{◌≡◌, ◌<◌, IfOk, length, slice_index, true};
 ghost use Rattle.ps_certificate.specs.Pairs.{Pairs, with_pair};
@@ -12,8 +12,8 @@ use crate::fields::{all_counts, ends, number};
 use crate::rising::Rising;
 use ps_text::cursor::Cursor;
 
-/// Parses the counts for the given priorities, and the end of the line: all counts, or the nonzero ones in a compact
-/// text. The counts that were parsed replace the contents of the list `counts`.
+/// Parses the counts for these priorities, all or those of a compact text, and the end of the line. They replace
+/// `counts`.
 pub(crate) fn counts_for(
     cursor: &mut Cursor,
     priorities: Rising<'_>,
@@ -30,8 +30,7 @@ pub(crate) fn counts_for(
     }
 }
 
-/// Parses pairs of a priority and its count, each after a space, and the end of the line. A count that the compact text
-/// leaves out is 0.
+/// Parses pairs of a priority and its count, and the end of the line. Counts that are left out are 0.
 fn pairs(cursor: &mut Cursor, priorities: Rising<'_>, counts: &mut Counts) -> Result<(), CertFault>
     ensures { Tells (λ _. counts.new) (parts.counts_in true priorities.entry.list.now) cursor.old result
         cursor.new }
@@ -49,8 +48,7 @@ fn pairs(cursor: &mut Cursor, priorities: Rising<'_>, counts: &mut Counts) -> Re
     Ok(())
 }
 
-/// Parses a pair, whose priority must be greater than `last`. Returns the index of this priority in the list
-/// `priorities`, and the pair's count.
+/// Parses a pair, whose priority must be greater than `last`. Returns the index of the priority, and the count.
 fn pair(
     cursor: &mut Cursor,
     priorities: Rising<'_>,
@@ -70,7 +68,7 @@ fn pair(
     Ok((place, count))
 }
 
-/// Parses the priority of a pair, which must be greater than `last`. Returns its index in the list `priorities`.
+/// Parses the priority of a pair. Returns its index.
 fn priority(
     cursor: &mut Cursor,
     priorities: Rising<'_>,
@@ -108,7 +106,6 @@ fn positive(cursor: &mut Cursor) -> Result<u64, CertFault>
     Ok(count)
 }
 
-/// Whether a number is greater than `last`; true if there is no last number.
 fn is_above(number: u64, last: Option<u64>) -> bool
     ensures { result ≡ rises last number }
 {

@@ -1,4 +1,4 @@
-//! The indices of a game's vertices by their ids.
+//! The indices of vertices by their ids.
 
 ghost use Rattle.std.specs.Prelude.{◌≡◌, ◌==◌, ◌<◌, ◌↔◌, IsTrue, IfOk, is_some, length, position, slice_index};
 ghost use Rattle.std.specs.List.{list_any};
@@ -11,11 +11,11 @@ use ps_ids::Ids;
 use std::alloc::{AllocError, Global};
 use std::marker::Model;
 
-/// The ids of a game's vertices. In most games, each vertex's id is the vertex's own index; then no table is stored.
+/// The ids of a game's vertices. In most games each is the vertex's own index; then no table is stored.
 #[derive(Drop)]
 pub(crate) struct Places<'a> {
     game: &'a NamedGame,
-    /// The index of each id; none if each id is the index of its own vertex.
+    /// The index of each id; none if each id is its vertex's index.
     table: Option<Ids>,
 }
 
@@ -31,7 +31,6 @@ impl<'a> Model for Places<'a> {
 }
 
 impl<'a> Places<'a> {
-    /// The ids of a game's vertices. Fails if out of memory.
     pub(crate) fn of(alloc: Global, game: &'a NamedGame) -> Result<Self, AllocError>
         ensures { IfOk result (λ places. places ≡ game.now.ids) }
     {
@@ -45,7 +44,7 @@ impl<'a> Places<'a> {
         })
     }
 
-    /// The index of the vertex with an id, or `None` if the number is not an id.
+    /// The index of the vertex with an id, if there is one.
     #[inline(always)]
     pub(crate) fn place(&self, id: u64) -> Option<usize>
         ensures place { result ≡ position (λ other. id == other) self.now }
@@ -60,7 +59,6 @@ impl<'a> Places<'a> {
         }
     }
 
-    /// Whether a number is the id of the vertex with this index.
     #[inline(always)]
     fn is_own(&self, id: u64) -> bool
         ensures own { IsTrue result ↔ ((id < length self.now) × (slice_index self.now id ≡ id)) }
@@ -71,7 +69,6 @@ impl<'a> Places<'a> {
     }
 }
 
-/// Whether the id of each vertex is the vertex's own index.
 fn are_own(game: &NamedGame) -> bool
     ensures { IsTrue result ↔ AreOwn game.now.ids }
 {

@@ -5,7 +5,6 @@ ghost use Rattle.std.specs.List.{Contains};
 ghost use Rattle.std.specs.List.Sorted.{IsStrictlyIncreasing};
 ghost use Rattle.ps_certificate.specs.Inner.Prefixes.{IsAt};
 
-/// Whether each number of a list is less than the number after it.
 pub(crate) fn is_rising(list: &[u64]) -> bool
     ensures { IsTrue result ↔ IsStrictlyIncreasing list.now }
 {
@@ -19,16 +18,14 @@ pub(crate) fn is_rising(list: &[u64]) -> bool
     true
 }
 
-/// An ascending list of numbers.
 #[derive(Clone, Copy)]
 pub(crate) struct Rising<'a> {
-    /// The numbers.
     pub(crate) list: &'a [u64],
     ghost rises: { IsStrictlyIncreasing list.now },
 }
 
 impl<'a> Rising<'a> {
-    /// The index of a number in the ascending list, or `None` if the list doesn't have it.
+    /// The index of a number, or `None` if the list doesn't have it.
     pub(crate) fn place_of(self, number: u64) -> Option<usize>
         ensures none { IfNone result (¬ Contains self.entry.list.now number) }
         ensures some { IfSome result (IsAt self.entry.list.now number) }
@@ -43,7 +40,7 @@ impl<'a> Rising<'a> {
         }
     }
 
-    /// The index of the first number of the list that is at least `number`.
+    /// The index of the first number that is at least `number`.
     pub(crate) fn first_at_least(self, number: u64) -> usize
         ensures within { result ≤ length self.entry.list.now }
         ensures before { (k : ℕ) → k < result → slice_index self.entry.list.now k < number }
@@ -63,8 +60,7 @@ impl<'a> Rising<'a> {
         }
     }
 
-    /// The index of the first number that is at least `number`, if the list counts up by two. Most lists of priorities
-    /// of one parity do.
+    /// The same, if the list counts up by two, as most lists of priorities of one parity do.
     fn likely_place(self, number: u64) -> usize {
         match self.list {
             [first, ..] => number.saturating_sub(*first).div_ceil(2) as usize,
@@ -72,7 +68,6 @@ impl<'a> Rising<'a> {
         }
     }
 
-    /// Whether the numbers before the index `place` are less than `number`.
     fn are_less_before(self, number: u64, place: usize) -> bool
         requires { place ≤ length self.list.now }
         ensures { IsTrue result ↔ ((k : ℕ) → k < place → slice_index self.entry.list.now k < number) }
@@ -83,7 +78,6 @@ impl<'a> Rising<'a> {
         self.list[place - 1] < number
     }
 
-    /// Whether the numbers from the index `place` on are at least `number`.
     fn are_not_less_from(self, number: u64, place: usize) -> bool
         requires { place ≤ length self.list.now }
         ensures { IsTrue result ↔ ((k : ℕ) → place ≤ k → k < length self.entry.list.now →

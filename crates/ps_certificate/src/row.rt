@@ -1,5 +1,4 @@
-//! The counts of one vertex's entry in a certificate. Most counts of a certificate are 0; only the nonzero counts are
-//! stored, each with its index.
+//! The counts of one vertex, of which only the nonzero ones are stored, each with its index.
 
 ghost use Rattle.std.specs.Prelude.{◌≡◌, ◌==◌, ◌<◌, ◌↔◌, length, slice_index, IfNone, IfSome, IsTrue, OnOk};
 ghost use Rattle.ps_certificate.specs.Sparse.{IsFirstFrom, IsFirstAbove, AreAtMost, AreBefore, AreRising, count_at};
@@ -17,8 +16,7 @@ pub(crate) struct Stored<'a> {
 }
 
 impl<'a> Stored<'a> {
-    /// The number of stored counts whose index is less than `place`. The search skips the first `hint` stored counts if
-    /// all of them have indices less than `place`; otherwise it begins at the first stored count.
+    /// The number of stored counts whose index is less than `place`; the search skips the first `hint` if it may.
     fn first_from(&self, hint: usize, place: usize) -> usize
         ensures { IsFirstFrom self.now.list.now place result }
     {
@@ -30,7 +28,7 @@ impl<'a> Stored<'a> {
         number
     }
 
-    /// Whether there are at least `number` stored counts, and the first `number` all have indices less than `place`.
+    /// Whether there are `number` stored counts or more, of which the first `number` have indices less than `place`.
     fn is_before(&self, number: usize, place: usize) -> bool
         ensures { IsTrue result ↔ AreBefore self.now.list.now place number }
     {
@@ -38,7 +36,7 @@ impl<'a> Stored<'a> {
         number == 0 || number <= placed.len() && placed[number - 1].place < place
     }
 
-    /// The count at an index, given the number of stored counts with smaller indices.
+    /// The count at an index, given the number of stored counts before it.
     fn count_in(&self, place: usize, number: usize) -> u64
         requires { IsFirstFrom self.now.list.now place number }
         ensures { result ≡ count_at self.now.list.now place }
@@ -71,7 +69,7 @@ impl<'a> Model for Row<'a> {
 }
 
 impl<'a> Row<'a> {
-    /// A row of `width` counts, given its nonzero counts by ascending index.
+    /// A row of `width` counts, given the nonzero ones by ascending index.
     #[inline(always)]
     pub fn of(width: usize, nonzero: &'a [NonzeroCount]) -> Row<'a>
         requires { IsRow width nonzero.now }
@@ -81,21 +79,21 @@ impl<'a> Row<'a> {
         Row { width, placed }
     }
 
-    /// The number of the entry's counts, including those that are 0.
+    /// The number of counts, zeros included.
     pub fn len(&self) -> usize
         ensures { result ≡ length self.now }
     {
         self.width
     }
 
-    /// Whether the entry has no counts.
+    /// Whether there are no counts.
     pub fn is_empty(&self) -> bool
         ensures { result ≡ (length self.now == 0) }
     {
         self.width == 0
     }
 
-    /// The entry's count at an index.
+    /// The count at an index.
     pub fn at(&self, place: usize) -> u64
         requires { place < length self.now }
         ensures { result ≡ slice_index self.now place }
@@ -104,7 +102,7 @@ impl<'a> Row<'a> {
         self.placed.count_in(place, number)
     }
 
-    /// Replaces the contents of a list by the entry's counts. Fails if out of memory.
+    /// Replaces a list by the counts. Fails if out of memory.
     pub fn copy_into(&self, list: &mut Vec<u64>) -> Result<(), AllocError>
         ensures { OnOk result (list.new.items ≡ self.now) }
     {
@@ -118,7 +116,7 @@ impl<'a> Row<'a> {
         Ok(())
     }
 
-    /// The first index, at `from` or later, at which this entry's count is greater than the other entry's.
+    /// The first index, at `from` or later, at which the count is greater than the other row's.
     pub(crate) fn first_above(&self, other: &Row<'_>, from: usize) -> Option<usize>
         requires { length other.now ≡ length self.now }
         ensures none { IfNone result (AreAtMost self.now other.now from (length self.now)) }

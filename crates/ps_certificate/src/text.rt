@@ -24,21 +24,18 @@ use ps_ids::Ids;
 use ps_text::cursor::Cursor;
 use std::alloc::{AllocError, Global};
 
-/// What the parser knows about the game before it reads the text.
+/// What is known of the game before the text is read.
 #[derive(Drop)]
 struct Known<'a> {
-    /// The odd priorities of the game, ascending.
     odd: Vec<u64>,
-    /// The even priorities of the game, ascending.
     even: Vec<u64>,
-    /// The ids of the game's vertices.
     ids: Places<'a>,
     ghost odd_rises: { IsStrictlyIncreasing odd.items },
     ghost even_rises: { IsStrictlyIncreasing even.items },
 }
 
 impl<'a> Known<'a> {
-    /// The priorities that oppose a player: those of the opponent's parity, in ascending order.
+    /// The priorities that oppose a player, ascending.
     fn lost_by(&self, player: Player) -> Rising<'_>
         ensures { result.list.now ≡ parts.lost_by self.now.odd.items self.now.even.items player }
     {
@@ -51,7 +48,7 @@ impl<'a> Known<'a> {
     }
 }
 
-/// The ids of a game's vertices, and the index of each id. Fails if out of memory.
+/// The ids of a game's vertices, and the index of each. Fails if out of memory.
 pub fn ids_of(alloc: Global, game: &NamedGame) -> Result<Ids, AllocError>
     ensures { IfOk result (λ ids. ids ≡ game.now.ids) }
 {
@@ -62,8 +59,7 @@ pub fn ids_of(alloc: Global, game: &NamedGame) -> Result<Ids, AllocError>
     Ok(ids)
 }
 
-/// Parses the lines of a certificate's text that come before the lines of the vertices. Returns whether the text is
-/// compact.
+/// Parses the lines before those of the vertices. Returns whether the text is compact.
 fn head(cursor: &mut Cursor, known: &Known<'_>, count: usize) -> Result<bool, CertFault>
     ensures { (ids : List ℕ) → count ≡ length ids → TellsHead known.now.odd.items known.now.even.items ids cursor.old
         result cursor.new }
@@ -79,15 +75,13 @@ fn head(cursor: &mut Cursor, known: &Known<'_>, count: usize) -> Result<bool, Ce
     Ok(compact)
 }
 
-/// The winner of a vertex, and the winner's move.
 #[derive(Clone, Copy)]
 struct Won {
     winner: Player,
     choice: Option<usize>,
 }
 
-/// Parses the line of the vertex with the given id. Returns the vertex's winner and move; the vertex's counts replace
-/// the contents of `counts`.
+/// Parses the line of the vertex with this id; its counts replace `counts`.
 fn entry(
     cursor: &mut Cursor,
     known: &Known<'_>,
@@ -108,7 +102,7 @@ fn entry(
     Ok(Won { winner, choice })
 }
 
-/// Parses the certificate's entries of all vertices, one line each.
+/// Parses the lines of all vertices.
 fn entries(
     alloc: Global,
     cursor: &mut Cursor,
@@ -129,7 +123,6 @@ fn entries(
     Ok(entries)
 }
 
-/// Parses the whole text of a certificate, and returns the entries of its vertices.
 fn entries_of(
     alloc: Global,
     text: &[u8],
@@ -149,14 +142,13 @@ fn entries_of(
     }
 }
 
-/// Parses the text of a certificate of a game, plain or compact. Each winner in the text is 0 or 1. In the text a move
-/// is the id of a vertex; the parsed certificate stores the index of this vertex.
+/// Parses the text of a certificate of a game, plain or compact. A move in the text is the id of a vertex, of which the
+/// certificate has the index.
 ///
 /// # Errors
 ///
 /// [`CertFault::Text`] with the first error of the text and its offset, or out of memory.
 pub fn read(alloc: Global, text: &[u8], game: &NamedGame) -> Result<Certificate, CertFault>
-    // The certificate of the text, or the first error of the text.
     ensures exact { IsCertificateAnswer game.now text.now result }
     ensures fits { IfOk result (Fits game.now.game) }
 {
@@ -170,14 +162,13 @@ pub fn read(alloc: Global, text: &[u8], game: &NamedGame) -> Result<Certificate,
     Ok(Certificate { odd, even, entries })
 }
 
-/// The text of a certificate has at most one answer, a certificate or an error, for a given game.
+/// For a given game, a text has at most one answer: a certificate or an error.
 pub fn certificate_text_has_one_answer()
     ensures { (game : NamedGameData) (text : List ℕ) (answer other : Result CertificateData (Found CertCause)) →
         ReadsCertificate game text answer → ReadsCertificate game text other → answer ≡ other }
 {}
 
-/// The text of a certificate has an answer, a certificate or an error, for a given game. This law is about texts, not
-/// about calls of the parser, so out of memory is not one of the answers.
+/// For a given game, each text has an answer. This is about texts, not calls, so out of memory is none.
 pub fn certificate_text_has_some_answer()
     ensures { (game : NamedGameData) (text : List ℕ) → (answer : Result CertificateData (Found CertCause)) ×
         ReadsCertificate game text answer }

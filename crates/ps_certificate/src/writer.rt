@@ -1,4 +1,4 @@
-//! Writing the two texts of a certificate, plain and compact.
+//! Writes the two texts of a certificate.
 
 ghost use Rattle.std.specs.Prelude.{◌≡◌, ◌++◌, ◌+◌, ◌∷◌, [], ◌<◌, ◌≤◌, length, decimal, replicate, OnOk, IfOk, IfSome};
 ghost use Rattle.std.specs.Prelude.{Ok, slice_index, slice_index_or};
@@ -18,15 +18,15 @@ use ps_game::{Arena, NamedGame, NonzeroCount, Player};
 use ps_text::numbers::write_number;
 use std::alloc::{AllocError, Global};
 
-/// The text of forty zeros, each after a space.
+/// Forty zeros, each after a space.
 const ZEROS: &[u8; 80] =
     b" 0 0 0 0 0 0 0 0 0 0 0 0 0 0 0 0 0 0 0 0 0 0 0 0 0 0 0 0 0 0 0 0 0 0 0 0 0 0 0 0";
 
-/// How many bytes a vertex's line has apart from its counts, if its id and its move have seven digits each.
+/// The length of a vertex's line without its counts, if id and move have seven digits each.
 const LINE: usize = 18;
 
-/// Writes a certificate of a game: the first line, the number of vertices, the odd and the even priorities, and a line
-/// for each vertex with all its counts. Fails if out of memory.
+/// The text of a certificate with all counts: the first line, the number of vertices, the odd and the even priorities,
+/// and a line for each vertex. Fails if out of memory.
 pub fn write(
     alloc: Global,
     certificate: &Certificate,
@@ -39,8 +39,7 @@ pub fn write(
     write_text(alloc, certificate, game, false)
 }
 
-/// Writes a certificate of a game as a compact text, which has only the nonzero counts, each after its priority. Fails
-/// if out of memory.
+/// The compact text, which has only the nonzero counts, each after its priority. Fails if out of memory.
 pub fn write_compact(
     alloc: Global,
     certificate: &Certificate,
@@ -53,7 +52,6 @@ pub fn write_compact(
     write_text(alloc, certificate, game, true)
 }
 
-/// Writes the plain or the compact text of a certificate.
 fn write_text(
     alloc: Global,
     certificate: &Certificate,
@@ -71,7 +69,7 @@ fn write_text(
     Ok(out)
 }
 
-/// An estimate of the length of a certificate's text in bytes, which often suffices, so that the buffer need not grow.
+/// An estimate of the text's length, so that the buffer seldom grows.
 fn room_for(entries: &Entries, compact: bool) -> usize {
     let mut room: usize = 0;
     for vertex in 0..entries.len() {
@@ -87,7 +85,7 @@ fn room_for(entries: &Entries, compact: bool) -> usize {
     room
 }
 
-/// Writes the lines of a certificate's text that come before the lines of the vertices.
+/// Writes the lines before those of the vertices.
 fn write_head(
     out: &mut Vec<u8>,
     count: usize,
@@ -110,14 +108,14 @@ fn write_head(
     Ok(())
 }
 
-/// The digit of the version: 1 for a plain text, 2 for a compact text.
+/// 1 for a plain text, 2 for a compact one.
 fn version_digit(compact: bool) -> u8
     ensures { result ≡ version_digit compact }
 {
     if compact { b'2' } else { b'1' }
 }
 
-/// Writes the line of each vertex of a certificate. The contents of the list `row` are overwritten.
+/// Writes the lines of all vertices; `row` is overwritten.
 fn write_entries(
     out: &mut Vec<u8>,
     row: &mut Vec<u64>,
@@ -143,15 +141,13 @@ fn write_entries(
     Ok(())
 }
 
-/// The priorities that oppose a player: those of the opponent's parity.
 fn lost_by<'a>(odd: &'a [u64], even: &'a [u64], player: Player) -> &'a [u64]
     ensures { result.now ≡ lost_by odd.now even.now player }
 {
     if player == Player::EVEN { odd } else { even }
 }
 
-/// Writes the line of a vertex, given the priorities that oppose its winner. The contents of the list `row` are
-/// overwritten.
+/// Writes the line of a vertex, given the priorities that oppose its winner; `row` is overwritten.
 fn write_entry(
     out: &mut Vec<u8>,
     row: &mut Vec<u64>,
@@ -182,8 +178,7 @@ fn write_entry(
     Ok(())
 }
 
-/// Writes the counts of a vertex: in a compact text only the nonzero counts, each after its priority; in a plain text
-/// all counts, which are first copied into the list `row`.
+/// Writes the counts of a vertex; in a plain text, they are first copied into `row`.
 fn write_counts(
     out: &mut Vec<u8>,
     row: &mut Vec<u64>,
@@ -203,7 +198,7 @@ fn write_counts(
     }
 }
 
-/// Writes the nonzero counts of the given priorities, each after its priority.
+/// Writes the nonzero counts, each after its priority.
 fn write_pairs(out: &mut Vec<u8>, priorities: &[u64], counts: &Row<'_>) -> Result<(), AllocError>
     requires { length counts.now ≡ length priorities.now }
     ensures bytes { OnOk result (out.new.items ≡ out.old.items ++ pairs priorities.now counts.now) }
@@ -218,7 +213,7 @@ fn write_pairs(out: &mut Vec<u8>, priorities: &[u64], counts: &Row<'_>) -> Resul
     Ok(())
 }
 
-/// Writes a space, a priority, a colon and the priority's count.
+/// Writes a space, a priority, a colon and its count.
 fn write_pair(out: &mut Vec<u8>, priority: u64, count: u64) -> Result<(), AllocError>
     ensures { OnOk result (out.new.items ≡ out.old.items ++ 32 ∷ decimal priority ++ 58 ∷ decimal count) }
 {
@@ -228,8 +223,7 @@ fn write_pair(out: &mut Vec<u8>, priority: u64, count: u64) -> Result<(), AllocE
     write_number(out, count)
 }
 
-/// Writes numbers, each after a space. Most of the numbers are counts of 0, so up to 40 successive zeros are written in
-/// one step.
+/// Writes numbers, each after a space. Most are 0, so up to 40 zeros are written in one step.
 fn write_fields(out: &mut Vec<u8>, numbers: &[u64]) -> Result<(), AllocError>
     ensures bytes { OnOk result (out.new.items ≡ out.old.items ++ fields numbers.now) }
     ensures words { OnOk result (All IsWord numbers.now) }
@@ -248,7 +242,6 @@ fn write_fields(out: &mut Vec<u8>, numbers: &[u64]) -> Result<(), AllocError>
     Ok(())
 }
 
-/// Writes `zeros` zeros, each after a space.
 fn write_zeros(out: &mut Vec<u8>, zeros: usize) -> Result<(), AllocError>
     requires { zeros ≤ 40 }
     ensures { OnOk result (out.new.items ≡ out.old.items ++ fields (replicate zeros 0)) }
@@ -257,7 +250,6 @@ fn write_zeros(out: &mut Vec<u8>, zeros: usize) -> Result<(), AllocError>
     Ok(())
 }
 
-/// Writes a number after a space.
 fn write_field(out: &mut Vec<u8>, number: u64) -> Result<(), AllocError>
     ensures { OnOk result (out.new.items ≡ out.old.items ++ 32 ∷ decimal number) }
 {

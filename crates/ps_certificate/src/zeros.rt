@@ -2,7 +2,7 @@
 
 ghost use Rattle.std.specs.Prelude.{◌≡◌, ℕ, ◌+◌, ◌<◌, ◌≤◌, ◌↔◌, IsTrue, length, take, replicate, slice_index};
 
-/// The number of leading zeros of a list, capped at `most`.
+/// The number of leading zeros, capped at `most`.
 pub(crate) fn leading_zeros(numbers: &[u64], most: usize) -> usize
     ensures within { result ≤ length numbers.now }
     ensures few { result ≤ most }
@@ -16,7 +16,7 @@ pub(crate) fn leading_zeros(numbers: &[u64], most: usize) -> usize
     zeros
 }
 
-/// The number of zeros that the first `end` numbers of a list begin with, rounded down to a multiple of eight.
+/// The number of leading zeros of the first `end` numbers, rounded down to a multiple of eight.
 fn zero_blocks(numbers: &[u64], end: usize) -> usize
     requires { end ≤ length numbers.now }
     ensures within { result ≤ end }
@@ -29,7 +29,6 @@ fn zero_blocks(numbers: &[u64], end: usize) -> usize
     zeros
 }
 
-/// Whether the eight numbers from index `place` on are 0.
 fn are_zero(numbers: &[u64], place: usize) -> bool
     requires { place + 8 ≤ length numbers.now }
     ensures { IsTrue result ↔ ((k : ℕ) → k < 8 → slice_index numbers.now (place + k) ≡ 0) }

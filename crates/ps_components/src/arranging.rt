@@ -1,4 +1,4 @@
-//! Topological orders of the vertices of a graph, in which each vertex follows all vertices to which it has a link.
+//! Topological orders.
 
 ghost use Rattle.std.specs.Prelude.{ℕ, ◌<◌, IfOk, IfSome, IfNone};
 ghost use Rattle.ps_components.specs.ComponentLists.{AreComponents, AreAllMet};
@@ -8,16 +8,16 @@ use crate::components::{Components, components_of};
 use crate::graph::Graph;
 use std::alloc::{AllocError, Global};
 
-/// An order in which each vertex follows all vertices to which it has a link; or the smallest vertex on a cycle.
+/// An order of the vertices, or a vertex on a cycle.
 #[derive(Drop)]
 pub enum Arrangement {
-    /// The vertices, each after all vertices to which it has a link.
+    /// The vertices, each after all to which it has a link.
     Order(Vec<usize>),
-    /// The smallest vertex on a cycle, which is the smallest one with a link into its own strongly connected component.
+    /// The smallest vertex on a cycle, or with a link into its own component, which is the same.
     Cyclic(usize),
 }
 
-/// Returns a topological order of the vertices of a graph, or the smallest vertex on a cycle. Fails if out of memory.
+/// A topological order of the vertices, or the smallest vertex on a cycle. Fails if out of memory.
 pub fn arrange<G: Graph>(alloc: Global, graph: &G) -> Result<Arrangement, AllocError>
     ensures { IfOk result (IsArrangement (G.graph graph.now)) }
 {
@@ -28,7 +28,6 @@ pub fn arrange<G: Graph>(alloc: Global, graph: &G) -> Result<Arrangement, AllocE
     }
 }
 
-/// The smallest vertex with a link into its own component.
 fn first_knot<G: Graph>(graph: &G, components: &Components) -> Option<usize>
     requires components { AreComponents (G.graph graph.now) components.now }
     requires met { AreAllMet (G.graph graph.now) components.now }

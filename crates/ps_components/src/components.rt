@@ -1,4 +1,4 @@
-//! The strongly connected components of a graph, and their numbers.
+//! The components of a graph.
 
 ghost use Rattle.std.specs.Prelude.{◌≡◌, ◌<◌, [], length, slice_get, Some, IfOk, OnOk, OnErr, All};
 ghost use Rattle.ps_components.specs.ComponentLists.{AreComponents, AreMet, AreAllMet};
@@ -9,9 +9,8 @@ use crate::statuses::Status;
 use std::alloc::{AllocError, Global};
 use std::marker::Model;
 
-/// The strongly connected components of the visited vertices of a graph. The number of a component is the index at
-/// which it begins in the list that `order` returns. One `Components` can be used for several graphs, one after
-/// another, and keeps its allocated memory.
+/// The strongly connected components of the visited vertices of a graph. A component's number is the index at which it
+/// begins in `order`. One `Components` can serve several graphs in turn, and keeps its memory.
 #[derive(Drop)]
 pub struct Components {
     search: Search,
@@ -33,7 +32,7 @@ impl Model for Components {
 }
 
 impl Components {
-    /// The components of a graph without vertices: there is none.
+    /// No components.
     pub fn new(alloc: Global) -> Self
         ensures numbers { result.numbers ≡ [] }
         ensures order { result.order ≡ [] }
@@ -43,9 +42,8 @@ impl Components {
         }
     }
 
-    /// Forgets the old components, and computes the components of the given roots and of all vertices reachable from
-    /// the roots in `graph`. Forgetting the old components takes time proportional to the number of their vertices.
-    /// Fails if out of memory, and then keeps neither the old nor any new components.
+    /// Replaces the components by those of the roots and of all vertices reachable from them, after time proportional
+    /// to the old ones' vertices. Fails if out of memory, and then has no components.
     pub fn renew<G: Graph>(&mut self, graph: &G, roots: &[usize]) -> Result<(), AllocError>
         requires { All (λ v. v < (G.graph graph.now).count) roots.now }
         ensures components { OnOk result (AreComponents (G.graph graph.now) self.new) }
@@ -61,7 +59,7 @@ impl Components {
         }
     }
 
-    /// The number of a vertex's component, or `None` if the vertex was not visited.
+    /// The number of a vertex's component, if the vertex was visited.
     pub fn number(&self, item: usize) -> Option<usize>
         requires { item < length self.now.numbers }
         ensures { slice_get self.now.numbers item ≡ Some result }
@@ -72,14 +70,14 @@ impl Components {
         }
     }
 
-    /// The visited vertices, component by component. Each component follows all other components to which it has links.
+    /// The visited vertices, component by component, each after the others to which it has links.
     pub fn order(&self) -> &[usize]
         ensures { result.now ≡ self.now.order }
     {
         &self.search.order
     }
 
-    /// The visited vertices, component by component, as `order` lists them; the numbers of the components are dropped.
+    /// What `order` lists.
     pub fn into_order(self) -> Vec<usize>
         ensures { result.items ≡ self.order }
     {
@@ -87,7 +85,7 @@ impl Components {
     }
 }
 
-/// The strongly connected components of all vertices of a graph. Fails if out of memory.
+/// The strongly connected components of all vertices. Fails if out of memory.
 pub fn components_of<G: Graph>(alloc: Global, graph: &G) -> Result<Components, AllocError>
     ensures components { IfOk result (AreComponents (G.graph graph.now)) }
     ensures met { IfOk result (AreAllMet (G.graph graph.now)) }
@@ -99,8 +97,7 @@ pub fn components_of<G: Graph>(alloc: Global, graph: &G) -> Result<Components, A
     Ok(Components { search })
 }
 
-/// The strongly connected components of the given roots and of all vertices reachable from the roots. Fails if out of
-/// memory.
+/// The components of the roots and of all vertices reachable from them. Fails if out of memory.
 pub fn components_from<G: Graph>(
     alloc: Global,
     graph: &G,

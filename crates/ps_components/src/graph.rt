@@ -3,8 +3,8 @@
 ghost use Rattle.std.specs.Prelude.{◌≡◌, ◌<◌, IfSome};
 ghost use Rattle.ps_components.specs.Graphs.{Digraph, LinksStayWithin};
 
-/// A directed graph whose vertices are numbered from 0. Each vertex has numbered slots, and each slot holds a target
-/// vertex or is empty. A link leads from a vertex to the target of one of its slots.
+/// A directed graph whose vertices are numbered from 0. Each has numbered slots, with a target or empty. A link leads
+/// from a vertex to the target of one of its slots.
 pub trait Graph {
     /// In clauses, the graph that the value represents.
     ghost graph: { Self → Digraph };
@@ -14,12 +14,12 @@ pub trait Graph {
         ensures count { result ≡ (graph self.now).count }
         ensures within { LinksStayWithin (graph self.now) };
 
-    /// The number of slots of a vertex, which is at least the number of its links.
+    /// The number of slots of a vertex, empty or not.
     fn degree(&self, item: usize) -> usize
         requires { item < (graph self.now).count }
         ensures { result ≡ (graph self.now).degree item };
 
-    /// The vertex to which the link in a slot of a vertex leads, or `None` if the slot is empty.
+    /// The target in a slot, if it has one.
     fn target(&self, item: usize, place: usize) -> Option<usize>
         requires item { item < (graph self.now).count }
         requires place { place < (graph self.now).degree item }

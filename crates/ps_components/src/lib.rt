@@ -1,10 +1,9 @@
 //! The strongly connected components of a directed graph, ordered so that each link (edge) leads to the same or an
 //! earlier component; and paths through the graph.
 //!
-//! The caller supplies the graph as an `impl Graph`. Gabow's path-based algorithm finds the components, with an
-//! explicit list of pending links instead of recursion. The time is at most proportional to the number of vertices of
-//! the graph and the number of slots, empty or not, of the visited vertices. The memory is at most proportional to the
-//! number of vertices of the graph and the number of visited links.
+//! The caller supplies an `impl Graph`. Gabow's path-based algorithm finds the components, without recursion. The time
+//! is at most proportional to the number of vertices of the graph and of slots, empty or not, of the visited vertices,
+//! and the memory to that of its vertices and visited links.
 //!
 //! | Call | What it gives |
 //! |---|---|
@@ -13,10 +12,7 @@
 //! | `Components::renew(graph, roots)` | like `components_from`, but reuses the memory of old components |
 //! | `Components::number`, `order`, `into_order` | the number of a vertex's component; the order of the vertices |
 //! | `arrange(graph)` | an order in which each vertex follows its targets, or the first vertex on a cycle |
-//! | `way_back(graph, start, end)` | a trail from the end of a way back to its start, or none if there is no way |
-//!
-//! Each vertex of a component can reach all others of the component. The path that `way_back` finds by breadth-first
-//! search is not promised to be a shortest one.
+//! | `way_back(graph, start, end)` | a trail (not always a shortest one) from the end back to the start, or none |
 #![tactic(auto)]
 
 mod arranging;

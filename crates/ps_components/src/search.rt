@@ -1,6 +1,4 @@
-//! The search for strongly connected components by Gabow's path-based algorithm. New vertices are appended to the
-//! search path. If a link leads back to a vertex on the path, the segment that contains this vertex and all later
-//! segments are merged into one.
+//! Gabow's path-based algorithm.
 
 ghost use Rattle.std.specs.Prelude.{◌≡◌, ℕ, ◌<◌, ◌≤◌, ◌++◌, ◌∷◌, [], ◌-◌, All, length, slice_get, slice_set, Some};
 ghost use Rattle.std.specs.Prelude.{OnOk, IfOk, ◌^◌};
@@ -15,18 +13,18 @@ use crate::graph::Graph;
 use crate::statuses::{Status, Statuses};
 use std::alloc::{AllocError, Global};
 
-/// A link that is still to be followed; it starts at the vertex at index `from` of the search path.
+/// A link still to be followed, from index `from` of the search path.
 #[derive(Clone, Copy)]
 pub struct Pending {
     from: usize,
     to: usize,
 }
 
-/// The state of Gabow's algorithm. `active` is the search path; each entry of `bounds` is the index at which a segment
-/// of the path begins. The vertices of a segment can reach one another.
+/// The state of the search: `active` is the search path, to which new vertices are appended; `bounds` has the indices
+/// at which its segments begin, whose vertices can reach one another. A link back merges segments.
 #[derive(Drop)]
 pub struct Search {
-    /// The status of each vertex: unseen, on the search path, or finished.
+    /// Unseen, on the search path, or finished.
     pub statuses: Statuses,
     active: Vec<usize>,
     bounds: Vec<usize>,
@@ -36,7 +34,7 @@ pub struct Search {
 }
 
 impl Search {
-    /// A search of a graph that has visited no vertex yet. Fails if out of memory.
+    /// Nothing is visited yet.
     pub fn new<G: Graph>(alloc: Global, graph: &G) -> Result<Self, AllocError>
         ensures { IfOk result (IsFresh (G.graph graph.now)) }
     {
@@ -63,7 +61,7 @@ impl Search {
         }
     }
 
-    /// Forgets all vertices of the searched graph, but keeps the allocated memory.
+    /// Forgets all vertices, but keeps the memory.
     pub fn forget(&mut self)
         ensures statuses { self.new.statuses ≡ [] }
         ensures order { self.new.order.items ≡ [] }
@@ -72,9 +70,7 @@ impl Search {
         self.order.clear();
     }
 
-    /// Starts a new search, which visits the given roots and all vertices reachable from the roots. First, each vertex
-    /// that the previous search visited gets the status `Unseen`; the list `order` has these vertices. Fails if out of
-    /// memory.
+    /// Searches from the roots. What the last search visited, as `order` lists, first becomes `Unseen`.
     pub fn again<G: Graph>(&mut self, graph: &G, roots: &[usize]) -> Result<(), AllocError>
         requires listed { AreListed self.old.statuses self.old.order.items }
         requires within { All (λ v. v < (G.graph graph.now).count) roots.now }
@@ -92,8 +88,7 @@ impl Search {
         Ok(())
     }
 
-    /// Visits a vertex and all vertices reachable from it, unless the vertex was visited before. Fails if out of
-    /// memory.
+    /// Visits a vertex and all that it can reach, unless it was visited before.
     pub fn visit<G: Graph>(&mut self, graph: &G, item: usize) -> Result<(), AllocError>
         requires within { item < (G.graph graph.now).count }
         requires idle { IsIdle (G.graph graph.now) self.old }
@@ -106,7 +101,7 @@ impl Search {
         Ok(())
     }
 
-    /// Visits all vertices reachable from the search path, until the path is empty. Fails if out of memory.
+    /// Visits all that the search path can reach.
     fn run<G: Graph>(&mut self, graph: &G) -> Result<(), AllocError>
         requires { IsSound (G.graph graph.now) self.old }
         ensures { OnOk result (Runs (G.graph graph.now) self.old self.new) }
@@ -117,8 +112,7 @@ impl Search {
         Ok(())
     }
 
-    /// Follows the last pending link if the link starts in the last segment of the search path; otherwise makes the
-    /// last segment a finished component. Fails if out of memory.
+    /// Follows the last pending link if it starts in the last segment; else finishes this segment.
     fn step<G: Graph>(&mut self, graph: &G, bound: usize) -> Result<(), AllocError>
         requires { EndsAt (G.graph graph.now) bound self.old }
         ensures { OnOk result (Advances (G.graph graph.now) self.old self.new) }
@@ -140,7 +134,7 @@ impl Search {
         Ok(())
     }
 
-    /// Removes the last pending link, and appends the link's unseen target to the search path. Fails if out of memory.
+    /// Appends the unseen target of the last pending link to the search path.
     fn follow<G: Graph>(&mut self, graph: &G, pending: Pending) -> Result<(), AllocError>
         requires { LeadsOn (G.graph graph.now) pending self.old }
         ensures { OnOk result (Enters (G.graph graph.now) pending.to self.old self.new) }
@@ -149,8 +143,6 @@ impl Search {
         self.enter(graph, pending.to)
     }
 
-    /// Appends an unseen vertex, which all vertices on the search path can reach, to the search path. Fails if out of
-    /// memory.
     fn enter<G: Graph>(&mut self, graph: &G, item: usize) -> Result<(), AllocError>
         requires reached { IsReachedNext (G.graph graph.now) item self.old }
         requires sound { IsSoundButFor (G.graph graph.now) item self.old }
@@ -164,8 +156,7 @@ impl Search {
         Ok(())
     }
 
-    /// Merges the segment that contains index `place` of the search path with all later segments; the last segment has
-    /// a link to the vertex at this index.
+    /// Merges the segment at index `place` with all later ones.
     fn merge<G: Graph>(&mut self, graph: &G, pending: Pending, place: usize)
         requires { LeadsBack (G.graph graph.now) pending place self.old }
         ensures { Merges (G.graph graph.now) pending self.old self.new }
@@ -173,7 +164,7 @@ impl Search {
         cut(&mut self.bounds, place);
     }
 
-    /// Removes the last pending link, whose target is finished or in the last segment of the search path.
+    /// Removes the last pending link, whose target is finished or in the last segment.
     fn take<G: Graph>(&mut self, graph: &G, pending: Pending)
         requires next { HasNext (G.graph graph.now) pending self.old }
         requires settled { IsSettled self.old.statuses self.old.bounds.items pending.from pending.to }
@@ -182,8 +173,7 @@ impl Search {
         self.pending.pop();
     }
 
-    /// Makes the last segment of the search path, which begins at index `bound`, a finished component. Fails if out of
-    /// memory.
+    /// Finishes the last segment, from index `bound` on, as a component.
     fn close<G: Graph>(&mut self, graph: &G, bound: usize) -> Result<(), AllocError>
         requires { IsFollowed (G.graph graph.now) bound self.old }
         ensures { OnOk result (Advances (G.graph graph.now) self.old self.new) }
@@ -198,8 +188,7 @@ impl Search {
     }
 }
 
-/// Appends all links of a vertex, which is at index `from` of the search path, to the pending links. Fails if out of
-/// memory.
+/// Appends all links of a vertex, at index `from` of the search path.
 fn wait<G: Graph>(
     pending: &mut Vec<Pending>,
     graph: &G,
@@ -218,7 +207,7 @@ fn wait<G: Graph>(
     Ok(())
 }
 
-/// Drops all entries of the ascending list `bounds` that are greater than `place`.
+/// Drops all entries that are greater than `place`.
 fn cut(bounds: &mut Vec<usize>, place: usize)
     requires rise { (i j b c : ℕ) → slice_get bounds.old.items i ≡ Some b → slice_get bounds.old.items j ≡ Some c →
         i < j → b < c }
@@ -232,7 +221,6 @@ fn cut(bounds: &mut Vec<usize>, place: usize)
     }
 }
 
-/// Sets the statuses of all visited vertices, which `items` lists, to unseen.
 fn reset(statuses: &mut Statuses, items: &[usize])
     requires { AreListed statuses.old items.now }
     ensures { All (λ m. m ≡ Status.Unseen) statuses.new }
@@ -242,7 +230,7 @@ fn reset(statuses: &mut Statuses, items: &[usize])
     }
 }
 
-/// Marks the given vertices as finished: they form the component with the given number. Fails if out of memory.
+/// Finishes the vertices as the component with this number.
 fn close_items(statuses: &mut Statuses, items: &[usize], number: usize) -> Result<(), AllocError>
     requires within { (k v : ℕ) → slice_get items.now k ≡ Some v → v < length statuses.old }
     requires number { number < 2 ^ 63 }

@@ -1,4 +1,4 @@
-//! The status of each vertex during a search for components.
+//! The status of each vertex.
 
 ghost use Rattle.std.specs.Prelude.{◌≡◌, ◌+◌, ◌-◌, ◌<◌, ◌^◌, ◌++◌, [], length, replicate, slice_get, slice_set, take};
 ghost use Rattle.std.specs.Prelude.{Some, IfOk, OnOk, OnErr, map};
@@ -8,27 +8,26 @@ ghost use Rattle.ps_components.specs.Codes.{status_of, narrow_status_of};
 use std::alloc::{AllocError, Global};
 use std::marker::Model;
 
-/// The status of a vertex in the search for components.
+/// The status of a vertex during a search.
 #[derive(Clone, Copy)]
 pub enum Status {
     /// Not visited yet.
     Unseen,
-    /// The vertex is on the search path, at the given index.
+    /// At this index of the search path.
     Active(usize),
-    /// The vertex is finished, and its component has the given number.
+    /// Finished, in the component with this number.
     Closed(usize),
 }
 
-/// The largest 8-byte code that means a finished vertex.
+/// The largest 8-byte code of a finished vertex.
 const LAST_CLOSED: usize = 1 << 63;
 
-/// The largest 4-byte code that means a finished vertex.
+/// The largest 4-byte code of a finished vertex.
 const LAST_NARROW: usize = 1 << 31;
 
-/// A status for each vertex, stored as a number, its code. The code 0 means unseen. The code k + 1 means finished, in
-/// component k; larger codes mean an index on the search path. Codes take 4 bytes each until a path index of 2^31 - 1
-/// or more, or a component number of 2^31 or more, is stored; from then on, they take 8 bytes. A call that fails for
-/// lack of memory changes nothing.
+/// A status for each vertex, stored as a code: 0 is unseen, k + 1 is finished in component k, and larger codes are
+/// indices on the search path. Codes take 4 bytes until an index of 2^31 - 1 or more, or a component of 2^31 or more,
+/// is stored, and then 8. A call that is out of memory changes nothing.
 #[derive(Drop)]
 pub struct Statuses {
     alloc: Global,
@@ -48,7 +47,7 @@ impl Model for Statuses {
 }
 
 impl Statuses {
-    /// An empty list of statuses.
+    /// No statuses.
     pub fn new(alloc: Global) -> Self
         ensures { result ≡ [] }
     {
@@ -60,7 +59,7 @@ impl Statuses {
         }
     }
 
-    /// The statuses of `count` unseen vertices.
+    /// `count` unseen vertices.
     pub fn unseen(alloc: Global, count: usize) -> Result<Self, AllocError>
         ensures { IfOk result (λ statuses. statuses ≡ replicate count Unseen) }
     {
@@ -99,7 +98,7 @@ impl Statuses {
         }
     }
 
-    /// Marks a vertex as active: it is at index `place` of the search path.
+    /// Marks a vertex as active, at this index of the search path.
     pub fn put(&mut self, item: usize, place: usize) -> Result<(), AllocError>
         requires item { item < length self.old }
         requires place { place + 1 < 2 ^ 63 }
@@ -121,7 +120,7 @@ impl Statuses {
         Ok(())
     }
 
-    /// Marks a vertex as finished, in the component with the given number.
+    /// Marks a vertex as finished, in this component.
     pub fn close(&mut self, item: usize, number: usize) -> Result<(), AllocError>
         requires item { item < length self.old }
         requires number { number < 2 ^ 63 }
@@ -143,7 +142,7 @@ impl Statuses {
         Ok(())
     }
 
-    /// Resizes the list to `count` vertices: the first `count` statuses are kept, and added vertices are unseen.
+    /// Keeps the first `count` statuses, or adds unseen vertices.
     pub fn resize(&mut self, count: usize) -> Result<(), AllocError>
         ensures { OnOk result (self.new ≡ take count self.old ++ replicate (count - length self.old) Unseen) }
     {
@@ -163,7 +162,7 @@ impl Statuses {
     }
 }
 
-/// The same statuses, stored in 8-byte codes. Fails if out of memory.
+/// The same in 8-byte codes.
 #[inline(never)]
 fn widened(alloc: Global, narrow: &[u32]) -> Result<Vec<usize>, AllocError>
     ensures { IfOk result (λ wide. map status_of wide.items ≡ map narrow_status_of narrow.now) }
@@ -175,7 +174,6 @@ fn widened(alloc: Global, narrow: &[u32]) -> Result<Vec<usize>, AllocError>
     Ok(wide)
 }
 
-/// Converts a 4-byte code to the 8-byte code of the same status.
 fn wide_code(code: usize) -> usize
     requires { code < 2 ^ 32 }
     ensures { status_of result ≡ narrow_status_of code }
@@ -187,7 +185,6 @@ fn wide_code(code: usize) -> usize
     }
 }
 
-/// The status that an 8-byte code represents.
 #[inline(always)]
 fn status_of(code: usize) -> Status
     ensures { result ≡ status_of code }
@@ -201,7 +198,6 @@ fn status_of(code: usize) -> Status
     }
 }
 
-/// The status that a 4-byte code represents.
 #[inline(always)]
 fn narrow_status_of(code: usize) -> Status
     ensures { result ≡ narrow_status_of code }

@@ -1,14 +1,14 @@
-//! The interface for reading a game, whatever its data structure, so that each solver and checker is written only once.
+//! How solvers and checkers read a game.
 
 ghost use Rattle.std.specs.Prelude.{◌≡◌, ◌<◌, length, slice_index};
 ghost use Rattle.ps_game.specs.Games.{ParityGame, IsGame, vertex_count, owner_of, priority_of, successors_of};
 
-/// A parity game that can be read, whatever its data structure. No method of this trait allocates memory.
+/// A parity game, whatever its data structure. No method allocates memory.
 pub trait Arena {
     /// In clauses, the parity game that the value represents.
     ghost game: { Self → ParityGame };
 
-    /// The number of vertices. Vertices are numbered from 0.
+    /// The number of vertices, which are numbered from 0.
     fn count(&self) -> usize
         ensures vertices { result ≡ vertex_count (game self.now) }
         ensures well_formed { IsGame (game self.now) };
@@ -28,7 +28,7 @@ pub trait Arena {
         requires { vertex < vertex_count (game self.now) }
         ensures { result ≡ length (successors_of (game self.now) vertex) };
 
-    /// A successor of a vertex, by its index in the list of the vertex's successors.
+    /// A successor, by its index in the list of the vertex's successors.
     fn successor(&self, vertex: usize, number: usize) -> usize
         requires vertex { vertex < vertex_count (game self.now) }
         requires number { number < length (successors_of (game self.now) vertex) }

@@ -1,11 +1,10 @@
 //! How much work a solver did.
 
-/// How much work a solver did: the maximal depth of nested calls, not counting calls on empty subgames, and how often a
-/// progress measure was raised.
+/// How much work a solver did.
 #[derive(Clone, Copy, Debug, Default, PartialEq, Eq, Drop)]
 pub struct Counts {
-    /// The maximal depth of nested calls of the recursive algorithm.
+    /// The greatest depth of nested calls of the recursive algorithm, without calls on empty subgames.
     pub depth: u64,
-    /// How often an entry of the progress measure was raised.
+    /// How often an entry of a progress measure was raised.
     pub raises: u128,
 }

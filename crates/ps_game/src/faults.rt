@@ -1,26 +1,25 @@
-//! The reasons why an unfinished game is rejected.
+//! Why an unfinished game is rejected.
 
 ghost use Rattle.std.specs.Prelude.{◌≡◌};
 
 use thiserror::Error;
 
-/// The reason why an unfinished game is rejected.
+/// Why an unfinished game is rejected. Vertices are given by their numbers, from 0.
 #[derive(Clone, Copy, Debug, PartialEq, Eq, Error)]
 pub enum GameFault {
-    /// The fault that some vertex has no successor; the smallest vertex without a successor is reported.
+    /// Some vertex has no successor.
     #[error("vertex {vertex} has no successor")]
     NoSuccessor {
-        /// The number of the vertex at fault, from 0.
+        /// The smallest such vertex.
         vertex: usize,
     },
 
-    /// The fault that some edge leads to a number that is not a vertex. The fault reports the smallest vertex with an
-    /// edge to a number that is not a vertex, and the target of the first such edge of this vertex.
+    /// Some edge leads to a number that is not a vertex.
     #[error("vertex {vertex} has the unknown successor {successor}")]
     UnknownSuccessor {
-        /// The number of the vertex at fault, from 0.
+        /// The smallest vertex with such an edge.
         vertex: usize,
-        /// The target of the edge at fault, which is not less than the number of vertices.
+        /// The target of its first such edge.
         successor: usize,
     },
 
@@ -32,7 +31,7 @@ pub enum GameFault {
 impl GameFault {
     ghost use Rattle.ps_game.specs.FaultNames.{fault_number, fault_name};
 
-    /// The number of the fault in psyn's list of faults.
+    /// The fault's number in psyn's list of faults.
     pub fn number(self) -> u8
         ensures { result ≡ fault_number self }
     {
@@ -43,7 +42,7 @@ impl GameFault {
         }
     }
 
-    /// The name of the fault.
+    /// The fault's name.
     pub fn name(self) -> &'static str
         ensures { result.now ≡ fault_name self }
     {

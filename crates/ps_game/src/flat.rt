@@ -13,9 +13,8 @@ use crate::widths::Width;
 use std::alloc::{AllocError, Global};
 use std::marker::Model;
 
-/// A parity game in four arrays: the owners, the priorities, the successors of all vertices in one list, and the offset
-/// of each vertex's successors. If `W` is `u32`, each vertex takes 13 bytes and each edge takes 4. With `u32`, the game
-/// takes less memory than a `Game`, and is faster to read.
+/// A parity game in four arrays: owners, priorities, the successors of all vertices, and the offset of each vertex's
+/// successors. With `u32`, it takes 13 bytes a vertex and 4 an edge, and is faster to read than a `Game`.
 #[derive(Drop)]
 pub struct FlatGame<W: Width> {
     pub(crate) offsets: Numbers<W>,
@@ -36,8 +35,7 @@ impl<W: Width> Model for FlatGame<W> {
 }
 
 impl<W: Width> FlatGame<W> {
-    /// Copies a game into flat arrays of integers of the type `W`. Takes time proportional to the number of vertices
-    /// and edges. Fails if out of memory.
+    /// Copies a game, in time proportional to the number of vertices and edges. Fails if out of memory.
     pub fn of(alloc: Global, game: &Game) -> Result<FlatGame<W>, AllocError>
         requires { FitsWithin game.now W.LIMIT }
         ensures { IfOk result (λ flat. flat ≡ game.now) }
@@ -45,14 +43,13 @@ impl<W: Width> FlatGame<W> {
         game.flat.in_width(alloc)
     }
 
-    /// The number of edges.
     fn edges(&self) -> usize
         ensures { result ≡ edge_count self.now }
     {
         self.successors.len()
     }
 
-    /// Converts flat arrays to the same game in integers of the type `V`. Fails if out of memory.
+    /// The same game in integers of the type `V`.
     fn in_width<V: Width>(&self, alloc: Global) -> Result<FlatGame<V>, AllocError>
         requires { FitsWithin self.now V.LIMIT }
         ensures { IfOk result (λ flat. flat ≡ self.now) }
@@ -94,8 +91,7 @@ impl<W: Width> Arena for FlatGame<W> {
     }
 }
 
-/// Whether a game has so few vertices and edges that 4 bytes can hold the number of its vertices and the number of its
-/// edges.
+/// Whether 4 bytes can hold the numbers of vertices and of edges.
 pub fn fits_narrow(game: &Game) -> bool
     ensures { IsTrue result ↔ ((vertex_count game.now ≤ 2 ^ 32 - 1) × (edge_count game.now ≤ 2 ^ 32 - 1)) }
 {

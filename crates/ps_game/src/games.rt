@@ -1,4 +1,4 @@
-//! Games as lists of vertices, each with a list of successors.
+//! Games as lists of vertices.
 
 ghost use Rattle.ps_game.specs.Games.{ParityGame, IsGame};
 
@@ -6,8 +6,7 @@ use crate::arenas::Arena;
 use crate::flat::FlatGame;
 use std::marker::Model;
 
-/// A parity game: a list of vertices, each with a list of successors. The game is stored in flat arrays; each priority,
-/// offset and successor takes 8 bytes.
+/// A parity game: a list of vertices, each with a list of successors. It is stored in flat arrays of 8-byte numbers.
 #[derive(Drop)]
 pub struct Game {
     pub(crate) flat: FlatGame<usize>,

@@ -1,4 +1,4 @@
-//! Laws about plays and strategies. Each law is a theorem, stated as the contract of a function with an empty body.
+//! Laws (theorems) about plays and strategies.
 
 ghost use Rattle.std.specs.Prelude.{◌≡◌, ℕ, ◌+◌, ◌-◌, ◌<◌, ◌≤◌, List, Option, Bool, IsTrue, length, slice_index};
 ghost use Rattle.ps_game.specs.Games.{ParityGame, IsGame, vertex_count, owner_of};
@@ -6,37 +6,36 @@ ghost use Rattle.ps_game.specs.Plays.{IsPath, Holds, other_player, loop_priority
 ghost use Rattle.ps_game.specs.Strategies.{HasLoop, WinsByNoMemory, AllHistoriesBeaten};
 ghost use Rattle.ps_game.specs.Subgames.{HoldsWithin, IsTop};
 
-/// A path with more vertices than the game has visits some vertex twice.
+/// A path that is longer than the number of the game's vertices visits one of them twice.
 pub fn long_path_has_loop()
     ensures { (game : ParityGame) (path : List ℕ) →
         IsPath game path → vertex_count game < length path → HasLoop path }
 {}
 
-/// If one player holds a set of vertices (stays in the set and wins there), no finite-memory strategy of the other
-/// player wins from a vertex of the set.
+/// If one player holds a set of vertices (stays in it and wins there), no finite-memory strategy of the other wins from
+/// one of them.
 pub fn no_memory_wins_outside()
     ensures { (game : ParityGame) (player : ℕ) (set : ℕ → Bool) (table : ℕ → Option ℕ) →
         IsGame game → player < 2 → Holds game (other_player player) set table →
         (v : ℕ) → v < vertex_count game → IsTrue (set v) → WinsByNoMemory game player v }
 {}
 
-/// If one player holds a set of vertices, each history-dependent strategy of the other player loses from each vertex of
-/// the set.
+/// If one player holds a set of vertices, each history table of the other loses from each of them.
 pub fn no_history_wins_outside()
     ensures { (game : ParityGame) (player : ℕ) (set : ℕ → Bool) (table : ℕ → Option ℕ) →
         IsGame game → player < 2 → Holds game (other_player player) set table →
         (v : ℕ) → v < vertex_count game → IsTrue (set v) → AllHistoriesBeaten game player v }
 {}
 
-/// For the subgame of all vertices, a player who holds a set by the definition for subgames (`HoldsWithin`) also holds
-/// it by the definition for paths (`Holds`).
+/// A player who holds a set by the definition for subgames (`HoldsWithin`), within that of all vertices, also holds it
+/// by the definition for paths (`Holds`).
 pub fn holds_on_paths()
     ensures { (game : ParityGame) (player : ℕ) (subgame set : ℕ → Bool) (table : ℕ → Option ℕ) →
         ((v : ℕ) → v < vertex_count game → IsTrue (subgame v)) →
         HoldsWithin game subgame player set table → Holds game player set table }
 {}
 
-/// Whether a player holds a set by a table depends only on the table's moves at the player's own vertices of the set.
+/// Holding a set by a table depends only on its moves at the player's own vertices of the set.
 pub fn only_own_moves_matter()
     ensures { (game : ParityGame) (player : ℕ) (subgame set : ℕ → Bool) (table other : ℕ → Option ℕ) →
         ((v : ℕ) → IsTrue (set v) → owner_of game v ≡ player → other v ≡ table v) →

@@ -1,10 +1,8 @@
 //! Parity games: their definition, storage and construction, and laws about plays and strategies.
 //!
-//! In the clauses of contracts, a game is a `ParityGame`: a list of vertices, which are numbered from 0. Player 0 wins
-//! a loop whose greatest priority is even, and player 1 wins a loop whose greatest priority is odd. In clauses, a
-//! `Region` (a set of vertices) and a `Strategy` (a table of moves) are lists with an entry for each vertex; in the
-//! laws, sets and tables are functions. `Subgame::find` and `Subgame::known` *require* a region with one entry for each
-//! vertex of the game.
+//! In clauses, a game is a `ParityGame`: a list of vertices, which are numbered from 0. Player 0 wins a loop whose
+//! greatest priority is even, and player 1 one whose greatest priority is odd. A `Region` (a set of vertices) and a
+//! `Strategy` (a table of moves) are lists with an entry for each vertex in clauses, and functions in the laws.
 //!
 //! | Call | What it gives |
 //! |---|---|
@@ -14,8 +12,8 @@
 //! | `Vertices::push`, `truncate` | adds a vertex with its successors; keeps only the first vertices |
 //! | `Vertices::know_successors`, `resolve` | whether all successors are known ids; replaces each id by its index |
 //! | `Vertices::into_game` | the game with these vertices, in which a repeated successor counts once |
-//! | `NamedGame::new`, `with_first_names`, `game`, `id`, `name` | a game with ids and optional names; the first names |
-//! | `NamedGame::with_names` | a game with ids and a name for each vertex |
+//! | `NamedGame::new`, `game`, `id`, `name` | a game with ids and optional names |
+//! | `NamedGame::with_first_names`, `with_names` | the same with names for the first vertices only, or for all |
 //! | `Names::with_capacity`, `push`, `get` | a list of names in one buffer; adds a name; the name with an index |
 //! | `FlatGame::of` | the same game with numbers of 4 or 8 bytes, in four arrays; also an `Arena` |
 //! | `fits_narrow` | whether 4 bytes hold the numbers of vertices and edges; 8 bytes always do |
@@ -23,20 +21,21 @@
 //! | `Player::opponent`, `owns`, `number` | the other player; who moves; the number of a player |
 //! | `Region::empty`, `full`, `insert`, `remove`, `contains`, `count` | a set of vertices, one bit each |
 //! | `Strategy::empty`, `set`, `get` | a move, or none, for each vertex |
-//! | `Subgame::whole`, `find`, `known`, `region` | a region in which each vertex has a successor; `find` checks this |
+//! | `Subgame::whole`, `find`, `known`, `region` | a region whose vertices have successors in it; `find` checks this |
 //! | `Numbers::filled`, `with_capacity`, `at`, `set`, `push` | a list of numbers of 4 or 8 bytes each |
 //! | `priorities_of` | the priorities of one parity that a game has, in ascending order |
 //! | `GameFault::number`, `name` | the number and name of a fault in psyn's list of faults |
 //!
-//! `Counts` records how much work a solver did. `NonzeroCount` is a nonzero count of a list of counts, with its index
-//! in that list. Each law is a theorem, stated as the contract of a function with an empty body:
+//! `Counts` tells how much work a solver did; a `NonzeroCount` is one of a certificate's counts. A player holds a set
+//! by a table if it stays there and wins each loop of its plays. A history table moves by the whole path so far, up to
+//! a length. Each law is a theorem, stated as the contract of a function with an empty body:
 //!
 //! | Law | What it states |
 //! |---|---|
-//! | `long_path_has_loop` | a path with more vertices than the game has visits some vertex twice |
-//! | `no_memory_wins_outside` | if one player holds a set, no finite-memory strategy of the other player wins there |
-//! | `no_history_wins_outside` | in that case each history table of the other player is beaten there |
-//! | `holds_on_paths` | a set that a player holds within the subgame of all vertices is also held on paths |
+//! | `long_path_has_loop` | a path that is longer than the number of the game's vertices visits one of them twice |
+//! | `no_memory_wins_outside` | if one player holds a set, no finite-memory strategy of the other wins there |
+//! | `no_history_wins_outside` | nor does any history table of the other player |
+//! | `holds_on_paths` | a set held within the subgame of all vertices (`HoldsWithin`) is held (`Holds`) |
 //! | `only_own_moves_matter` | holding a set depends only on the moves at the player's own vertices of the set |
 //! | `loop_priority_is_top` | the priority of a loop is the greatest priority of its vertices |
 #![tactic(auto)]

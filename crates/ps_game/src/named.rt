@@ -1,4 +1,4 @@
-//! Games whose vertices have ids and names, as game texts and certificates need them.
+//! Games whose vertices have ids and names.
 
 ghost use Rattle.std.specs.Prelude.{◌≡◌, ◌≢◌, ◌<◌, ◌≤◌, length, map, vec_len, slice_index, slice_index_or, None, Some};
 ghost use Rattle.std.specs.List.{All, AllPairs};
@@ -10,8 +10,8 @@ use crate::games::Game;
 use crate::names::Names;
 use std::marker::Model;
 
-/// A game with an id and an optional name for each vertex. A name does not contain `"`. The list of names is stored
-/// only up to the last vertex that has a name.
+/// A game with an id and an optional name, without `"`, for each vertex. Names are stored only up to the last vertex
+/// that has one.
 #[derive(Drop)]
 pub struct NamedGame {
     game: Game,
@@ -22,9 +22,9 @@ pub struct NamedGame {
 /// The names of a game's first vertices.
 #[derive(Drop)]
 pub(crate) enum GivenNames {
-    /// For each of these vertices, its name or none.
+    /// A name or none for each.
     Optional(Vec<Option<Vec<u8>>>),
-    /// A name for each of these vertices.
+    /// A name for each.
     All(Names),
 }
 
@@ -50,7 +50,7 @@ impl Model for NamedGame {
 }
 
 impl NamedGame {
-    /// Gives ids and optional names to the vertices of a game, in the order of the vertices.
+    /// A game with ids and optional names, in the order of its vertices.
     pub fn new(game: Game, ids: Vec<u64>, names: Vec<Option<Vec<u8>>>) -> Self
         requires id_each { vec_len ids ≡ vertex_count game }
         requires name_each { vec_len names ≡ vertex_count game }
@@ -63,7 +63,7 @@ impl NamedGame {
         NamedGame::with_first_names(game, ids, names)
     }
 
-    /// Gives ids to the vertices of a game, in their order, and names to the first vertices only.
+    /// A game with ids for all vertices, and names for the first ones only.
     pub fn with_first_names(game: Game, ids: Vec<u64>, names: Vec<Option<Vec<u8>>>) -> Self
         requires id_each { vec_len ids ≡ vertex_count game }
         requires names_of_vertices { vec_len names ≤ vertex_count game }
@@ -80,7 +80,7 @@ impl NamedGame {
         }
     }
 
-    /// Gives ids and names to the vertices of a game, in the order of the vertices.
+    /// A game with ids and names, in the order of its vertices.
     pub fn with_names(game: Game, ids: Vec<u64>, names: Names) -> Self
         requires id_each { vec_len ids ≡ vertex_count game }
         requires name_each { length names ≡ vertex_count game }

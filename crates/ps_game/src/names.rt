@@ -1,4 +1,4 @@
-//! The names of all vertices of a game, one behind the other in one buffer.
+//! The names of a game's vertices, in one buffer.
 
 ghost use Rattle.std.specs.Prelude.{◌≡◌, ◌++◌, ◌∷◌, [], IfOk, OnErr, OnOk, length, slice_get};
 ghost use Rattle.std.specs.Option.{option_copied};
@@ -6,12 +6,11 @@ ghost use Rattle.std.specs.Option.{option_copied};
 use std::alloc::{AllocError, Global};
 use std::marker::Model;
 
-/// A list of names, each a list of bytes. All names are stored in one buffer, so a name takes no memory of its own.
+/// A list of names, each a list of bytes, in one buffer, so that no name takes memory of its own.
 #[derive(Drop)]
 pub struct Names {
-    /// The names, one behind the other.
     bytes: Vec<u8>,
-    /// 0, and then for each name the index at which it ends in `bytes`.
+    /// 0, and then where each name ends in `bytes`.
     offsets: Vec<usize>,
 }
 
@@ -27,7 +26,7 @@ impl Model for Names {
 }
 
 impl Names {
-    /// An empty list, with room for the given number of names. Fails if out of memory.
+    /// An empty list with room for `count` names. Fails if out of memory.
     pub fn with_capacity(alloc: Global, count: usize) -> Result<Self, AllocError>
         ensures { IfOk result (λ names. names ≡ []) }
     {

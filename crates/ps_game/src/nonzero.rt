@@ -1,9 +1,9 @@
-//! The nonzero counts of a list, most of whose counts are 0.
+//! The nonzero counts of a list.
 
-/// A nonzero count of a list, and its index in the list.
+/// A nonzero count of a list.
 #[derive(Clone, Copy, Debug, PartialEq)]
 pub struct NonzeroCount {
-    /// The index of the count.
+    /// Its index in the list.
     pub place: usize,
     /// The count.
     pub count: u64,

@@ -23,7 +23,7 @@ impl<W: Width> Model for Numbers<W> {
 }
 
 impl<W: Width> Numbers<W> {
-    /// A list that repeats a number `count` times. Fails if out of memory.
+    /// A number, `count` times. Fails if out of memory.
     pub fn filled(alloc: Global, number: usize, count: usize) -> Result<Numbers<W>, AllocError>
         requires { number ≤ W.LIMIT }
         ensures { IfOk result (λ numbers. numbers ≡ replicate count number) }
@@ -32,7 +32,7 @@ impl<W: Width> Numbers<W> {
         Ok(Numbers { items })
     }
 
-    /// An empty list with the capacity for `count` numbers. Fails if out of memory.
+    /// An empty list with room for `count` numbers. Fails if out of memory.
     pub fn with_capacity(alloc: Global, count: usize) -> Result<Numbers<W>, AllocError>
         ensures { IfOk result (λ numbers. numbers ≡ []) }
     {
@@ -40,14 +40,13 @@ impl<W: Width> Numbers<W> {
         Ok(Numbers { items })
     }
 
-    /// The list that consists of the given stored integers.
     pub(crate) fn of(items: Vec<W>) -> Numbers<W>
         ensures { result ≡ map W.value items.items }
     {
         Numbers { items }
     }
 
-    /// A list of the same numbers, stored as integers of the type `V`. Fails if out of memory.
+    /// The same numbers, stored as integers of the type `V`.
     pub(crate) fn in_width<V: Width>(&self, alloc: Global) -> Result<Numbers<V>, AllocError>
         requires { All (λ number. number ≤ V.LIMIT) self.now }
         ensures { IfOk result (λ numbers. numbers ≡ self.now) }
@@ -74,7 +73,7 @@ impl<W: Width> Numbers<W> {
         self.items[place].number()
     }
 
-    /// The stored integers from index `start` up to, but not including, index `end`.
+    /// The stored integers from index `start` up to `end`, which is excluded.
     pub fn part(&self, start: usize, end: usize) -> &[W]
         requires order { start ≤ end }
         requires within { end ≤ length self.now }
@@ -102,7 +101,7 @@ impl<W: Width> Numbers<W> {
         Ok(())
     }
 
-    /// Truncates the list to its first `count` numbers.
+    /// Keeps the first `count` numbers.
     pub fn truncate(&mut self, count: usize)
         ensures { self.new ≡ take count self.old }
     {

@@ -7,15 +7,13 @@ ghost use Rattle.ps_game.specs.Plays.{other_player};
 use crate::arenas::Arena;
 use std::marker::Model;
 
-/// Even or odd, the parity of a number.
 #[derive(Clone, Copy)]
 enum Parity {
     Even,
     Odd,
 }
 
-/// A player, given by the parity of the loops that the player wins: player 0 wins the loops of even priority, and
-/// player 1 wins those of odd priority.
+/// A player: player 0 wins the loops of even priority, and player 1 those of odd priority.
 #[derive(Clone, Copy)]
 pub struct Player {
     wins: Parity,
@@ -56,7 +54,7 @@ impl Player {
     /// Player 1.
     pub const ODD: Player = Player { wins: Parity::Odd };
 
-    /// The player with a given number, 0 or 1.
+    /// The player with this number, 0 or 1.
     pub fn of_number(number: u8) -> Player
         requires { number < 2 }
         ensures { result ≡ number }
@@ -68,7 +66,7 @@ impl Player {
         }
     }
 
-    /// The player who wins a loop with the given greatest priority.
+    /// The player who wins a loop of this priority.
     pub fn of_priority(priority: u64) -> Player
         ensures { result ≡ priority % 2 }
     {

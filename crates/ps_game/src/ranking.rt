@@ -6,8 +6,8 @@ ghost use Rattle.ps_game.specs.Ranking.{ListsPriorities};
 use crate::arenas::Arena;
 use std::alloc::{AllocError, Global};
 
-/// The priorities of the given parity, 0 or 1, that occur in a game, each once, in ascending order. Takes as long as
-/// sorting the priorities of all vertices. Fails if out of memory.
+/// The priorities of this parity, 0 or 1, that occur in a game, each once, ascending. Takes as long as sorting all
+/// priorities. Fails if out of memory.
 pub fn priorities_of<A: Arena>(
     alloc: Global,
     arena: &A,

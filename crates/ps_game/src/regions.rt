@@ -1,5 +1,4 @@
-//! Sets of vertices, with one bit for each vertex. Union, difference and count process eight words of 64 bits at a
-//! time.
+//! Sets of vertices, with one bit for each vertex.
 
 ghost use Rattle.std.specs.Prelude.{◌≡◌, ◌<◌, ◌↔◌, ◌&&◌, ◌||◌, ℕ, IfOk, IsTrue, true, false, not, length, replicate};
 ghost use Rattle.std.specs.Prelude.{count_by, slice_set};
@@ -9,11 +8,10 @@ use crate::words::{count_set, is_clear, subtract, unite};
 use std::alloc::{AllocError, Global};
 use std::marker::Model;
 
-/// The number of vertices that one 64-bit word represents.
 const WORD: usize = 64;
 
 /// A set of vertices, which are numbers less than `places`. Bit b of word w is set if vertex 64·w + b is in the set;
-/// all bits of numbers from `places` on are 0.
+/// all bits from `places` on are 0.
 #[derive(Drop)]
 pub struct Region {
     places: usize,
@@ -52,7 +50,7 @@ impl Region {
         Ok(Region { places, words })
     }
 
-    /// The size of the universe: the set can contain the vertices less than this number.
+    /// The set can contain the vertices less than this number.
     pub fn places(&self) -> usize
         ensures { result ≡ length self.now }
     {

@@ -1,4 +1,4 @@
-//! Positional strategies: a move, or no move, for each vertex.
+//! Positional strategies.
 
 ghost use Rattle.std.specs.Prelude.{◌≡◌, ◌<◌, IfOk, Some, None, length, replicate, slice_set};
 ghost use Rattle.ps_game.specs.Regions.{move_at};
@@ -7,8 +7,8 @@ use crate::regions::Region;
 use std::alloc::{AllocError, Global};
 use std::marker::Model;
 
-/// A move, or no move, for each vertex: the set of vertices that have a move, and the move of each of these vertices.
-/// Since every number can be a move, no number can represent the absence of a move.
+/// A move, or none, for each vertex. Since every number can be a move, the vertices that have one are a set of their
+/// own.
 #[derive(Drop)]
 pub struct Strategy {
     chosen: Region,
@@ -27,7 +27,7 @@ impl Model for Strategy {
 }
 
 impl Strategy {
-    /// A table without a move at any vertex. Fails if out of memory.
+    /// A table without moves. Fails if out of memory.
     pub fn empty(alloc: Global, places: usize) -> Result<Strategy, AllocError>
         ensures { IfOk result (λ strategy. strategy ≡ replicate places None) }
     {

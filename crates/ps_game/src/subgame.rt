@@ -36,7 +36,7 @@ impl Subgame {
         Ok(Subgame { region })
     }
 
-    /// The given region as a subgame, if each vertex of the region has a successor in the region.
+    /// The region as a subgame, if it is one.
     pub fn find<A: Arena>(arena: &A, region: Region) -> Option<Subgame>
         requires { length region ≡ vertex_count (A.game arena.now) }
         ensures subgame { IsSome result ↔ IsSubgame (A.game arena.now) (has region) }
@@ -50,8 +50,7 @@ impl Subgame {
         Some(Subgame { region })
     }
 
-    /// The given region as a subgame; the caller guarantees that each vertex of the region has a successor in the
-    /// region.
+    /// The region as a subgame, as the caller guarantees.
     pub fn known<A: Arena>(arena: &A, region: Region) -> Subgame
         requires places { length region ≡ vertex_count (A.game arena.now) }
         requires subgame { IsSubgame (A.game arena.now) (has region) }
@@ -69,7 +68,6 @@ impl Subgame {
     }
 }
 
-/// Whether a vertex has a successor in a region.
 fn goes_on<A: Arena>(arena: &A, region: &Region, vertex: usize) -> bool
     requires game { IsGame (A.game arena.now) }
     requires vertex { vertex < vertex_count (A.game arena.now) }

@@ -1,4 +1,4 @@
-//! A growing list of vertices in arrays, which a parser of game texts builds.
+//! A list of vertices, which a parser of game texts builds.
 
 ghost use Rattle.std.specs.Prelude.{◌≡◌, ◌≢◌, ◌==◌, ◌<◌, ◌≤◌, ◌+◌, ◌++◌, ◌∷◌, [], IfOk, OnOk, OnErr, Contains, length};
 ghost use Rattle.std.specs.Prelude.{◌↔◌, IsTrue, map, nat_lt, take, vec_len, vec_capacity};
@@ -18,8 +18,8 @@ use ps_ids::Ids;
 use std::alloc::{AllocError, Global};
 use std::marker::Model;
 
-/// A list of vertices whose successors may be any numbers. The vertices are stored in four arrays, which take 17 bytes
-/// for each vertex and 8 bytes for each successor.
+/// A list of vertices whose successors may be any numbers, in four arrays, which take 17 bytes a vertex and 8 a
+/// successor.
 #[derive(Drop)]
 pub struct Vertices {
     offsets: Vec<usize>,
@@ -38,7 +38,7 @@ impl Model for Vertices {
 
 #[tactic(auto, unfolding(crate::specs::Games::vertex_count, crate::specs::Games::successors_of))]
 impl Vertices {
-    /// An empty list of vertices. Fails if out of memory.
+    /// No vertices. Fails if out of memory.
     pub fn new(alloc: Global) -> Result<Self, AllocError>
         ensures { IfOk result (λ vertices. vertices ≡ []) }
     {
@@ -83,7 +83,7 @@ impl Vertices {
         Ok(())
     }
 
-    /// Truncates the list to its first `count` vertices.
+    /// Keeps the first `count` vertices.
     pub fn truncate(&mut self, count: usize)
         ensures { self.new ≡ take count self.old }
     {
@@ -97,31 +97,29 @@ impl Vertices {
         self.priorities.truncate(count);
     }
 
-    /// Whether each successor is one of the given ids.
+    /// Whether each successor is one of the ids.
     pub fn know_successors(&self, ids: &Ids) -> bool
         ensures { result ≡ list_all (λ v. list_all (λ w. list_any (λ id. w == id) ids.now) v.successors) self.now }
     {
-        // If each id is its own index, the ids are the numbers less than the number of ids.
+        // If each id is its own index, the ids are the numbers less than their count.
         if are_places(ids.list()) {
             return are_below(&self.successors, ids.list().len());
         }
         are_ids(ids, &self.successors)
     }
 
-    /// Replaces each successor, which must be an id, by the index of this id.
+    /// Replaces each successor, which must be an id, by its index.
     pub fn resolve(&mut self, ids: &Ids)
         requires { All (λ v. All (λ w. Contains ids.now w) v.successors) self.old }
         ensures { self.new ≡ map (with_places ids.now) self.old }
     {
-        // If each id is its own index, nothing changes.
         if are_places(ids.list()) {
             return;
         }
         places_in(&mut self.successors, ids);
     }
 
-    /// The game with the vertices of the list. A repeated successor counts once, at its first occurrence. Fails if out
-    /// of memory.
+    /// The game with these vertices. A repeated successor counts once, at its first occurrence. Fails if out of memory.
     pub fn into_game(self, alloc: Global) -> Result<Game, AllocError>
         requires bare { NoneBare self }
         requires known { NoneUnknown self }
@@ -134,7 +132,6 @@ impl Vertices {
         distinct_game(alloc, listed)
     }
 
-    /// The game with the vertices of the list.
     pub(crate) fn as_game(self) -> Game
         requires { IsGame self }
         ensures { result ≡ self }
@@ -155,7 +152,6 @@ impl Vertices {
         }
     }
 
-    /// The successors of a vertex.
     fn successors(&self, vertex: usize) -> &[usize]
         requires { vertex < vertex_count self.now }
         ensures { result.now ≡ successors_of self.now vertex }
@@ -167,8 +163,7 @@ impl Vertices {
         own
     }
 
-    /// A quick test for repeated successors. If the result is true, no vertex has a successor twice; if the result is
-    /// false, nothing is known.
+    /// A quick test: if true, no vertex has a successor twice; if false, nothing is known.
     fn are_distinct(&self) -> bool
         ensures { OnTrue result (HaveNoRepeats self.now) }
     {
@@ -180,7 +175,7 @@ impl Vertices {
         true
     }
 
-    /// Converts the four arrays to a list of vertices, each with its own list of successors. Fails if out of memory.
+    /// The vertices, each with a list of its own.
     fn listed(&self, alloc: Global) -> Result<Vec<Vertex>, AllocError>
         ensures { IfOk result (λ vertices. vertices.items ≡ self.now) }
     {
@@ -198,7 +193,7 @@ impl Vertices {
     }
 }
 
-/// Reserves memory for the offset, the owner and the priority of one more vertex.
+/// Reserves memory for one more vertex without its successors.
 #[inline(always)]
 fn make_room(
     offsets: &mut Vec<usize>,
@@ -217,11 +212,10 @@ fn make_room(
     priorities.reserve(1)
 }
 
-/// The largest length of a list whose numbers are copied one by one.
 const SHORT: usize = 8;
 
-/// Appends numbers to a list. The numbers of a short list are copied one by one, since a call that copies memory takes
-/// longer. Fails if out of memory; then nothing changes.
+/// Appends numbers. Up to `SHORT` of them are copied one by one, since a call that copies memory takes longer. Fails if
+/// out of memory; then nothing changes.
 #[inline(always)]
 fn append(list: &mut Vec<usize>, numbers: &[usize]) -> Result<(), AllocError>
     ensures ok { OnOk result (list.new.items ≡ list.old.items ++ numbers.now) }
@@ -237,21 +231,19 @@ fn append(list: &mut Vec<usize>, numbers: &[usize]) -> Result<(), AllocError>
     Ok(())
 }
 
-/// Whether each number of a list is an id.
 fn are_ids(ids: &Ids, list: &[usize]) -> bool
     ensures { result ≡ list_all (λ w. list_any (λ id. w == id) ids.now) list.now }
 {
     list.iter().all(|id| ids.has(*id as u64))
 }
 
-/// Whether each number of a list is less than `bound`.
 fn are_below(numbers: &[usize], bound: usize) -> bool
     ensures { result ≡ list_all (λ number. nat_lt number bound) numbers.now }
 {
     numbers.iter().all(|number| *number < bound)
 }
 
-/// Whether each id is its own index: the ids are 0, 1, 2 and so on.
+/// Whether the ids are 0, 1, 2 and so on.
 fn are_places(ids: &[u64]) -> bool
     ensures { IsTrue result ↔ AreOwn ids.now }
 {
@@ -263,7 +255,7 @@ fn are_places(ids: &[u64]) -> bool
     true
 }
 
-/// Replaces each id in `numbers` by the id's index.
+/// Replaces each id by its index.
 fn places_in(numbers: &mut [usize], ids: &Ids)
     requires { All (λ id. Contains ids.now id) numbers.old }
     ensures { numbers.new ≡ map (place_of ids.now) numbers.old }
@@ -274,11 +266,10 @@ fn places_in(numbers: &mut [usize], ids: &Ids)
     }
 }
 
-/// The largest length of a list whose numbers are compared pairwise in the test for repeated numbers.
 const FEW: usize = 8;
 
-/// A quick test for repeated numbers: if the result is true, no number occurs twice in the list. The numbers of a short
-/// list are compared pairwise; a longer list passes only if it is strictly ascending.
+/// A quick test: if true, no number occurs twice. Up to `FEW` numbers are compared pairwise; a longer list passes only
+/// if it ascends.
 fn are_different(numbers: &[usize]) -> bool
     ensures { OnTrue result (AllPairs (λ x y. x ≢ y) numbers.now) }
 {

@@ -1,19 +1,18 @@
-//! The integer types in which the numbers of large tables are stored: `u32` and `usize`.
+//! The integer types in which large tables are stored: `u32` and `usize`.
 
 ghost use Rattle.std.specs.Prelude.{◌≡◌, ◌^◌, ◌-◌, ◌≤◌, ℕ};
 
-/// An integer type in which the numbers of large tables are stored. With a smaller type, tables take less memory.
+/// An integer type in which the numbers of large tables are stored.
 pub trait Width: Copy {
     /// In clauses, the number that a value of the type represents.
     ghost value: { Self → ℕ };
 
-    /// The largest number that fits the type.
     ghost LIMIT: { ℕ };
 
     /// The largest number that fits the type.
     const LIMIT: usize;
 
-    /// Converts a number, which must fit, to a value of this type.
+    /// The number, which must fit, as a value of this type.
     fn of(number: usize) -> Self
         requires { number ≤ LIMIT }
         ensures { value result ≡ number };
@@ -22,7 +21,6 @@ pub trait Width: Copy {
     fn number(self) -> usize
         ensures { result ≡ value self };
 
-    /// A clone of a value equals the value.
     ghost clones_equal: { (x y : Self) → Self.is_clone x y → y ≡ x };
 }
 

@@ -1,4 +1,4 @@
-//! Bit operations on lists of 64-bit words, which process eight words at a time by SIMD.
+//! Bit operations on lists of 64-bit words, eight at a time by SIMD.
 
 ghost use Rattle.std.specs.Prelude.{◌≡◌, ◌↔◌, ℕ, ◌<◌, ◌^◌, IsTrue, length, slice_index};
 ghost use Rattle.std.specs.Prelude.{bit_and, bit_or, count_ones};
@@ -7,10 +7,9 @@ ghost use Rattle.std.specs.List.{sum_by};
 
 use std::simd::prelude::*;
 
-/// The number of 64-bit words processed at a time.
+/// The number of words processed at a time.
 const LANES: usize = 8;
 
-/// Sets each bit of `words` that is set in `others`.
 pub(crate) fn unite(words: &mut [u64], others: &[u64])
     requires { length others.now ≡ length words.old }
     ensures { (k : ℕ) → slice_index words.new k ≡ bit_or (slice_index words.old k) (slice_index others.now k) }
@@ -26,7 +25,6 @@ pub(crate) fn unite(words: &mut [u64], others: &[u64])
     }
 }
 
-/// Clears each bit of `words` that is set in `others`.
 pub(crate) fn subtract(words: &mut [u64], others: &[u64])
     requires { length others.now ≡ length words.old }
     ensures in_range { (k : ℕ) → slice_index others.now k < 2 ^ 64 }
@@ -44,7 +42,6 @@ pub(crate) fn subtract(words: &mut [u64], others: &[u64])
     }
 }
 
-/// The number of bits that are set in a list of words.
 pub(crate) fn count_set(words: &[u64]) -> usize
     requires { sum_by count_ones words.now < 2 ^ 64 }
     ensures in_range { (k : ℕ) → slice_index words.now k < 2 ^ 64 }
@@ -62,7 +59,6 @@ pub(crate) fn count_set(words: &[u64]) -> usize
     count
 }
 
-/// Whether all bits of a list of words are 0.
 pub(crate) fn is_clear(words: &[u64]) -> bool
     ensures in_range { (k : ℕ) → slice_index words.now k < 2 ^ 64 }
     ensures clear { IsTrue result ↔ ((k : ℕ) → slice_index words.now k ≡ 0) }

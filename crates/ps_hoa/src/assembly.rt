@@ -22,7 +22,6 @@ use crate::rows::Rows;
 use ps_label::{Label, Labels};
 use std::alloc::{AllocError, Global};
 
-/// The file with a given header and a given body.
 pub(crate) fn file(alloc: Global, header: Header, rows: Rows) -> Result<HoaFile, HoaFault>
     requires { IsSoundFile (file_of (header_data header) (body_data rows)) }
     ensures value { IfOk result (λ file. file ≡ file_of (header_data header.entry) (body_data rows)) }
@@ -56,7 +55,7 @@ pub(crate) fn file(alloc: Global, header: Header, rows: Rows) -> Result<HoaFile,
     })
 }
 
-/// The list of aliases, each of which uses only earlier aliases.
+/// The aliases, each of which uses only earlier ones.
 fn labels(alloc: Global, aliases: Vec<Label>) -> Result<Labels, AllocError>
     requires { AreOrdered (expressions aliases.items) }
     ensures { IfOk result (λ labels. labels ≡ aliases.items) }
@@ -68,8 +67,7 @@ fn labels(alloc: Global, aliases: Vec<Label>) -> Result<Labels, AllocError>
     Ok(labels)
 }
 
-/// The number of states: the number that the header states, or else one more than the greatest state that the text
-/// names.
+/// What the header states, or else one more than the greatest state that the text names.
 fn count_of_states(states: Option<u32>, start: u32, rows: &[Row]) -> u32
     requires { files.count_of_states states start (map row_data rows.now) ≤ state_limit }
     ensures { result ≡ files.count_of_states states start (map row_data rows.now) }
@@ -80,7 +78,7 @@ fn count_of_states(states: Option<u32>, start: u32, rows: &[Row]) -> u32
     }
 }
 
-/// The greatest of these states: `named`, the states that have a row in `rows`, and the targets of the rows' edges.
+/// The greatest of `named`, the states of the rows, and the targets of their edges.
 fn greatest_state(named: u32, rows: &[Row]) -> u32
     ensures { result ≡ files.greatest_state named (map row_data rows.now) }
 {
@@ -91,7 +89,7 @@ fn greatest_state(named: u32, rows: &[Row]) -> u32
     greatest
 }
 
-/// The greatest state among `named` and the targets of the given edges.
+/// The greatest of `named` and the targets of the edges.
 fn greatest_target(named: u32, edges: &[Edge]) -> u32
     ensures { result ≡ files.greatest_target named (map edge_data edges.now) }
 {

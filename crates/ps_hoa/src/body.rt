@@ -28,7 +28,7 @@ use crate::usual::Usual;
 use ps_label::Label;
 use std::alloc::Global;
 
-/// Parses the body: its states, then `--END--`.
+/// Parses the states, then `--END--`.
 pub(crate) fn body(alloc: Global, tokens: &mut Tokens, header: &Header) -> Result<Rows, HoaFault>
     ensures { ReadsAs body_data (parts.body (header_data header.now)) tokens.old result tokens.new }
 {
@@ -48,7 +48,6 @@ fn states(alloc: Global, tokens: &mut Tokens, header: &Header) -> Result<Rows, H
     Ok(rows)
 }
 
-/// Whether the next token is `State:`.
 fn is_at_state(tokens: &Tokens) -> bool
     ensures { result ≡ is_some (state_value (next_of (stream_of tokens.now)).sign) }
 {
@@ -56,7 +55,7 @@ fn is_at_state(tokens: &Tokens) -> bool
     is_name(token, b"State:")
 }
 
-/// Parses the next state, and adds its row to the rows of the earlier states.
+/// Parses a state, and adds its row.
 fn state(
     alloc: Global,
     tokens: &mut Tokens,
@@ -71,7 +70,7 @@ fn state(
     Ok(())
 }
 
-/// Parses the row of a state that has no row yet.
+/// Parses the row of a state that has none yet.
 fn row(alloc: Global, tokens: &mut Tokens, header: &Header, rows: &Rows) -> Result<Row, HoaFault>
     ensures part { ReadsAs (λ row. with_row (body_data rows.now) (row_data row))
         (parts.state (header_data header.now) (body_data rows.now)) tokens.old result tokens.new }
@@ -94,7 +93,7 @@ fn row(alloc: Global, tokens: &mut Tokens, header: &Header, rows: &Rows) -> Resu
     Ok(row)
 }
 
-/// An empty list of edges, which has space for as many edges as the previous state has, unless memory runs out.
+/// No edges, with space for as many as the previous state has, unless memory runs out.
 fn no_edges(alloc: Global, previous: Option<&Row>) -> Vec<Edge>
     ensures { result.items ≡ [] }
 {
@@ -108,7 +107,7 @@ fn no_edges(alloc: Global, previous: Option<&Row>) -> Vec<Edge>
     }
 }
 
-/// Reads `State:`, and checks that the previous state has the right number of edges.
+/// Reads `State:`; the previous state must have the right number of edges.
 fn begin(tokens: &mut Tokens, header: &Header, rows: &Rows) -> Result<(), HoaFault>
     ensures { ReadsAs (λ u. u) (parts.state_begins (header_data header.now) (body_data rows.now)) tokens.old
         result tokens.new }
@@ -117,7 +116,7 @@ fn begin(tokens: &mut Tokens, header: &Header, rows: &Rows) -> Result<(), HoaFau
     begin_of(token, header, rows)
 }
 
-/// Checks that a token is `State:`, and that the previous state has the right number of edges.
+/// Checks that a token is what `begin` reads.
 fn begin_of(token: Token, header: &Header, rows: &Rows) -> Result<(), HoaFault>
     ensures { Takes (λ u. u) state_value (IsBadNext (header_data header.now) (body_data rows.now))
         (piece_of token.entry) result }
@@ -131,7 +130,7 @@ fn begin_of(token: Token, header: &Header, rows: &Rows) -> Result<(), HoaFault>
     }
 }
 
-/// Reads `--END--`, and checks that the last state has the right number of edges.
+/// Reads `--END--`; the last state must have the right number of edges.
 fn end(tokens: &mut Tokens, header: &Header, rows: &Rows) -> Result<(), HoaFault>
     ensures { ReadsAs (λ _. body_data rows.now) (parts.ended (header_data header.now) (body_data rows.now)) tokens.old
         result tokens.new }
@@ -140,7 +139,7 @@ fn end(tokens: &mut Tokens, header: &Header, rows: &Rows) -> Result<(), HoaFault
     end_of(token, header, rows)
 }
 
-/// Checks that a token is `--END--`, and that the last state has the right number of edges.
+/// Checks that a token is what `end` reads.
 fn end_of(token: Token, header: &Header, rows: &Rows) -> Result<(), HoaFault>
     ensures { Takes (λ u. u) (expect_in is_end) (IsBadClose (header_data header.now) (body_data rows.now))
         (piece_of token.entry) result }
@@ -152,7 +151,7 @@ fn end_of(token: Token, header: &Header, rows: &Rows) -> Result<(), HoaFault>
     }
 }
 
-/// Whether the row of the last state has implicit labels, but not exactly one edge for each letter.
+/// Whether `has_wrong_count` is true of the last state.
 fn is_end_wrong(header: &Header, rows: &Rows) -> bool
     ensures { (result ≡ true) ↔ IsEndWrong (header_data header.now) (body_data rows.now) }
 {
@@ -162,7 +161,7 @@ fn is_end_wrong(header: &Header, rows: &Rows) -> bool
     }
 }
 
-/// Whether a state's row has implicit labels, but not exactly one edge for each letter.
+/// Whether a row has implicit labels, but not exactly one edge for each letter.
 fn has_wrong_count(row: &Row, propositions: usize) -> bool
     ensures { (h : HeaderData) → length (names_of h) ≡ propositions →
         (result ≡ true) ↔ IsWrongCount h (row_data row.now) }
@@ -171,7 +170,6 @@ fn has_wrong_count(row: &Row, propositions: usize) -> bool
         && !is_power_of_two(row.edges.len(), propositions)
 }
 
-/// Whether a number is 2 to the power of another.
 fn is_power_of_two(number: usize, exponent: usize) -> bool
     ensures { (result ≡ true) ↔ (number ≡ 2 ^ exponent) }
 {
@@ -195,7 +193,6 @@ fn state_label(
     Ok(Some(label))
 }
 
-/// Reads the number of a state that has no row yet.
 fn state_number(tokens: &mut Tokens, header: &Header, rows: &Rows) -> Result<u32, HoaFault>
     ensures part { ReadsAs (λ n. n) (parts.state_number (header_data header.now) (body_data rows.now)) tokens.old
         result tokens.new }
@@ -205,7 +202,7 @@ fn state_number(tokens: &mut Tokens, header: &Header, rows: &Rows) -> Result<u32
     new_state_of(token, header, rows)
 }
 
-/// The state that a token names. It is an error if the text has the edges of this state already.
+/// The state that a token names, which must not have a row yet.
 fn new_state_of(token: Token, header: &Header, rows: &Rows) -> Result<u32, HoaFault>
     ensures { Takes (λ n. n) int_in (BadIn (IsBadRow (header_data header.now) (body_data rows.now)))
         (piece_of token.entry) result }

@@ -15,20 +15,20 @@ use crate::signs::{expect, int_of};
 use crate::tokens::{Kind, Token, Tokens, is_same};
 use std::alloc::{AllocError, Global};
 
-/// The number of operands for which space is made before they are parsed.
+/// The number of operands for which space is made at first.
 const SPACE: usize = 4;
 
-/// An acceptance condition (HOA v1, acceptance). A condition is a Boolean combination of statements that a run visits a
-/// set of edges infinitely often, or only finitely often.
+/// An acceptance condition (HOA v1, acceptance): a Boolean combination of statements that a run visits a set of edges
+/// infinitely often, or only finitely often.
 #[derive(Debug, Drop)]
 pub enum Cond {
-    /// The condition that is true of every run.
+    /// True of every run.
     Always,
-    /// The condition that is true of no run.
+    /// True of no run.
     Never,
-    /// A set, given by its number, or its complement if the flag is true, is visited infinitely often.
+    /// A set, or its complement if the flag is true, is visited infinitely often.
     Inf(u32, bool),
-    /// A set, given by its number, or its complement if the flag is true, is visited only finitely often.
+    /// A set, or its complement if the flag is true, is visited only finitely often.
     Fin(u32, bool),
     /// All operands hold.
     All(Vec<Cond>),
@@ -36,7 +36,7 @@ pub enum Cond {
     Any(Vec<Cond>),
 }
 
-/// An acceptance set, given by its number, or the complement of an acceptance set.
+/// A set, or its complement.
 #[derive(Clone, Copy)]
 struct Set {
     number: u32,
@@ -119,7 +119,7 @@ impl Infix for Conditions {
     }
 }
 
-/// The condition that a set is visited infinitely often if `often` is true, and finitely often otherwise.
+/// `Inf` if `often` is true, else `Fin`.
 fn visits(often: bool, set: Set) -> Cond
     ensures { condition_of result ≡ conditions.visits often (set_data set) }
 {
@@ -130,7 +130,7 @@ fn visits(often: bool, set: Set) -> Cond
     }
 }
 
-/// Whether the token is `Inf`. The result is `None` if the token is neither `Inf` nor `Fin`.
+/// Whether a token is `Inf`; `None` if it is neither this nor `Fin`.
 fn often_of(token: Token) -> Option<bool>
     ensures { result ≡ conditions.often_in (piece_of token.entry).sign }
 {
@@ -149,7 +149,6 @@ fn constant(tokens: &mut Tokens) -> Result<Cond, HoaFault>
     constant_of(token)
 }
 
-/// The constant that a token names.
 fn constant_of(token: Token) -> Result<Cond, HoaFault>
     ensures { Takes condition_of conditions.constant_in NoBad (piece_of token.entry) result }
 {
@@ -171,7 +170,6 @@ fn any_set(tokens: &mut Tokens) -> Result<Set, HoaFault>
     one_set(tokens, false)
 }
 
-/// Parses the number of a set.
 fn one_set(tokens: &mut Tokens, complemented: bool) -> Result<Set, HoaFault>
     ensures { ReadsAs set_data (conditions.set complemented) tokens.old result tokens.new }
 {
@@ -179,7 +177,6 @@ fn one_set(tokens: &mut Tokens, complemented: bool) -> Result<Set, HoaFault>
     set_of(token, complemented)
 }
 
-/// The set that a token names, or the complement of that set.
 fn set_of(token: Token, complemented: bool) -> Result<Set, HoaFault>
     ensures { Takes set_data (conditions.set_in complemented) conditions.BadSet (piece_of token.entry) result }
 {

@@ -1,4 +1,4 @@
-//! The parser of a state's edges: their labels, targets and acceptance sets.
+//! The parser of a state's edges.
 
 ghost use Rattle.std.specs.Prelude.{[], ◌≡◌, ◌+◌, ◌<◌, ◌≤◌, ◌↔◌, Bool, IfOk, IsTrue, OnOk, length, map, Some};
 ghost use Rattle.ps_label.specs.Expression.{expression};
@@ -26,26 +26,25 @@ use crate::usual::Usual;
 use ps_label::Label;
 use std::alloc::Global;
 
-/// The largest number of edges that a text may have.
+/// The most edges of a text.
 pub(crate) const EDGE_LIMIT: usize = 1_048_576;
 
-/// The largest number of states. If the header has no `States:`, every state must be less than this number.
+/// The most states. Without `States:`, every state must be less than this.
 const STATE_LIMIT: u32 = 65_535;
 
-/// The ways in which the edges of a state are labelled.
+/// How the edges of a state are labelled.
 #[derive(Clone, Copy)]
 pub(crate) enum Labelling {
-    /// All edges are labelled by the label of the state.
+    /// By the label of the state.
     ByState,
-    /// Each edge is labelled by a label of its own.
+    /// By a label of each edge.
     ByEdge,
-    /// The order of the edges labels them: the edge with the index `k` is taken at the letter `k`.
+    /// By their order: the edge with the index `k` is taken at the letter `k`.
     ByPlace,
-    /// How the edges are labelled is not known yet: the state has no label, and no edge was parsed so far.
+    /// Not known yet: the state has no label, and no edge was parsed so far.
     NotKnown,
 }
 
-/// How the edges of a state are labelled so far.
 pub(crate) fn labelling_of(row: &Row) -> Labelling
     ensures { result ≡ parts.labelling (row_data row.now) }
 {
@@ -62,8 +61,8 @@ pub(crate) fn labelling_of(row: &Row) -> Labelling
     }
 }
 
-/// Parses the edges of a state, up to the first token that does not begin an edge, and gives up the space that the list
-/// of edges does not use. The argument `before` is the number of edges of the earlier states.
+/// Parses the edges of a state, and gives up the space that their list does not use. `before` is the number of edges of
+/// the earlier states.
 pub(crate) fn edges(
     alloc: Global,
     tokens: &mut Tokens,
@@ -88,7 +87,6 @@ fn is_at_edge(tokens: &Tokens) -> bool
     matches!(tokens.peek().kind, Kind::LeftBracket | Kind::Int)
 }
 
-/// Parses one more edge of a state.
 fn edge(
     alloc: Global,
     tokens: &mut Tokens,
@@ -106,7 +104,6 @@ fn edge(
     }
 }
 
-/// Parses an edge with a label.
 fn labelled_edge(
     alloc: Global,
     tokens: &mut Tokens,
@@ -129,7 +126,6 @@ fn labelled_edge(
     Ok(())
 }
 
-/// Parses an edge without a label.
 fn plain_edge(
     alloc: Global,
     tokens: &mut Tokens,
@@ -151,7 +147,7 @@ fn plain_edge(
     Ok(())
 }
 
-/// The guard of a state's next edge if this edge has no label. A guard tells at which letters its edge is taken.
+/// The guard of the next edge, if it has no label.
 fn plain_guard(row: &Row) -> Guard
     ensures { guard_data result ≡ parts.plain_guard (row_data row.now) }
 {
@@ -161,7 +157,6 @@ fn plain_guard(row: &Row) -> Guard
     }
 }
 
-/// Reads the `[` of an edge.
 fn bracket(tokens: &mut Tokens, before: usize, row: &Row) -> Result<(), HoaFault>
     ensures { ReadsAs (λ u. u) (one is_bracket (IsBadBracket before (row_data row.now))) tokens.old
         result tokens.new }
@@ -170,7 +165,7 @@ fn bracket(tokens: &mut Tokens, before: usize, row: &Row) -> Result<(), HoaFault
     bracket_of(token, before, row)
 }
 
-/// Checks that a token is the `[` of an edge, and that an edge with a label is allowed here.
+/// Checks that a token is `[`, and that a labelled edge is allowed here.
 fn bracket_of(token: Token, before: usize, row: &Row) -> Result<(), HoaFault>
     ensures { Takes (λ u. u) is_bracket (IsBadBracket before (row_data row.now)) (piece_of token.entry) result }
 {
@@ -185,7 +180,7 @@ fn bracket_of(token: Token, before: usize, row: &Row) -> Result<(), HoaFault>
     }
 }
 
-/// How many operands to make space for in the label of a state's next edge.
+/// How many operands to make space for in the next label.
 fn usual_in(row: &Row) -> Usual {
     match row.edges.last() {
         Some(edge) => match &edge.guard {
@@ -196,7 +191,7 @@ fn usual_in(row: &Row) -> Usual {
     }
 }
 
-/// Parses what follows the `[` of a label. The argument `usual` tells how many operands to make space for.
+/// Parses what follows the `[` of a label.
 pub(crate) fn label_in_brackets(
     alloc: Global,
     tokens: &mut Tokens,
@@ -212,7 +207,6 @@ pub(crate) fn label_in_brackets(
     Ok(label)
 }
 
-/// Parses the target of an edge with a label.
 fn labelled_target(tokens: &mut Tokens, header: &Header) -> Result<u32, HoaFault>
     ensures { ReadsAs (λ n. n) (parts.labelled_target (header_data header.now)) tokens.old result tokens.new }
 {
@@ -222,7 +216,6 @@ fn labelled_target(tokens: &mut Tokens, header: &Header) -> Result<u32, HoaFault
     Ok(target)
 }
 
-/// Parses the target of an edge without a label.
 fn plain_target(
     tokens: &mut Tokens,
     header: &Header,
@@ -302,7 +295,7 @@ pub(crate) fn marks(alloc: Global, tokens: &mut Tokens, header: &Header) -> Resu
     }
 }
 
-/// Parses acceptance sets between braces. The number of each set must be less than `count`.
+/// Parses acceptance sets between braces, each less than `count`.
 #[inline(never)]
 fn sets(alloc: Global, tokens: &mut Tokens, count: u32) -> Result<Marks, HoaFault>
     ensures { ReadsAs mark_list (parts.sets count) tokens.old result tokens.new }
@@ -313,8 +306,7 @@ fn sets(alloc: Global, tokens: &mut Tokens, count: u32) -> Result<Marks, HoaFaul
     Ok(marks)
 }
 
-/// Parses the numbers of acceptance sets, up to the first token that is not a number. Each number must be less than
-/// `count`.
+/// Parses the numbers of sets, each less than `count`.
 fn set_numbers(alloc: Global, tokens: &mut Tokens, count: u32) -> Result<Marks, HoaFault>
     ensures { ReadsAs mark_list (many (parts.set_number count) []) tokens.old result tokens.new }
 {
@@ -327,7 +319,7 @@ fn set_numbers(alloc: Global, tokens: &mut Tokens, count: u32) -> Result<Marks, 
     Ok(marks)
 }
 
-/// The acceptance set that a token names by its number. The number must be less than `count`.
+/// The set that a token names, less than `count`.
 fn set_of(token: Token, count: u32) -> Result<u32, HoaFault>
     ensures { Takes (λ n. n) int_in (BadIn (IsBadSet count)) (piece_of token.entry) result }
 {

@@ -16,8 +16,8 @@ pub fn one_expression()
     ensures conditions { (room : ℕ) → HasOneMeaning (conditions.condition room).IsText }
 {}
 
-/// A grammar that limits the nesting of `!` and `(` gives the same labels and conditions as the grammar without a
-/// limit, as far as the nesting is within the limit.
+/// A grammar that limits the nesting of `!` and `(` gives the same labels and conditions as the one without a limit, as
+/// far as the nesting is within it.
 pub fn bounded_nesting()
     ensures labels { (scope : ScopeData) (room : ℕ) (text : List Sign) (v : Expression) →
         (labels.label scope room).IsText text v ↔ Within room (IsLabel scope.names) text v }

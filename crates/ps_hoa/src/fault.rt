@@ -5,8 +5,8 @@ ghost use Rattle.ps_hoa.specs.Causes.{cause_number};
 
 use ps_text::faults::{Cause, Fault};
 
-/// Why an HOA text is rejected. Most descriptions name in brackets the part of the format description that the text
-/// violates. The limits and the rules for names are psyn's own, not those of HOA v1.
+/// Why an HOA text is rejected; in brackets, the part of the format description that it violates. The limits and the
+/// rules for names are psyn's own.
 #[derive(Clone, Copy, Debug, PartialEq, Eq)]
 pub enum HoaCause {
     /// The text does not begin with `HOA:` (HOA v1: header).
@@ -27,17 +27,17 @@ pub enum HoaCause {
     UnknownHeader,
     /// A limit is exceeded.
     Limit,
-    /// The body has the token `--ABORT--`, so the text was aborted.
+    /// The body has `--ABORT--`.
     Aborted,
     /// `&` follows a state, so the automaton is alternating (HOA v1: body).
     Alternating,
-    /// There is no start state, or there is a second start state.
+    /// There is no start state, or a second one.
     Start,
     /// A number is not the number of a proposition, a set or a state.
     Range,
     /// An alias is not defined before its use, or is defined twice (HOA v1: labels).
     Alias,
-    /// A label of an edge is missing or not allowed, or the number of edges without labels is wrong (HOA v1, body:
+    /// An edge's label is missing or not allowed, or the number of edges without labels is wrong (HOA v1, body:
     /// implicit labels).
     Labels,
     /// A state has a second row (HOA v1: body).

@@ -19,12 +19,11 @@ use std::marker::Model;
 /// The letters at which an edge is taken (HOA v1, body: labels of edges and of states, implicit labels).
 #[derive(Debug, Drop)]
 pub enum Guard {
-    /// The letters at which the edge's own label is true.
+    /// Those at which the edge's own label is true.
     Stated(Label),
-    /// The letters at which the label of the edge's state is true.
+    /// Those at which the label of its state is true.
     OfState,
-    /// Only the letter of the given number: proposition `i` is true at this letter exactly if bit `i` of the number is
-    /// set. The number is also the index of the edge in its state's row.
+    /// Only this letter, which is also the index of the edge in its state's row. Proposition `i` is bit `i`.
     Letter(u64),
 }
 
@@ -35,7 +34,7 @@ pub struct Edge {
     pub guard: Guard,
     /// The state to which the edge leads.
     pub target: u32,
-    /// The acceptance sets of the edge, each once, in the order in which the text first names them.
+    /// The edge's acceptance sets, each once, in the order in which the text first names them.
     pub marks: Marks,
 }
 
@@ -44,11 +43,11 @@ pub struct Edge {
 pub struct Row {
     /// The state's number.
     pub state: u32,
-    /// The label of all edges of the state, if the state has a label.
+    /// The label of all edges of the state, if it has one.
     pub label: Option<Label>,
-    /// The acceptance sets of the state, each once, in the order in which the text first names them.
+    /// The state's acceptance sets, each once, in the order in which the text first names them.
     pub marks: Marks,
-    /// The edges of the state, in the order of the text.
+    /// The edges, in the order of the text.
     pub edges: Vec<Edge>,
 }
 
@@ -130,7 +129,7 @@ impl HoaFile {
         self.sets
     }
 
-    /// The acceptance condition, which states when a run is accepted.
+    /// The acceptance condition.
     pub fn condition(&self) -> &Cond
         ensures value { condition_of result.now ≡ self.now.condition }
         ensures well_formed { IsSoundFile self.now }
@@ -138,8 +137,7 @@ impl HoaFile {
         &self.condition
     }
 
-    /// The rows of the body, in the order of the text. Each row describes one state; a state that no row describes has
-    /// no edges.
+    /// The rows of the body, in the order of the text.
     pub fn rows(&self) -> &[Row]
         ensures value { map row_data result.now ≡ self.now.rows }
         ensures well_formed { IsSoundFile self.now }

@@ -14,11 +14,10 @@ use crate::header::{Acceptance, Header};
 use crate::indices::Indices;
 use ps_label::{Label, Literal};
 
-/// The largest number of states. If the header has no `States:`, every state must be less than this number.
+/// The most states. Without `States:`, every state must be less than this.
 const STATE_LIMIT: u32 = 65_535;
 
-/// What is wrong with a header. If a header has several flaws, the one with the smallest number in psyn's list of
-/// faults is returned.
+/// What is wrong with a header; of several flaws, the one with the smallest number in psyn's list of faults.
 pub(crate) fn flaw(header: &Header) -> Option<HoaCause>
     ensures { MatchOption result (IsSoundHeader (header_data header.now)) (IsLeastFlaw (header_data header.now)) }
 {
@@ -40,7 +39,7 @@ pub(crate) fn flaw(header: &Header) -> Option<HoaCause>
     None
 }
 
-/// Whether the start state is greater than every possible state, in a header without `States:`.
+/// Whether the start state is beyond every possible state, without `States:`.
 fn is_start_too_large(states: Option<u32>, start: Option<u32>) -> bool
     ensures { (result ≡ true) ↔ parts.IsStartTooLarge states start }
 {
@@ -109,7 +108,6 @@ fn speaks_beyond(count: usize, label: &Label) -> bool
     }
 }
 
-/// Whether a literal is of a proposition that does not exist.
 fn a_literal_beyond(count: usize, literals: &[Literal]) -> bool
     ensures { (result ≡ true) ↔ parts.SomeSpeaksBeyond count (operands_in (literal_expressions literals.now)) }
 {
@@ -131,7 +129,6 @@ fn is_condition_beyond(acceptance: &Option<Acceptance>) -> bool
     }
 }
 
-/// Whether a condition names a set that does not exist.
 fn names_set_beyond(count: u32, condition: &Cond) -> bool
     ensures { (result ≡ true) ↔ parts.NamesSetBeyond count (condition_of condition.now) }
 {
@@ -159,7 +156,6 @@ fn is_control_beyond(count: usize, controllable: &Option<Indices>) -> bool
     }
 }
 
-/// Whether some number in a list is not the number of a proposition.
 fn is_index_beyond(count: usize, indices: &[u32]) -> bool
     ensures { (result ≡ true) ↔ parts.AnIndexBeyond count indices.now }
 {

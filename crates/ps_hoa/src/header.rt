@@ -12,14 +12,13 @@ use crate::usual::Usual;
 use ps_label::Label;
 use std::alloc::Global;
 
-/// The acceptance sets, and the condition over them.
 #[derive(Drop)]
 pub(crate) struct Acceptance {
     pub(crate) sets: u32,
     pub(crate) condition: Cond,
 }
 
-/// The values that the items of a header give. An optional field is `None` if its item has not occurred.
+/// What the items of a header give; a field is `None` if its item has not occurred.
 #[derive(Drop)]
 pub(crate) struct Header<'a> {
     pub(crate) states: Option<u32>,
@@ -32,7 +31,6 @@ pub(crate) struct Header<'a> {
 }
 
 impl<'a> Header<'a> {
-    /// A header without items.
     pub(crate) fn new(alloc: Global) -> Self
         ensures { header_data result ≡ no_items }
     {
@@ -67,7 +65,7 @@ impl<'a> Header<'a> {
         }
     }
 
-    /// The propositions and aliases that a label of the body may use, and how many operands to make space for.
+    /// What a label of the body may use.
     pub(crate) fn scope(&self, usual: Usual) -> Scope<'_, 'a>
         ensures { result ≡ body_scope (header_data self.now) }
     {

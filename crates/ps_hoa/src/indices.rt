@@ -6,11 +6,10 @@ ghost use Rattle.ps_hoa.specs.Header.{has_place, kept, slot_of};
 use std::alloc::{AllocError, Global};
 use std::marker::Model;
 
-/// The slot that 64 and all greater numbers share, since none of them is the number of a proposition.
+/// The slot that 64 and all greater numbers share, since none is a proposition.
 const LAST_PLACE: u32 = 64;
 
-/// Numbers in order of appearance. Each number less than 64 is kept once, and of all other numbers only the first is
-/// kept. The list has at most 65 numbers.
+/// Numbers in order of appearance: each less than 64 once, and of all others only the first. So there are at most 65.
 #[derive(Debug, Drop)]
 pub(crate) struct Indices {
     numbers: Vec<u32>,
@@ -25,7 +24,6 @@ impl Model for Indices {
 }
 
 impl Indices {
-    /// An empty list of numbers.
     pub(crate) fn new(alloc: Global) -> Self
         ensures { result ≡ [] }
     {
@@ -34,15 +32,13 @@ impl Indices {
         }
     }
 
-    /// The numbers, in order of appearance.
     pub(crate) fn as_slice(&self) -> &[u32]
         ensures { result.now ≡ self.now }
     {
         self.numbers.as_slice()
     }
 
-    /// Adds a number less than 64 unless the list has it already, and any other number unless the list has a number of
-    /// at least 64. Fails if out of memory.
+    /// Adds a number, unless the list has one with the same slot.
     pub(crate) fn add(&mut self, number: u32) -> Result<(), AllocError>
         ensures ok { OnOk result (self.new ≡ kept self.old number) }
         ensures err { OnErr result (self.new ≡ self.old) }
@@ -55,7 +51,7 @@ impl Indices {
     }
 }
 
-/// Whether the list has the given number or, if the given number is at least 64, some number of at least 64.
+/// Whether the list has a number with the same slot.
 fn has_place(numbers: &[u32], number: u32) -> bool
     ensures { result ≡ has_place (slot_of number) numbers.now }
 {
@@ -68,8 +64,7 @@ fn has_place(numbers: &[u32], number: u32) -> bool
     false
 }
 
-/// The slot of a number: the number itself if it is less than 64, and otherwise 64. Of the numbers with the same slot,
-/// the list has only the first.
+/// The slot of a number: itself if it is less than 64, else 64.
 fn place_of(number: u32) -> u32
     ensures { result ≡ slot_of number }
 {

@@ -1,4 +1,4 @@
-//! The parser of operands with connectives between them, for labels and for acceptance conditions.
+//! The parser of operands with connectives between them.
 
 ghost use Rattle.std.specs.Prelude.{◌≡◌, ◌↔◌, [], ◌∷◌, ◌++◌, IfOk, List, option_map, true};
 ghost use Rattle.ps_hoa.specs.Operands.{InfixGrammar, between, holds as holds_at, nesting_limit, operand as operand_of};
@@ -16,7 +16,7 @@ use std::alloc::{AllocError, Global};
 /// The greatest depth to which `!` and `(` may be nested.
 const NESTING_LIMIT: usize = 256;
 
-/// A connective between operands. The sign `&` binds tighter than `|`.
+/// A connective; `&` binds tighter than `|`.
 #[derive(Clone, Copy)]
 pub(crate) enum Connective {
     /// `&`
@@ -27,16 +27,14 @@ pub(crate) enum Connective {
 
 /// A grammar of operands with connectives between them.
 pub(crate) trait Infix {
-    /// The type of the values that the parser returns.
+    /// What the parser returns.
     type Value: Drop;
 
-    /// The type of a row of operands that is being parsed.
+    /// A row of operands that is being parsed.
     type Operands: Drop;
 
-    /// The type of the meanings of parsed values.
     ghost Meaning: { Type 0 };
 
-    /// The meaning of a parsed value.
     ghost meaning: { Self.Value → Self.Meaning };
 
     /// The meanings of the operands of a row, in order.
@@ -49,7 +47,7 @@ pub(crate) trait Infix {
     fn leaf(&self, tokens: &mut Tokens) -> Result<Self::Value, HoaFault>
         ensures { ReadsAs meaning (grammar self.now).leaf tokens.old result tokens.new };
 
-    /// Whether a token of the given kind begins an operand that contains another operand.
+    /// Whether a token of this kind begins an operand that contains another.
     fn holds(&self, kind: Kind) -> bool
         ensures { result ≡ holds_at (grammar self.now).negated kind };
 
@@ -62,7 +60,7 @@ pub(crate) trait Infix {
         ensures { IfOk result (λ v. option_map meaning v
             ≡ option_map (λ negated. negated (meaning operand)) (grammar self.now).negated) };
 
-    /// A row with the given connective and the first operand.
+    /// A row with its first operand.
     fn begun(
         &self,
         alloc: Global,
@@ -71,7 +69,6 @@ pub(crate) trait Infix {
     ) -> Result<Self::Operands, AllocError>
         ensures { IfOk result (λ operands. meanings operands ≡ meaning first ∷ []) };
 
-    /// Adds an operand to a row.
     fn add(
         &self,
         alloc: Global,
@@ -80,7 +77,7 @@ pub(crate) trait Infix {
     ) -> Result<(), AllocError>
         ensures { IfOk result (λ _. meanings operands.new ≡ meanings operands.old ++ meaning next ∷ []) };
 
-    /// The joint value of operands with the same connective between them.
+    /// The value of a row.
     fn together(
         &self,
         alloc: Global,
@@ -91,7 +88,6 @@ pub(crate) trait Infix {
             (λ v. meaning v ≡ (grammar self.now).together connective (meanings operands)) };
 }
 
-/// Parses operands with connectives between them.
 pub(crate) fn read<G: Infix>(
     alloc: Global,
     tokens: &mut Tokens,
@@ -104,8 +100,8 @@ pub(crate) fn read<G: Infix>(
     row(alloc, tokens, grammar, NESTING_LIMIT, Connective::Or)
 }
 
-/// Parses operands that are separated by the given connective and by connectives that bind tighter. In the operands,
-/// `!` and `(` may be nested up to the depth `room`.
+/// Parses operands with the connective, or tighter ones, between them; `!` and `(` may be nested up to the depth
+/// `room`.
 #[cycle(infix)]
 fn row<G: Infix>(
     alloc: Global,
@@ -131,7 +127,7 @@ fn row<G: Infix>(
     Ok(grammar.together(alloc, connective, operands)?)
 }
 
-/// A list with the first operand, and with space for the given number of operands.
+/// The first operand, with space for `count`.
 #[inline(always)]
 pub(crate) fn begun<V: Drop>(alloc: Global, first: V, count: usize) -> Result<Vec<V>, AllocError>
     ensures { IfOk result (λ operands. operands.items ≡ first ∷ []) }
@@ -141,8 +137,8 @@ pub(crate) fn begun<V: Drop>(alloc: Global, first: V, count: usize) -> Result<Ve
     Ok(operands)
 }
 
-/// A list of the same operands in memory of just their size. If the operands are moved, the memory in which they were
-/// gathered is free for the operands of the next row.
+/// The same operands in memory of just their size, so that the memory in which they were gathered is free for the next
+/// row.
 #[inline(always)]
 pub(crate) fn fitted<V: Drop>(alloc: Global, mut operands: Vec<V>) -> Result<Vec<V>, AllocError>
     ensures { IfOk result (λ fitted. fitted.items ≡ operands.items) }
@@ -174,7 +170,6 @@ fn part<G: Infix>(
     }
 }
 
-/// Parses an operand.
 #[cycle(infix)]
 fn operand<G: Infix>(
     alloc: Global,
@@ -205,7 +200,6 @@ fn operand<G: Infix>(
     Ok(inner)
 }
 
-/// Whether the next token is the connective.
 #[inline(always)]
 fn is_at(tokens: &Tokens, connective: Connective) -> bool
     ensures { (result ≡ true) ↔ ((next_of (stream_of tokens.now)).sign.kind ≡ kind_of connective) }

@@ -28,16 +28,16 @@ use crate::usual::Usual;
 use ps_label::Label;
 use std::alloc::Global;
 
-/// The largest number of states that a text may declare.
+/// The most states that a text may declare.
 const STATE_LIMIT: u32 = 65_535;
 
-/// The largest number of propositions that a text may declare.
+/// The most propositions that a text may declare.
 const PROPOSITION_LIMIT: u32 = 64;
 
-/// The largest number of acceptance sets that a text may declare.
+/// The most acceptance sets that a text may declare.
 const SET_LIMIT: u32 = 64;
 
-/// The kinds of header items: those that the parser knows by name, and `Other` for every other item.
+/// The header items that the parser knows by name, and `Other`.
 #[derive(Clone, Copy)]
 pub(crate) enum Item {
     States,
@@ -51,7 +51,6 @@ pub(crate) enum Item {
     Other,
 }
 
-/// The names of the items that the parser knows.
 const ITEMS: &[(&[u8], Item)] = &[
     (b"States:", Item::States),
     (b"Start:", Item::Start),
@@ -63,7 +62,7 @@ const ITEMS: &[(&[u8], Item)] = &[
     (b"name:", Item::Name),
 ];
 
-/// The header item with the given name, if the parser knows the name.
+/// The item with a name, if the parser knows it.
 pub(crate) fn item_named(name: &[u8]) -> Option<Item>
     ensures { result ≡ item_named name.now }
 {
@@ -76,11 +75,10 @@ pub(crate) fn item_named(name: &[u8]) -> Option<Item>
     None
 }
 
-/// The number of header items that may occur only once. `History` records for each of these items whether it has
-/// occurred.
+/// The number of items that may occur only once; `History` records whether each has.
 pub(crate) const ONCE_COUNT: usize = 4;
 
-/// The index of an item among the header items that may occur only once, if it is one of them.
+/// The index of an item among those that may occur only once.
 fn once_of(item: Item) -> Option<usize>
     ensures { result ≡ once_of item }
 {
@@ -93,7 +91,7 @@ fn once_of(item: Item) -> Option<usize>
     }
 }
 
-/// The index of the header item with the given name among those that may occur only once, if it is one of them.
+/// The index of the item with a name among those that may occur only once.
 pub(crate) fn once_named(name: &[u8]) -> Option<usize>
     ensures value { result ≡ once_named name.now }
     ensures within { IfSome result (λ once. once < ONCE_COUNT) }
@@ -110,7 +108,7 @@ pub(crate) fn header<'a>(alloc: Global, tokens: &mut Tokens<'a>) -> Result<Heade
     Ok(header)
 }
 
-/// Reads the token `--BODY--`, and checks the header as a whole.
+/// Reads `--BODY--`, and checks the header as a whole.
 fn body_token(tokens: &mut Tokens, header: &Header) -> Result<(), HoaFault>
     ensures { ReadsAs (λ _. header_data header.now) (parts.body_token (header_data header.now)) tokens.old
         result tokens.new }
@@ -119,7 +117,7 @@ fn body_token(tokens: &mut Tokens, header: &Header) -> Result<(), HoaFault>
     body_token_of(token, header)
 }
 
-/// Checks that a token is `--BODY--`, and that the header as a whole has no flaw.
+/// Checks that a token is `--BODY--`, and that the header has no flaw.
 fn body_token_of(token: Token, header: &Header) -> Result<(), HoaFault>
     ensures { Takes (λ _. header_data header.now) (body_in (header_data header.now))
         (parts.IsBadBody (header_data header.now)) (piece_of token.entry) result }
@@ -133,7 +131,6 @@ fn body_token_of(token: Token, header: &Header) -> Result<(), HoaFault>
     }
 }
 
-/// Parses all items of a header.
 pub(crate) fn items<'a>(alloc: Global, tokens: &mut Tokens<'a>) -> Result<Header<'a>, HoaFault>
     ensures { ReadsAs header_data (many parts.item no_items) tokens.old result tokens.new }
 {
@@ -144,7 +141,7 @@ pub(crate) fn items<'a>(alloc: Global, tokens: &mut Tokens<'a>) -> Result<Header
     Ok(header)
 }
 
-/// The header item that a token begins. A header item with an unknown name is `Other`.
+/// The item that a token begins.
 fn item_at(token: Token) -> Option<Item>
     ensures { result ≡ item_value token.entry.kind token.entry.text.now }
 {
@@ -158,7 +155,6 @@ fn item_at(token: Token) -> Option<Item>
     }
 }
 
-/// Parses one more header item.
 fn read_item<'a>(
     alloc: Global,
     tokens: &mut Tokens<'a>,
@@ -171,7 +167,6 @@ fn read_item<'a>(
     behind_name(alloc, tokens, item, header)
 }
 
-/// Reads the name of a header item.
 fn item_name(tokens: &mut Tokens, header: &Header) -> Result<Item, HoaFault>
     ensures { ReadsAs (λ item. item) (parts.item_name (header_data header.now)) tokens.old result tokens.new }
 {
@@ -179,7 +174,7 @@ fn item_name(tokens: &mut Tokens, header: &Header) -> Result<Item, HoaFault>
     item_name_of(token, header)
 }
 
-/// The header item that a token names. The name is rejected if the header item is not allowed here.
+/// The item that a token names, if it is allowed here.
 fn item_name_of(token: Token, header: &Header) -> Result<Item, HoaFault>
     ensures { Takes (λ item. item) item_in (parts.IsBadItem (header_data header.now)) (piece_of token.entry) result }
 {
@@ -190,7 +185,7 @@ fn item_name_of(token: Token, header: &Header) -> Result<Item, HoaFault>
     }
 }
 
-/// Parses the arguments of an item, which follow its name.
+/// Parses the arguments of an item.
 fn behind_name<'a>(
     alloc: Global,
     tokens: &mut Tokens<'a>,
@@ -257,8 +252,8 @@ fn alias<'a>(
     Ok(())
 }
 
-/// Parses the label of an alias. The numbers in the label are not compared with the number of propositions, since `AP:`
-/// may come after `Alias:`.
+/// Parses the label of an alias. Its numbers are not compared with the number of propositions, since `AP:` may come
+/// later.
 fn header_label(alloc: Global, tokens: &mut Tokens, names: &Names) -> Result<Label, HoaFault>
     ensures { ReadsAs expression (labels.label (record { names = names.now; propositions = None }) nesting_limit)
         tokens.old result tokens.new }
@@ -291,7 +286,6 @@ fn controllable(alloc: Global, tokens: &mut Tokens, header: &mut Header) -> Resu
     Ok(())
 }
 
-/// Parses numbers into a list, which keeps each number less than 64 once, and only the first of all other numbers.
 fn indices(alloc: Global, tokens: &mut Tokens) -> Result<Indices, HoaFault>
     ensures { ReadsAs (λ indices. indices) (many parts.index []) tokens.old result tokens.new }
 {

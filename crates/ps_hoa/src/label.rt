@@ -84,7 +84,7 @@ impl Infix for Scope<'_, '_> {
     }
 }
 
-/// The operand that a single token represents.
+/// The operand that a single token is.
 #[inline(always)]
 fn leaf_of(token: Token, scope: &Scope) -> Result<Label, HoaFault>
     ensures { Takes expression (labels.leaf_in scope.now.names) (labels.BadLeaf scope.now)
@@ -108,7 +108,7 @@ fn leaf_of(token: Token, scope: &Scope) -> Result<Label, HoaFault>
     }
 }
 
-/// Whether no proposition has the given number. The result is false if the number of propositions is not known.
+/// Whether no proposition has this number; false if their number is not known.
 fn is_beyond(propositions: Option<usize>, number: u32) -> bool
     ensures { (result ≡ true) ↔ labels.IsBeyond propositions number }
 {

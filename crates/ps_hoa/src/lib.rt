@@ -4,7 +4,7 @@
 //! |---|---|
 //! | `read(text)` | the automaton as the text states it, or the first `HoaFault` in the text |
 //! | `HoaFile::states`, `start`, `names`, `controllable`, `aliases`, `sets`, `condition` | what the header states |
-//! | `HoaFile::rows`, `row(state)` | what the body states of a state: label, sets, and edges in text order |
+//! | `HoaFile::rows`, `row(state)` | what the body says about a state: label, sets, and edges in text order |
 //! | `Row`, `Edge`, `Guard`, `Cond` | a state, an edge, the letters at which it is taken, an acceptance condition |
 //! | `Marks::as_slice` | the acceptance sets of an edge or a state |
 //! | `Tokens::new`, `peek`, `advance` | the tokens of a text (HOA v1, tokens), without blanks and comments |
@@ -19,11 +19,10 @@
 //! | `sound_files` | a parsed file is sound: numbers are in range, names and rows differ, limits are kept |
 //! | `sound_parts`, `sound_labels` | what the soundness of a file implies for its rows, its edges and its labels |
 //!
-//! The invariant of `HoaFile` is `IsSoundFile`, so every `HoaFile` is sound. A text has at most 16,777,216 bytes,
-//! 65,535 states, 1,048,576 edges, 64 propositions, 64 sets and 4,096 aliases, and `!` and `(` are nested at most 256
-//! deep. These limits on HOA texts are psyn's own. A text that exceeds a limit is rejected with the cause `Limit`,
-//! unless another error in it comes first. Parsing takes time proportional to the length of the text, except that
-//! aliases are looked up in a tree.
+//! The invariant of `HoaFile` is `IsSoundFile`. A text has at most 16,777,216 bytes, 65,535 states, 1,048,576 edges, 64
+//! propositions, 64 sets and 4,096 aliases, and `!` and `(` are nested at most 256 deep. These limits are psyn's own; a
+//! text beyond one is rejected with the cause `Limit`, unless another error comes first. Parsing takes time
+//! proportional to the length of the text, except that aliases are looked up in a tree.
 #![tactic(auto)]
 
 mod assembly;

@@ -7,11 +7,10 @@ ghost use Rattle.ps_hoa.specs.Marks.{mark_list};
 use std::alloc::{AllocError, Global};
 use std::fmt;
 
-/// How many numbers a list has room for when it is made.
+/// How many numbers a new list has room for.
 const ROOM: usize = 4;
 
-/// The numbers of acceptance sets. Most edges and states have at most one set, so only two or more sets take memory of
-/// their own.
+/// The numbers of acceptance sets. Most edges and states have at most one, so only more take memory of their own.
 #[derive(Drop)]
 pub enum Marks {
     /// No set.
@@ -23,7 +22,7 @@ pub enum Marks {
 }
 
 impl Marks {
-    /// The numbers of the sets, in the order in which they were added.
+    /// The sets, in the order in which they were added.
     pub fn as_slice(&self) -> &[u32]
         ensures { result.now ≡ mark_list self.now }
     {
@@ -34,7 +33,7 @@ impl Marks {
         }
     }
 
-    /// These sets and the given one, which is added unless it is one of them. Fails if out of memory.
+    /// These sets and the given one, unless it is one of them.
     pub(crate) fn with(self, alloc: Global, set: u32) -> Result<Marks, AllocError>
         ensures { IfOk result (λ marks. mark_list marks ≡ once (mark_list self) set) }
     {
@@ -49,7 +48,6 @@ impl Marks {
     }
 }
 
-/// The numbers of the sets, in the order in which they were added.
 impl fmt::Debug for Marks {
     fn fmt<W: fmt::Write>(&self, f: &mut fmt::Formatter<W>) -> fmt::Result {
         let sets = self.as_slice();
@@ -57,7 +55,6 @@ impl fmt::Debug for Marks {
     }
 }
 
-/// A list of two sets.
 fn listed(alloc: Global, first: u32, second: u32) -> Result<Marks, AllocError>
     ensures { IfOk result (λ marks. mark_list marks ≡ first ∷ second ∷ []) }
 {
@@ -67,7 +64,6 @@ fn listed(alloc: Global, first: u32, second: u32) -> Result<Marks, AllocError>
     Ok(Marks::List(Box::new(alloc, sets)?))
 }
 
-/// A list of sets with one more at its end.
 fn added(mut sets: Box<Vec<u32>>, set: u32) -> Result<Marks, AllocError>
     ensures { IfOk result (λ marks. mark_list marks ≡ sets.value.items ++ set ∷ []) }
 {

@@ -8,8 +8,8 @@ use std::alloc::{AllocError, Global};
 use std::collections::BTreeMap;
 use std::marker::Model;
 
-/// Distinct names, each a part of the same text, in order of appearance. An ordered table gives the number of each
-/// name, so a lookup is fast whatever the names are.
+/// Distinct parts of one text, in order of appearance. A tree gives the number of each, so a lookup is fast whatever
+/// they are.
 #[derive(Drop)]
 pub(crate) struct Names<'a> {
     names: Vec<&'a [u8]>,
@@ -32,7 +32,6 @@ impl<'a> Model for Names<'a> {
 }
 
 impl<'a> Names<'a> {
-    /// An empty list of names.
     pub(crate) fn new(alloc: Global) -> Self
         ensures { result ≡ [] }
     {
@@ -42,21 +41,19 @@ impl<'a> Names<'a> {
         }
     }
 
-    /// The number of names.
     pub(crate) fn len(&self) -> usize
         ensures { result ≡ length self.now }
     {
         self.names.len()
     }
 
-    /// The number of a name, if the name is in the list.
+    /// The number of a name, if it is in the list.
     pub(crate) fn number(&self, name: &[u8]) -> Option<usize>
         ensures { result ≡ alias_number self.now name.now }
     {
         self.numbers.get(name).copied()
     }
 
-    /// Adds a new name. Fails if out of memory.
     pub(crate) fn push(&mut self, name: &'a [u8]) -> Result<(), AllocError>
         requires { alias_number self.old name.now ≡ None }
         ensures ok { OnOk result (self.new ≡ self.old ++ name.now ∷ []) }
@@ -69,10 +66,10 @@ impl<'a> Names<'a> {
     }
 }
 
-/// The aliases and propositions that a label may use.
+/// What a label may use.
 #[derive(Drop)]
 pub(crate) struct Scope<'s, 'a> {
-    /// The aliases that are defined before the label.
+    /// The aliases that are defined before it.
     pub(crate) aliases: &'s Names<'a>,
     /// The number of propositions, if it is known.
     pub(crate) propositions: Option<usize>,

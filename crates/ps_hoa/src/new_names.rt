@@ -1,4 +1,4 @@
-//! The parser of the names that a header defines, each of which must be new.
+//! The parser of the names that a header defines.
 
 ghost use Rattle.std.specs.Prelude.{◌≡◌, [], IfOk, None, false};
 ghost use Rattle.ps_text.specs.Parts.{one, times};
@@ -16,7 +16,7 @@ use crate::signs::{is_kind, quoted_of, unescaped};
 use crate::tokens::{Kind, Token, Tokens};
 use std::alloc::Global;
 
-/// The largest number of aliases that a text may have.
+/// The most aliases of a text.
 const ALIAS_LIMIT: usize = 4096;
 
 /// Parses `count` names of propositions.
@@ -34,7 +34,6 @@ pub(crate) fn propositions(
     Ok(names)
 }
 
-/// Parses one more name of a proposition.
 fn proposition(alloc: Global, tokens: &mut Tokens, names: &mut Propositions) -> Result<(), HoaFault>
     ensures { ReadsAs (λ _. names.new) (parts.proposition_name names.old) tokens.old result tokens.new }
 {
@@ -43,7 +42,7 @@ fn proposition(alloc: Global, tokens: &mut Tokens, names: &mut Propositions) -> 
     Ok(())
 }
 
-/// Reads the name of a new proposition; the name of an earlier proposition is rejected.
+/// Reads the name of a new proposition.
 fn new_name(alloc: Global, tokens: &mut Tokens, names: &Propositions) -> Result<Vec<u8>, HoaFault>
     ensures part { ReadsAs (λ name. name.items) (one parts.string_in (parts.IsBadName names.now)) tokens.old
         result tokens.new }
@@ -53,8 +52,8 @@ fn new_name(alloc: Global, tokens: &mut Tokens, names: &Propositions) -> Result<
     new_name_of(alloc, token, names)
 }
 
-/// The name that a token, which must be a string, gives to a proposition. A name is rejected if it is empty, contains a
-/// control byte, or is the name of an earlier proposition.
+/// The name that a token, which must be a string, gives to a proposition. It must not be empty, contain a control byte,
+/// or be that of an earlier proposition.
 fn new_name_of(alloc: Global, token: Token, names: &Propositions) -> Result<Vec<u8>, HoaFault>
     ensures { Takes (λ name. name.items) parts.string_in (parts.IsBadName names.now)
         (piece_of token.entry) result }
@@ -66,7 +65,6 @@ fn new_name_of(alloc: Global, token: Token, names: &Propositions) -> Result<Vec<
     Ok(name)
 }
 
-/// Whether a name contains a byte that is not allowed.
 fn has_control(name: &[u8]) -> bool
     ensures { result ≡ parts.has_control name.now }
 {
@@ -78,7 +76,7 @@ fn has_control(name: &[u8]) -> bool
     false
 }
 
-/// Reads the name of a new alias; the name of an earlier alias is rejected.
+/// Reads the name of a new alias.
 pub(crate) fn new_alias<'a>(tokens: &mut Tokens<'a>, names: &Names) -> Result<&'a [u8], HoaFault>
     ensures part { ReadsAs (λ name. name.now) (one alias_name_in (parts.IsBadAlias names.now)) tokens.old
         result tokens.new }
@@ -88,8 +86,7 @@ pub(crate) fn new_alias<'a>(tokens: &mut Tokens<'a>, names: &Names) -> Result<&'
     new_alias_of(token, names)
 }
 
-/// The text of a token, which must be the name of an alias. The name is rejected if an earlier alias has it, or if
-/// there are already as many aliases as a text may have.
+/// The name of an alias that a token is. It must be new, and one of at most `ALIAS_LIMIT`.
 fn new_alias_of<'a>(token: Token<'a>, names: &Names) -> Result<&'a [u8], HoaFault>
     ensures { Takes (λ name. name.now) alias_name_in (parts.IsBadAlias names.now) (piece_of token.entry) result }
 {

@@ -13,10 +13,10 @@ ghost use Rattle.ps_hoa.specs.declared.fault.HoaCause.{HoaCause};
 use crate::fault::{HoaCause, HoaFault};
 use crate::tokens::{Tokens, begins_with, behind_blanks, is_name_byte, is_same};
 
-/// The largest number of bytes that a text may have.
+/// The most bytes of a text.
 const TEXT_LIMIT: usize = 16_777_216;
 
-/// The length of the longest prefix that consists only of bytes that a version, such as `v1`, may contain.
+/// The length of the longest prefix of bytes that a version, such as `v1`, may contain.
 fn version_at(bytes: &[u8]) -> usize
     ensures { IsRun is_version_byte bytes.now result }
 {
@@ -31,14 +31,11 @@ fn version_at(bytes: &[u8]) -> usize
 ///
 /// # Errors
 ///
-/// `Limit` if the text is too long, `NotHoa` if it does not begin with `HOA:`, and `Version` if the version is not
-/// `v1`.
+/// `Limit` if the text is too long, `NotHoa` if it does not begin with `HOA:`, `Version` if the version is not `v1`.
 pub(crate) fn opened(text: &[u8]) -> Result<Tokens<'_>, HoaFault>
-    // If the tokens after the version have a meaning or a first error, that meaning or error is the answer to the whole
-    // text.
+    // The meaning or first error of these tokens is the answer to the whole text.
     ensures tokens { IfOk result (λ tokens. (answer : Result FileData (Found HoaCause)) →
         PartAnswers hoa_causes file (stream_of tokens) answer → ReadsFile text.now answer) }
-    // A fault that this function returns is the first error of the text.
     ensures refused { IfErr result (IsRefusedAs text.now) }
 {
     if text.len() > TEXT_LIMIT {

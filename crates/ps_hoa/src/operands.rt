@@ -1,4 +1,4 @@
-//! Rows of labels with the same connective between them, while they are parsed.
+//! Rows of labels, while they are parsed.
 
 ghost use Rattle.std.specs.Prelude.{◌≡◌, ◌↔◌, ◌<◌, ◌++◌, ◌∷◌, [], IfOk, length};
 ghost use Rattle.ps_label.specs.Expression.{IsLiteral, expression, literal_expressions};
@@ -11,8 +11,7 @@ use crate::infix::{self, Connective};
 use ps_label::{Label, Literals};
 use std::alloc::{AllocError, Global};
 
-/// The operands of a row that is being parsed. Many labels are conjunctions of a few literals, so these are gathered
-/// without memory.
+/// The operands of a row. Many labels are conjunctions of a few literals, which are gathered without memory.
 #[derive(Drop)]
 pub(crate) enum Operands {
     /// Literals, which use no memory outside this value.
@@ -22,7 +21,7 @@ pub(crate) enum Operands {
 }
 
 impl Operands {
-    /// The first operand of a row with the given connective. If memory is needed, it is for `count` operands.
+    /// The first operand of a row, in memory for `count`, if any is needed.
     #[inline(always)]
     pub(crate) fn new(
         alloc: Global,
@@ -39,7 +38,7 @@ impl Operands {
         }
     }
 
-    /// Adds an operand at the end. If memory is needed, it is for `count` operands at least.
+    /// Adds an operand at the end, in memory for `count` at least, if any is needed.
     #[inline(always)]
     pub(crate) fn push(
         &mut self,
@@ -70,7 +69,7 @@ impl Operands {
         }
     }
 
-    /// The joint value of the operands.
+    /// The value of the row.
     #[inline(always)]
     pub(crate) fn together(self, alloc: Global, connective: Connective) -> Result<Label, AllocError>
         ensures value { IfOk result
@@ -112,7 +111,6 @@ fn with_label(
     Ok(labels)
 }
 
-/// The literals as labels, in memory for `count` labels at least.
 fn labels_of(alloc: Global, literals: &Literals, count: usize) -> Result<Vec<Label>, AllocError>
     ensures { IfOk result (λ labels. expressions labels.items ≡ literal_expressions literals.now) }
 {

@@ -8,7 +8,7 @@ use crate::tokens::is_same;
 use std::alloc::{AllocFailed, Global};
 use std::marker::Model;
 
-/// The names of the propositions in order, each once. A search compares all names, since there are only a few.
+/// The names of the propositions in order, each once. A search compares all, since there are few.
 #[derive(Debug, Drop)]
 pub struct Propositions {
     names: Vec<Vec<u8>>,
@@ -24,7 +24,7 @@ impl Model for Propositions {
 }
 
 impl Propositions {
-    /// An empty list of names.
+    /// No names.
     pub fn new(alloc: Global) -> Self
         ensures { result ≡ [] }
     {
@@ -40,7 +40,7 @@ impl Propositions {
         self.names.len()
     }
 
-    /// The names of the propositions, in order.
+    /// The names, in order.
     pub fn as_slice(&self) -> &[Vec<u8>]
         ensures { map bytes_of result.now ≡ self.now }
     {
@@ -54,7 +54,7 @@ impl Propositions {
         is_among(name, &self.names)
     }
 
-    /// Adds a proposition with a new name. If out of memory, the call fails and returns the name.
+    /// Adds a new name. If out of memory, it fails and returns the name.
     pub fn push(&mut self, name: Vec<u8>) -> Result<(), AllocFailed<Vec<u8>>>
         requires { is_name_among name.items self.old ≡ false }
         ensures ok { OnOk result (self.new ≡ self.old ++ name.items ∷ []) }
@@ -65,7 +65,6 @@ impl Propositions {
     }
 }
 
-/// Whether a name is in a list of names.
 fn is_among(name: &[u8], names: &[Vec<u8>]) -> bool
     ensures { result ≡ is_name_among name.now (map bytes_of names.now) }
 {

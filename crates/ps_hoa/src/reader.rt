@@ -20,8 +20,8 @@ use std::alloc::Global;
 ///
 /// # Errors
 ///
-/// `HoaFault::Text` with the first error in the text and its offset. Among errors at the same offset, the first is the
-/// one whose cause has the smallest number in psyn's list of faults. `OutOfMemory` if out of memory.
+/// `HoaFault::Text` with the first error and its offset (of several there, the one with the smallest number in psyn's
+/// list of faults); `OutOfMemory` if out of memory.
 pub fn read(alloc: Global, text: &[u8]) -> Result<HoaFile, HoaFault>
     ensures answer { IsFileAnswer (λ file. file) text.now result }
     ensures sound { IfOk result IsSoundFile }

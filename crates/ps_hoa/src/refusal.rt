@@ -11,7 +11,6 @@ use crate::fault::{HoaCause, HoaFault};
 use crate::items::item_named;
 use crate::tokens::{Kind, Token, is_same};
 
-/// The fault with a given cause, at the offset of a token.
 pub(crate) fn fault_at(token: Token, cause: HoaCause) -> HoaFault
     ensures { result ≡ faults.Text cause token.entry.start }
 {
@@ -28,8 +27,7 @@ pub(crate) fn refused(token: Token) -> HoaFault
     fault_at(token, refusal(token))
 }
 
-/// The cause of a token that is rejected here: the cause with which the token is rejected wherever it occurs, or
-/// `Syntax` if there is no such cause.
+/// The cause with which a token is rejected wherever it occurs, or else `Syntax`.
 fn refusal(token: Token) -> HoaCause
     ensures { result ≡ refusal_of hoa_causes (Some (piece_of token.entry).sign) }
 {
@@ -45,8 +43,7 @@ fn refusal(token: Token) -> HoaCause
     }
 }
 
-/// Whether a name begins with a capital letter, and is neither `HOA:` nor `State:` nor the name of a header item that
-/// the parser knows.
+/// Whether a name begins with a capital letter and is not known.
 #[tactic(auto, unfolding(crate::specs::Causes::is_unknown_capital))]
 fn is_unknown(name: &[u8]) -> bool
     ensures { result ≡ is_unknown_capital name.now }
@@ -54,14 +51,13 @@ fn is_unknown(name: &[u8]) -> bool
     !is_spelled(name) && begins_capital(name)
 }
 
-/// Whether a name is `HOA:`, `State:` or the name of a header item that the parser knows.
+/// Whether a name is `HOA:`, `State:` or that of a known header item.
 fn is_spelled(name: &[u8]) -> bool
     ensures { result ≡ is_spelled name.now }
 {
     is_same(name, b"HOA:") || is_same(name, b"State:") || item_named(name).is_some()
 }
 
-/// Whether the first byte is a letter from `A` to `Z`.
 pub(crate) fn begins_capital(name: &[u8]) -> bool
     ensures { result ≡ begins_capital name.now }
 {

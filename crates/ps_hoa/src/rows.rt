@@ -1,4 +1,4 @@
-//! The rows of a body, and a table that locates the row of each state.
+//! The rows of a body.
 
 ghost use Rattle.std.specs.Prelude.{◌≡◌, ℕ, ◌+◌, ◌<◌, ◌≤◌, None, OnOk, false, length, map, option_map, option_copied};
 ghost use Rattle.std.specs.Prelude.{slice_get, slice_index_or, vec_len};
@@ -10,12 +10,12 @@ ghost use Rattle.ps_hoa.specs.Views.{row_data};
 use crate::file::Row;
 use std::alloc::{AllocError, Global};
 
-/// The rows of a body so far, a table with the index of each state's row, and the total number of edges.
+/// The rows of a body so far, and the number of their edges.
 #[derive(Debug, Drop)]
 pub(crate) struct Rows {
     rows: Vec<Row>,
-    /// For each state up to the greatest one that has a row, the index of the state's row. Every state is less than
-    /// 65,535, so the table is small.
+    /// For each state up to the greatest one that has a row, the index of its row. Every state is less than 65,535, so
+    /// the table is small.
     places: Vec<Option<usize>>,
     edges: usize,
     ghost places_are: { (state : ℕ) →
@@ -27,7 +27,6 @@ impl Rows {
     ghost use Rattle.ps_hoa.specs.Body.{has_row, last_row, no_rows, with_row};
     ghost use Rattle.ps_hoa.specs.Inner.Rows.{body_data};
 
-    /// An empty list of states' rows.
     pub(crate) fn new(alloc: Global) -> Self
         ensures { body_data result ≡ no_rows }
     {
@@ -38,7 +37,7 @@ impl Rows {
         }
     }
 
-    /// The total number of edges in the rows of all states.
+    /// The number of edges in all rows.
     pub(crate) fn edges(&self) -> usize
         ensures value { result ≡ (body_data self.now).edges }
         ensures within { result ≤ edge_limit }
@@ -46,21 +45,20 @@ impl Rows {
         self.edges
     }
 
-    /// Whether one of the rows describes the given state.
     pub(crate) fn has(&self, state: u32) -> bool
         ensures { result ≡ has_row state (body_data self.now).rows }
     {
         self.place(state).is_some()
     }
 
-    /// The state's row that was added last, if there is one.
+    /// The row that was added last.
     pub(crate) fn last(&self) -> Option<&Row>
         ensures { option_map row_data (option_copied result) ≡ last_row (body_data self.now) }
     {
         self.rows.last()
     }
 
-    /// Adds the row of a state that has no row yet. Fails if out of memory.
+    /// Adds the row of a state that has none yet.
     pub(crate) fn push(&mut self, row: Row) -> Result<(), AllocError>
         requires new { has_row row.state (body_data self.old).rows ≡ false }
         requires within { (body_data self.old).edges + length row.edges.items ≤ edge_limit }
@@ -74,7 +72,7 @@ impl Rows {
         Ok(())
     }
 
-    /// The rows of the states, in the order in which they were added.
+    /// The rows, in the order in which they were added.
     pub(crate) fn as_slice(&self) -> &[Row]
         ensures { map row_data result.now ≡ (body_data self.now).rows }
     {
@@ -89,7 +87,7 @@ impl Rows {
         row_at(&self.rows, place)
     }
 
-    /// The index of a state's row, if the state has a row.
+    /// The index of a state's row.
     fn place(&self, state: u32) -> Option<usize>
         ensures { result ≡ row_place state (body_data self.now).rows }
     {
@@ -102,8 +100,7 @@ impl Rows {
     }
 }
 
-/// Extends a table of indices so that it has an entry for the given state. The new entries are `None`. Fails if out of
-/// memory.
+/// Extends a table by `None`, so that it has an entry for the state.
 fn extend(places: &mut Vec<Option<usize>>, state: u32) -> Result<(), AllocError>
     ensures same { (other : ℕ) →
         slice_index_or places.new.items other None ≡ slice_index_or places.old.items other None }
@@ -116,7 +113,6 @@ fn extend(places: &mut Vec<Option<usize>>, state: u32) -> Result<(), AllocError>
     Ok(())
 }
 
-/// The state's row at an index of the list, if there is one.
 fn row_at(rows: &[Row], place: usize) -> Option<&Row>
     ensures { option_copied result ≡ slice_get rows.now place }
 {

@@ -27,7 +27,6 @@ pub(crate) fn expect(tokens: &mut Tokens, kind: Kind) -> Result<(), HoaFault>
     expect_of(token, kind)
 }
 
-/// Checks that a token is of the given kind.
 fn expect_of(token: Token, kind: Kind) -> Result<(), HoaFault>
     ensures { (test : Kind → Bool) → IsTestOf test kind → Takes (λ u. u) (expect_in test) NoBad
         (piece_of token.entry) result }
@@ -39,21 +38,20 @@ fn expect_of(token: Token, kind: Kind) -> Result<(), HoaFault>
     }
 }
 
-/// Whether a token is of the given kind.
 pub(crate) fn is_kind(token: Token, kind: Kind) -> bool
     ensures { (result ≡ true) ↔ (token.entry.kind ≡ kind) }
 {
     token.kind == kind
 }
 
-/// Whether a token is the given name with `:` directly after it.
+/// Whether a token is this name with `:` directly after it.
 pub(crate) fn is_name(token: Token, name: &[u8]) -> bool
     ensures { result ≡ is_some (name_value name.now token.entry.kind token.entry.text.now) }
 {
     token.kind == Kind::Header && is_same(token.text, name)
 }
 
-/// Reads a number that may not exceed a limit.
+/// Reads a number up to a limit.
 pub(crate) fn int(tokens: &mut Tokens, limit: u32) -> Result<u32, HoaFault>
     ensures part { ReadsAs (λ n. n) (int_part limit) tokens.old result tokens.new }
     ensures within { IfOk result (λ n. n ≤ limit) }
@@ -62,7 +60,7 @@ pub(crate) fn int(tokens: &mut Tokens, limit: u32) -> Result<u32, HoaFault>
     int_up_to(token, limit)
 }
 
-/// The number that a token states, which may not exceed a limit.
+/// The number that a token states, up to a limit.
 fn int_up_to(token: Token, limit: u32) -> Result<u32, HoaFault>
     ensures { Takes (λ n. n) int_in (IsAbove limit) (piece_of token.entry) result }
 {
@@ -86,7 +84,7 @@ pub(crate) fn start_state(tokens: &mut Tokens) -> Result<u32, HoaFault>
     Ok(state)
 }
 
-/// Reads a string, and returns the bytes between its quotes.
+/// Reads a string; gives the bytes between its quotes.
 pub(crate) fn quoted<'a>(tokens: &mut Tokens<'a>) -> Result<&'a [u8], HoaFault>
     ensures { ReadsAs (λ inner. meaning false inner.now) string_part tokens.old result tokens.new }
 {
@@ -94,7 +92,6 @@ pub(crate) fn quoted<'a>(tokens: &mut Tokens<'a>) -> Result<&'a [u8], HoaFault>
     quoted_of(token)
 }
 
-/// The bytes between the quotes of a token.
 pub(crate) fn quoted_of<'a>(token: Token<'a>) -> Result<&'a [u8], HoaFault>
     ensures { Takes (λ inner. meaning false inner.now) string_in NoBad (piece_of token.entry) result }
 {
@@ -105,7 +102,6 @@ pub(crate) fn quoted_of<'a>(token: Token<'a>) -> Result<&'a [u8], HoaFault>
     }
 }
 
-/// A text without its first and its last byte.
 fn between_quotes(text: &[u8]) -> &[u8]
     ensures { result.now ≡ inside text.now }
 {
@@ -115,7 +111,7 @@ fn between_quotes(text: &[u8]) -> &[u8]
     &text[1..text.len() - 1]
 }
 
-/// The meaning of the bytes between quotes: a backslash and the byte after it stand for that byte.
+/// The bytes between quotes, in which a backslash and the byte after it stand for that byte.
 pub(crate) fn unescaped(alloc: Global, inner: &[u8]) -> Result<Vec<u8>, AllocError>
     ensures { IfOk result (λ bytes. bytes.items ≡ meaning false inner.now) }
 {
@@ -132,8 +128,8 @@ pub(crate) fn unescaped(alloc: Global, inner: &[u8]) -> Result<Vec<u8>, AllocErr
     Ok(bytes)
 }
 
-/// The number that a run of digits represents, if it does not exceed the greatest `INT`. A byte less than the digit `0`
-/// counts as `0`, so the function accepts any bytes.
+/// The number of a run of digits, if it does not exceed the greatest `INT`. Any bytes are accepted: one less than the
+/// digit `0` counts as `0`.
 #[inline(always)]
 pub(crate) fn int_of(digits: &[u8]) -> Option<u32>
     ensures { result ≡ (if nat_le (decimal_value digits.now) number_limit then Some

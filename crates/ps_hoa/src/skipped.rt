@@ -14,7 +14,7 @@ use crate::refusal::{fault_at, refused};
 use crate::signs::{int_of, quoted};
 use crate::tokens::{Kind, Token, Tokens};
 
-/// Skips the name of a tool, and the tool's version if there is one.
+/// Skips the name of a tool, and its version if there is one.
 pub(crate) fn tool(tokens: &mut Tokens) -> Result<(), HoaFault>
     ensures { (h : HeaderData) → ReadsAs (λ _. h) (parts.strings h) tokens.old result tokens.new }
 {
@@ -33,7 +33,7 @@ pub(crate) fn name(tokens: &mut Tokens) -> Result<(), HoaFault>
     Ok(())
 }
 
-/// Skips the arguments of an item with an unknown name.
+/// Skips the arguments of an unknown item.
 pub(crate) fn other(tokens: &mut Tokens) -> Result<(), HoaFault>
     ensures { (h : HeaderData) → ReadsAs (λ _. h) (many parts.read_over h) tokens.old result tokens.new }
 {
@@ -43,7 +43,7 @@ pub(crate) fn other(tokens: &mut Tokens) -> Result<(), HoaFault>
     Ok(())
 }
 
-/// Whether a token can be an argument of an item with an unknown name: a number, a string or a word.
+/// Whether a token is a number, a string or a word.
 fn is_value(token: Token) -> bool
     ensures { result ≡ is_value_kind token.entry.kind }
 {
@@ -58,7 +58,7 @@ fn read_over(tokens: &mut Tokens) -> Result<(), HoaFault>
     read_over_of(token)
 }
 
-/// Checks that a token is a number, a string or a word, and that a number does not exceed the greatest `INT`.
+/// Checks that a token is a number, a string or a word, and a number at most the greatest `INT`.
 fn read_over_of(token: Token) -> Result<(), HoaFault>
     ensures { (h : HeaderData) → Takes (λ _. h) (read_over_in h) (parts.IsAbove number_limit)
         (piece_of token.entry) result }

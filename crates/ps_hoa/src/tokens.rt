@@ -67,7 +67,7 @@ pub enum Kind {
     Finish,
 }
 
-/// The class of a byte, by the blanks, comments and tokens that can begin with it.
+/// The class of a byte, by what can begin with it.
 #[derive(Clone, Copy)]
 enum Class {
     Blank,
@@ -113,21 +113,20 @@ fn class_of(byte: u8) -> Class
     }
 }
 
-/// Which of the names that may occur only once have occurred, and whether `--END--` has occurred.
+/// Which of the names that may occur only once have occurred, and whether `--END--` has.
 #[derive(Clone, Copy)]
 pub struct History {
     pub(crate) stood: [bool; ONCE_COUNT],
     pub(crate) ended: bool,
 }
 
-/// The blanks, the comment or the token that begins at an offset, and its length in bytes.
+/// The blanks, the comment or the token at an offset, and its length.
 #[derive(Clone, Copy)]
 enum Step {
     Skip(usize),
     Found(Kind, usize),
 }
 
-/// Whether a byte is a digit.
 #[tactic(auto, unfolding(crate::specs::Bytes::class_of))]
 fn is_digit(byte: u8) -> bool
     ensures { result ≡ digit byte }
@@ -135,7 +134,6 @@ fn is_digit(byte: u8) -> bool
     matches!(byte, b'0'..=b'9')
 }
 
-/// The number of digits at the start of the bytes.
 fn digits_at(bytes: &[u8]) -> usize
     ensures { IsRun digit bytes.now result }
 {
@@ -146,7 +144,6 @@ fn digits_at(bytes: &[u8]) -> usize
     count
 }
 
-/// Whether a name may contain the given byte after its first byte.
 #[tactic(auto, unfolding(crate::specs::Bytes::class_of))]
 pub(crate) fn is_name_byte(byte: u8) -> bool
     ensures { result ≡ names byte }
@@ -154,7 +151,7 @@ pub(crate) fn is_name_byte(byte: u8) -> bool
     matches!(byte, b'0'..=b'9' | b'a'..=b'z' | b'A'..=b'Z' | b'_' | b'-')
 }
 
-/// The length of the longest prefix that consists only of bytes that a name may contain after its first byte.
+/// The length of the longest prefix of bytes that a name may contain after its first.
 fn name_at(bytes: &[u8]) -> usize
     ensures { IsRun names bytes.now result }
 {
@@ -165,8 +162,7 @@ fn name_at(bytes: &[u8]) -> usize
     count
 }
 
-/// The number of bytes up to the end of the string that the given bytes continue, including the closing quote. The
-/// result is `None` if the string is not closed.
+/// The number of bytes up to and including the quote that closes a string; `None` if none does.
 fn quoted_at(bytes: &[u8]) -> Option<usize>
     ensures value { result ≡ quoted_len bytes.now false }
     ensures within { IfSome result (λ n. n ≤ length bytes.now) }
@@ -184,8 +180,8 @@ fn quoted_at(bytes: &[u8]) -> Option<usize>
     None
 }
 
-/// The given bytes begin after the `/*` of a comment. The result is the number of bytes up to and including the `*/`
-/// that closes this comment; comments may be nested in it. The result is `None` if the comment is not closed.
+/// The number of bytes up to and including the `*/` that closes a comment, in which others may be nested; `None` if
+/// none does. The bytes begin after its `/*`.
 fn comment_at(bytes: &[u8]) -> Option<usize>
     ensures value { result ≡ comment_len bytes.now false 0 }
     ensures within { IfSome result (λ n. n ≤ length bytes.now) }
@@ -209,7 +205,7 @@ fn comment_at(bytes: &[u8]) -> Option<usize>
     None
 }
 
-/// Whether the bytes at an offset are the given two bytes.
+/// Whether these two bytes are at an offset.
 fn is_pair(bytes: &[u8], at: usize, first: u8, second: u8) -> bool
     requires some { 0 < second }
     ensures value { result ≡ (slice_index bytes.now at == first && slice_index bytes.now (at + 1) == second) }
@@ -270,7 +266,6 @@ fn text_step(bytes: &[u8]) -> Step
     }
 }
 
-/// Whether a text begins with a given word.
 pub(crate) fn begins_with(bytes: &[u8], word: &[u8]) -> bool
     ensures value { result ≡ begins_with bytes.now word.now }
     ensures within { IsTrue result → length word.now ≤ length bytes.now }
@@ -328,7 +323,7 @@ fn step_at(bytes: &[u8]) -> Step
     }
 }
 
-/// The blank or the token that begins with the first byte, if the first byte is white space, a digit or a sign.
+/// The same, if the first byte is white space, a digit or a sign.
 #[tactic(auto, unfolding(crate::specs::Scan::scan_step))]
 #[inline(always)]
 fn quick_step(bytes: &[u8]) -> Option<Step>
@@ -343,7 +338,7 @@ fn quick_step(bytes: &[u8]) -> Option<Step>
     }
 }
 
-/// The kind and the span of a token, regardless of the tokens before it.
+/// The kind and the span of a token, regardless of those before it.
 #[derive(Clone, Copy)]
 struct Lexeme {
     kind: Kind,
@@ -351,7 +346,7 @@ struct Lexeme {
     stop: usize,
 }
 
-/// The first token from an offset on, if it is a number or a sign and only white space precedes it.
+/// The first token from an offset on, if it is a number or a sign after white space alone.
 #[inline(always)]
 fn quick_lexeme(source: &[u8], from: usize) -> Option<Lexeme>
     requires { from ≤ length source.now }
@@ -394,7 +389,7 @@ fn first_lexeme(source: &[u8], from: usize) -> Lexeme
     }
 }
 
-/// The end of the blanks and comments that begin at an offset.
+/// The end of the blanks and comments at an offset.
 pub(crate) fn behind_blanks(source: &[u8], from: usize) -> usize
     requires { from ≤ length source.now }
     ensures blanks { AreBlanks source.now from result }
@@ -406,7 +401,6 @@ pub(crate) fn behind_blanks(source: &[u8], from: usize) -> usize
     first_lexeme(source, from).start
 }
 
-/// Whether two texts are equal.
 pub(crate) fn is_same(name: &[u8], word: &[u8]) -> bool
     ensures { result ≡ bytes_eq name.now word.now }
 {
@@ -414,8 +408,7 @@ pub(crate) fn is_same(name: &[u8], word: &[u8]) -> bool
 }
 
 impl History {
-    /// The history at the start of the header: of the names that may occur only once, only `HOA:` has occurred, and
-    /// `--END--` has not occurred.
+    /// Of the names that may occur only once, `HOA:` has occurred.
     fn new() -> Self
         ensures { result ≡ fresh }
     {
@@ -439,7 +432,7 @@ impl History {
         }
     }
 
-    /// The kind of a token that follows the recorded tokens.
+    /// The kind of a token after those that were recorded.
     #[inline(always)]
     fn kind_of(&self, kind: Kind, text: &[u8]) -> Kind
         ensures { result ≡ kind_here self.now kind text.now }
@@ -450,7 +443,7 @@ impl History {
         kind
     }
 
-    /// The kind of a token that follows the recorded tokens, if these tokens may change its kind.
+    /// The same, if the recorded tokens may change its kind.
     #[inline(never)]
     fn changed_kind(&self, kind: Kind, text: &[u8]) -> Kind
         ensures { result ≡ kind_here self.now kind text.now }
@@ -473,7 +466,7 @@ impl History {
         }
     }
 
-    /// Whether a token that occurs does not change the history, and `--END--` has not occurred.
+    /// Whether a token does not change the history, and `--END--` has not occurred.
     #[inline(always)]
     fn stays(&self, kind: Kind) -> bool
         ensures { IsTrue result → (text : List ℕ) → history_after self.now kind text ≡ self.now }
@@ -481,7 +474,6 @@ impl History {
         !self.ended && !matches!(kind, Kind::Header | Kind::End)
     }
 
-    /// Records that a token has occurred.
     #[inline(always)]
     fn pass(&mut self, kind: Kind, text: &[u8])
         ensures { self.new ≡ history_after self.old kind text.now }
@@ -511,13 +503,10 @@ pub struct Token<'a> {
 #[derive(Drop)]
 pub struct Tokens<'a> {
     source: &'a [u8],
-    /// The kind of the next token.
     kind: Kind,
-    /// The kind of the next token, regardless of the tokens before it.
+    /// The kind of the next token, regardless of those before it.
     own_kind: Kind,
-    /// The offset of the first byte of the next token.
     start: usize,
-    /// The offset after the last byte of the next token.
     stop: usize,
     history: History,
 }
@@ -535,8 +524,8 @@ impl<'a> Model for Tokens<'a> {
 }
 
 impl<'a> Tokens<'a> {
-    /// The tokens from an offset on, which should be after the text's version. If a `HOA:` follows before `--END--`, it
-    /// counts as repeated, because the text's first `HOA:` is taken to be before the offset.
+    /// The tokens from an offset on, which should be after the version: another `HOA:` before `--END--` counts as
+    /// repeated.
     pub fn new(source: &'a [u8], from: usize) -> Self
         requires { from ≤ length source.now }
         ensures pieces { (pieces : List (Piece Sign)) → AreTokens from (drop from source.now) pieces →
@@ -556,7 +545,7 @@ impl<'a> Tokens<'a> {
         }
     }
 
-    /// The next token. At the end of the text, the kind of the token is `Finish`.
+    /// The next token, of the kind `Finish` at the end of the text.
     #[inline(always)]
     pub fn peek(&self) -> Token<'a>
         ensures next { piece_of result ≡ next_of (stream_of self.now) }
@@ -572,14 +561,14 @@ impl<'a> Tokens<'a> {
         }
     }
 
-    /// Moves past the next token, and returns that token.
+    /// Moves past the next token, and returns it.
     #[inline(always)]
     pub fn advance(&mut self) -> Token<'a>
         ensures next { piece_of result ≡ next_of (stream_of self.old) }
         ensures rest { stream_of self.new ≡ behind_next (stream_of self.old) }
         ensures text { IsSpan self.old.source result }
         ensures source { self.new.source ≡ self.old.source }
-        // By the clauses `start` and `rises`, a token never starts before the previous token stops.
+        // A token never starts before the previous one stops.
         ensures start { result.start ≡ self.old.at }
         ensures rises { result.stop ≤ self.new.at }
     {
@@ -607,7 +596,6 @@ impl<'a> Tokens<'a> {
         }
     }
 
-    /// Moves past the next token.
     #[inline(never)]
     fn skip_any(&mut self)
         ensures rest { stream_of self.new ≡ behind_next (stream_of self.old) }
@@ -623,7 +611,6 @@ impl<'a> Tokens<'a> {
         self.stop = lexeme.stop;
     }
 
-    /// Whether the next token is of the given kind.
     #[inline(always)]
     pub(crate) fn is_at(&self, kind: Kind) -> bool
         ensures { (result ≡ true) ↔ ((next_of (stream_of self.now)).sign.kind ≡ kind) }
@@ -632,8 +619,7 @@ impl<'a> Tokens<'a> {
     }
 }
 
-/// The kind of a token, which also depends on the names that occurred before it. A lexeme is the kind of the token
-/// regardless of the tokens before it, and its span.
+/// The kind of a token, which also depends on the names before it.
 #[inline(always)]
 fn kind_here(source: &[u8], lexeme: Lexeme, history: &History) -> Kind
     requires { IsLexeme source.now lexeme }

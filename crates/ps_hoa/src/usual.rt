@@ -1,16 +1,16 @@
-//! How many operands to make space for before they are parsed.
+//! How many operands to make space for.
 
 use crate::infix::Connective;
 use ps_label::Label;
 
-/// The greatest number of operands for which space is made before they are parsed.
+/// The most operands for which space is made.
 const MOST: usize = 64;
 
-/// The number of operands for which space is made if no label was parsed before.
+/// The number before any label was parsed.
 const FIRST: usize = 4;
 
-/// For each connective, the number of operands to make space for in a row with this connective: as many as a row of an
-/// earlier label has, since labels of the same state are often alike, but at most 64.
+/// For each connective, how many operands to make space for: as many as a row of an earlier label has, since labels of
+/// one state are often alike, but at most 64.
 #[derive(Clone, Copy)]
 pub(crate) struct Usual {
     ands: usize,
@@ -18,7 +18,6 @@ pub(crate) struct Usual {
 }
 
 impl Usual {
-    /// The numbers for the first label.
     pub(crate) fn new() -> Self {
         Usual {
             ands: FIRST,
@@ -26,7 +25,7 @@ impl Usual {
         }
     }
 
-    /// The numbers after a label that has been parsed.
+    /// The numbers after a label.
     pub(crate) fn after(label: &Label) -> Self {
         match label {
             Label::Both(operands) => Usual {
@@ -41,7 +40,6 @@ impl Usual {
         }
     }
 
-    /// The number of operands to make space for in a row with the given connective.
     #[inline(always)]
     pub(crate) fn count(self, connective: Connective) -> usize {
         match connective {
@@ -51,8 +49,7 @@ impl Usual {
     }
 }
 
-/// The number of operands to make space for if the first of the given labels is like the next row of operands with `&`
-/// between them.
+/// The number for `&`, if the first of the labels is like the next row.
 fn first_length(labels: &[Label]) -> usize {
     match labels.first() {
         Some(Label::Both(operands)) => operands.len().min(MOST),

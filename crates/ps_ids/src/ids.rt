@@ -1,4 +1,4 @@
-//! Distinct ids, and the index of each id.
+//! The list of ids.
 
 ghost use Rattle.std.specs.Prelude.{◌≡◌, ◌==◌, ◌+◌, ◌<◌, ◌≤◌, ◌^◌, ◌++◌, ◌∷◌, ◌↔◌, ℕ, List, [], OnOk, OnErr, IfSome};
 ghost use Rattle.std.specs.Prelude.{IsTrue, IfNone};
@@ -13,19 +13,16 @@ use std::alloc::{AllocError, Global};
 use std::collections::BTreeMap;
 use std::marker::Model;
 
-/// The table `near` is at most this many times as long as the list of ids.
+/// `near` is at most this many times as long as the list.
 const MOST_PER_ID: usize = 4;
 
-/// Distinct ids in order. An id whose index is its distance from `first` needs no entry. The indices of the other ids
-/// near `first` are in the table `near`, at their distance from `first`. The table `near` is at most four times as long
-/// as the list of ids. The indices of all remaining ids are in the tree `far`. So no choice of ids makes a search slow
-/// or takes much memory.
+/// Distinct ids in order. One whose index is its distance from `first` needs no entry; the table `near` has the indices
+/// of others near `first`, and the tree `far` the rest.
 #[derive(Drop)]
 pub struct Ids {
     list: Vec<u64>,
     first: u64,
-    /// The entry at an id's distance from `first` is one more than the index of the id, or 0 if the table does not
-    /// record the index.
+    /// At an id's distance from `first`, 1 more than its index, or 0 for none.
     near: Vec<u32>,
     far: BTreeMap<u64, usize>,
 }
@@ -39,15 +36,14 @@ impl Model for Ids {
 }
 
 impl Ids {
-    /// An empty list of ids. If 0, 1, 2 and so on are added in this order, no table of their indices is stored.
+    /// No ids, with 0 as `first`.
     pub fn new(alloc: Global) -> Self
         ensures { result ≡ [] }
     {
         Ids::starting_at(alloc, 0)
     }
 
-    /// An empty list of ids. If `first`, `first` + 1 and so on are added in this order, no table of their indices is
-    /// stored.
+    /// No ids. Those that count up from `first` need no table.
     pub fn starting_at(alloc: Global, first: u64) -> Self
         ensures { result ≡ [] }
     {
@@ -67,7 +63,7 @@ impl Ids {
         self.list.as_slice()
     }
 
-    /// The ids, in order.
+    /// The same list.
     pub fn into_list(self) -> Vec<u64>
         ensures list { result.items ≡ self }
         ensures distinct { AreDistinct self }
@@ -76,22 +72,20 @@ impl Ids {
         list
     }
 
-    /// The index of an id, or `None` if the number is not an id of the list.
+    /// The index of an id, if the number is one.
     #[inline(always)]
     pub fn place(&self, id: u64) -> Option<usize>
         ensures place { result ≡ position (λ other. id == other) self.now }
         ensures member { is_some result ≡ list_any (λ other. id == other) self.now }
         ensures within { IfSome result (λ place. place < length self.now) }
     {
-        // If no index is recorded, the index of an id greater than `first` is its distance from `first`.
         if id > self.first && self.near.is_empty() && self.far.is_empty() {
             return place_below(own_place(self.first, id), self.list.len());
         }
         self.recorded_place(id)
     }
 
-    /// The index of an id, as `place` returns it. `place` calls this function only if an index is recorded or the id is
-    /// at most `first`, so it is not inlined.
+    /// Not inlined, since it is called only if an index is recorded or `id` is at most `first`.
     #[inline(never)]
     fn recorded_place(&self, id: u64) -> Option<usize>
         ensures place { result ≡ position (λ other. id == other) self.now }
@@ -108,7 +102,7 @@ impl Ids {
         self.far.get(&id).copied()
     }
 
-    /// Whether a number is an id of the list.
+    /// Whether a number is an id.
     #[inline(always)]
     pub fn has(&self, id: u64) -> bool
         ensures { result ≡ list_any (λ other. id == other) self.now }
@@ -131,14 +125,12 @@ impl Ids {
     }
 }
 
-/// Whether the list has the given id at the index `place`.
 fn stands_at(list: &[u64], id: u64, place: usize) -> bool
     ensures { IsTrue result ↔ ((place < length list.now) × (slice_index list.now place ≡ id)) }
 {
     place < list.len() && list[place] == id
 }
 
-/// The given index, if it is less than `count`.
 fn place_below(place: usize, count: usize) -> Option<usize>
     ensures some { IfSome result (λ below. (below ≡ place) × (place < count)) }
     ensures none { IfNone result (count ≤ place) }
@@ -146,7 +138,6 @@ fn place_below(place: usize, count: usize) -> Option<usize>
     if place < count { Some(place) } else { None }
 }
 
-/// The index that the table records for an id, if it records one.
 fn near_place(near: &[u32], first: u64, id: u64) -> Option<usize>
     ensures { MatchOption result ((first ≤ id) → slice_index near.now (own_place first id) ≡ 0)
         (λ place. (first ≤ id) × (slice_index near.now (own_place first id) ≡ place + 1)) }
@@ -161,14 +152,14 @@ fn near_place(near: &[u32], first: u64, id: u64) -> Option<usize>
     Some(entry as usize - 1)
 }
 
-/// An id's own index: its distance from `first`, or 0 for an id less than `first`.
+/// The distance from `first`, or 0 for less.
 fn own_place(first: u64, id: u64) -> usize
     ensures { result ≡ own_place first id }
 {
     id.saturating_sub(first) as usize
 }
 
-/// Records the index of a new id, unless `own_place` gives this index.
+/// Records the index of a new id, unless `own_place` gives it.
 #[inline(always)]
 fn keep_place(
     near: &mut Vec<u32>,
@@ -189,9 +180,7 @@ fn keep_place(
     record_place(near, far, first, id, place)
 }
 
-/// Records the index of a new id. The table takes the index of an id near `first` if the index plus 1 fits into 4
-/// bytes; the tree takes any other index. An id is near `first` if it is not less than `first`, but less than `first`
-/// plus `MOST_PER_ID` times the number of ids, including the new id.
+/// Records the index in the table if the id is near `first` and 4 bytes hold the index plus 1, else in the tree.
 #[inline(never)]
 fn record_place(
     near: &mut Vec<u32>,
@@ -214,7 +203,7 @@ fn record_place(
     }
 }
 
-/// Writes an entry of the table. A table that is too short is first extended by zeros.
+/// Writes an entry of the table, which is extended if it is too short.
 fn put_near(near: &mut Vec<u32>, distance: usize, entry: u32) -> Result<(), AllocError>
     requires { distance < 2 ^ 62 }
     ensures ok { OnOk result ((k : ℕ) → slice_index near.new.items k ≡

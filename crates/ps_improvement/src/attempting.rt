@@ -1,4 +1,4 @@
-//! The call that attempts to solve a game within a given amount of work.
+//! Attempts to solve a game.
 
 ghost use Rattle.std.specs.Prelude.{IfOk, length};
 ghost use Rattle.ps_game.specs.Games.{vertex_count};
@@ -13,38 +13,35 @@ use ps_attractor::has_room;
 use ps_game::{Arena, Region, Strategy};
 use std::alloc::{AllocError, Global};
 
-/// The number of cells that may be stored, whatever the game and the fuel are. A cell is an entry of a row, and a row
-/// is the value of a play that stops.
+/// How many cells (entries of rows) may be stored with any fuel.
 const ROOM: u64 = 1 << 18;
 
-/// How many units of fuel allow one more cell to be stored, in addition to `ROOM` cells.
+/// How much fuel allows one more to be stored.
 const FUEL_EACH: u64 = 256;
 
-/// However much fuel there is, at most this many cells for each vertex, and as many for each edge, are stored in
-/// addition to `ROOM` cells.
+/// The most that fuel allows, for each vertex and for each edge.
 const ROOM_EACH: u64 = 64;
 
-/// The result of an attempt to solve a game by strategy improvement.
+/// The result of an attempt.
 #[derive(Drop)]
 pub enum Attempted {
-    /// The improvement ended, since no move can be improved any more. The result is not proved: the caller must check
-    /// that the players win as stated.
+    /// No move can be improved. That the players win as stated must be checked.
     Found {
-        /// The vertices that player 0 presumably wins.
+        /// What player 0 presumably wins.
         won: Region,
-        /// The moves by which player 0 presumably wins the vertices in `won`.
+        /// Its moves in `won`.
         first: Strategy,
-        /// The moves by which player 1 presumably wins the vertices outside `won`.
+        /// The moves of player 1 outside `won`.
         second: Strategy,
     },
-    /// The fuel, or the number of stored cells that the fuel allows, was used up before a result was reached.
+    /// The fuel, or the cells that it allows to be stored, did not suffice.
     OutOfFuel,
-    /// This game needs more cells than any amount of fuel allows, or the type `usize` can't hold the number of edges or
-    /// the number 2n + 4 for n vertices. Another attempt with more fuel would fail, too.
+    /// No fuel would suffice: the game needs too many cells, or `usize` can't hold the number of edges, or 2n + 4 for n
+    /// vertices.
     OutOfRoom,
 }
 
-/// Computes which vertices player 0 presumably wins, and moves for both players. Fails if out of memory.
+/// Finds what each player presumably wins, and its moves. Fails if out of memory.
 pub fn attempt<A: Arena>(alloc: Global, arena: &A, fuel: u64) -> Result<Attempted, AllocError>
     ensures { IfOk result (IsAttemptFor (vertex_count (A.game arena.now))) }
 {
@@ -69,8 +66,6 @@ pub fn attempt<A: Arena>(alloc: Global, arena: &A, fuel: u64) -> Result<Attempte
     }
 }
 
-/// The greatest number of cells (entries of the values of plays) that may be stored for a game in addition to `ROOM`
-/// cells, however much fuel there is.
 fn most_room<A: Arena>(arena: &A) -> u64 {
     let mut room: u64 = 0;
     for vertex in 0..arena.count() {
@@ -80,8 +75,6 @@ fn most_room<A: Arena>(arena: &A) -> u64 {
     room
 }
 
-/// The result that follows from the final moves: player 0 is said to win the vertices from which plays never stop.
-/// Fails if out of memory.
 fn answer_of<A: Arena>(alloc: Global, plan: Plan<'_, A>) -> Result<Attempted, AllocError>
     ensures { IfOk result (IsAttemptFor (length plan.entry.rows.items)) }
 {

@@ -1,25 +1,23 @@
-//! The limits on the time and the memory of an attempt.
+//! The limits of an attempt.
 
-/// The number of cells that may still be read or written, and the number of cells that may be stored in addition to
-/// those that are stored now. A cell is an entry of a row, and a row is the value of a play that stops.
+/// How many more cells (entries of rows) may be used.
 #[derive(Drop)]
 pub struct Fuel {
-    /// The number of cells of rows that may still be read or written.
+    /// How many may be read or written.
     pub left: u64,
-    /// The number of cells that may be stored in addition to those that are stored now.
+    /// How many may be stored.
     pub room: u64,
-    /// Whether the limit on stored cells was too small for some row.
+    /// Whether some row was too large to be stored.
     pub is_full: bool,
 }
 
 impl Fuel {
-    /// Spends fuel for `cells` cells that are read or written, and for one more.
+    /// Spends fuel for `cells` cells, and for one more.
     pub fn burn(&mut self, cells: usize) {
         self.left = self.left.saturating_sub(cells as u64).saturating_sub(1);
     }
 
-    /// Records that a row of `cells` cells is stored in place of a row of `instead` cells. If the new row exceeds the
-    /// limit on stored cells, the call sets the remaining fuel to 0, so that the attempt ends.
+    /// A row of `cells` cells replaces one of `instead`. If it is too large, the fuel is set to 0.
     pub fn hold(&mut self, cells: usize, instead: usize) {
         let room = self.room.saturating_add(instead as u64);
         if room < cells as u64 {

@@ -1,4 +1,4 @@
-//! A game, its reversed edges, and its strongly connected components.
+//! The game that is solved.
 
 ghost use Rattle.std.specs.Prelude.{◌≡◌, ◌<◌, ℕ, All, IfOk, length};
 ghost use Rattle.ps_attractor.specs.Room.{HasRoom};
@@ -11,7 +11,6 @@ use ps_components::{Components, Graph, components_of};
 use ps_game::Arena;
 use std::alloc::{AllocError, Global};
 
-/// The edges of a game as a graph.
 #[derive(Drop)]
 struct Edges<'a, A: Arena> {
     arena: &'a A,
@@ -34,7 +33,7 @@ impl<'a, A: Arena> Graph for Edges<'a, A> {
     }
 }
 
-/// A game, with the predecessors of each vertex, and the strongly connected component of each vertex.
+/// A game, its predecessors and its strongly connected components.
 #[derive(Drop)]
 pub struct Ground<'a, A: Arena> {
     /// The game.
@@ -48,7 +47,7 @@ pub struct Ground<'a, A: Arena> {
 }
 
 impl<'a, A: Arena> Ground<'a, A> {
-    /// Computes the reversed edges and the strongly connected components of a game. Fails if out of memory.
+    /// Computes these of a game. Fails if out of memory.
     pub fn of(alloc: Global, arena: &'a A) -> Result<Ground<'a, A>, AllocError>
         requires { HasRoom (A.game arena.now) usize.MAX }
         ensures { IfOk result (λ ground. A.game ground.arena.now ≡ A.game arena.now) }
@@ -60,14 +59,14 @@ impl<'a, A: Arena> Ground<'a, A> {
         })
     }
 
-    /// The vertices, component by component. Each component follows all other components to which its edges lead.
+    /// The vertices by components, each after the others to which its edges lead.
     pub fn order(&self) -> &[usize]
         ensures { All (λ v. v < vertex_count (A.game self.now.arena.now)) result.now }
     {
         self.components.order()
     }
 
-    /// Whether two vertices are in the same strongly connected component.
+    /// Whether two vertices are in one component.
     pub fn is_one_part(&self, vertex: usize, other: usize) -> bool
         requires vertex { vertex < vertex_count (A.game self.now.arena.now) }
         requires other { other < vertex_count (A.game self.now.arena.now) }

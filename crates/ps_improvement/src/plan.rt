@@ -1,4 +1,4 @@
-//! The present choices of the players in strategy improvement, and the values of vertices that follow from them.
+//! The players' choices, and what follows from them.
 
 ghost use Rattle.std.specs.Prelude.{◌≡◌, ◌<◌, ℕ, IfOk, IfSome, length};
 ghost use Rattle.std.specs.Option.{ForSome};
@@ -11,19 +11,17 @@ use ps_game::{Arena, Region, Strategy};
 use std::alloc::{AllocError, Global};
 use std::cmp::Ordering;
 
-/// The moves of player 0, the vertices of player 1 that plays may enter, and the value of each vertex of a game.
+/// The players' choices, and the value of each vertex.
 #[derive(Drop)]
 pub struct Plan<'a, A: Arena> {
     alloc: Global,
     /// The game.
     pub arena: &'a A,
-    /// The moves of player 0. At a vertex without a move, player 0 stops.
+    /// The moves of player 0; without one, it stops.
     pub first: Strategy,
-    /// The vertices of player 1 that plays may enter. Plays stop before they enter a vertex of player 1 that `opened`
-    /// does not contain.
+    /// The vertices of player 1 that plays may enter.
     pub opened: Region,
-    /// For each vertex, the row of the priorities that the play from this vertex meets before it stops, or `None` if
-    /// the play never stops.
+    /// The row of the play from each vertex, or `None` if it never stops.
     pub rows: Vec<Option<Row>>,
     ghost sized: { length rows.items ≡ vertex_count (A.game arena.now) },
     ghost moves: { length first ≡ length rows.items },
@@ -32,8 +30,7 @@ pub struct Plan<'a, A: Arena> {
 }
 
 impl<'a, A: Arena> Plan<'a, A> {
-    /// The first choices of the players: player 0 stops at each of its vertices, and no play enters a vertex that player
-    /// 1 owns. Fails if out of memory.
+    /// Player 0 always stops, and plays enter no vertex of player 1.
     pub fn new(alloc: Global, arena: &'a A) -> Result<Plan<'a, A>, AllocError>
         ensures { IfOk result (λ plan. length plan.rows.items ≡ vertex_count (A.game arena.now)) }
     {
@@ -47,7 +44,7 @@ impl<'a, A: Arena> Plan<'a, A> {
         })
     }
 
-    /// Whether a vertex is closed, so that plays stop before they enter it.
+    /// Whether plays stop before they enter a vertex.
     pub fn is_closed(&self, vertex: usize) -> bool
         requires { vertex < length self.now.rows.items }
     {
@@ -64,7 +61,7 @@ impl<'a, A: Arena> Plan<'a, A> {
         }
     }
 
-    /// The value of moving to a vertex, or of stopping if no vertex is given or the vertex is closed.
+    /// The value of moving to a vertex, or of stopping if it is none or closed.
     fn seen(&self, to: Option<usize>) -> Value<'_>
         requires { IfSome to (λ vertex. vertex < length self.now.rows.items) }
     {
@@ -74,8 +71,7 @@ impl<'a, A: Arena> Plan<'a, A> {
         }
     }
 
-    /// Lowers the value of a vertex to the value computed from the choice of the vertex's owner, if that value is less.
-    /// Returns whether the vertex's value was lowered. Fails if out of memory.
+    /// Lowers the value of a vertex to that of its owner's choice; returns whether it was greater.
     pub fn lower(&mut self, vertex: usize, fuel: &mut Fuel) -> Result<bool, AllocError>
         requires { vertex < length self.old.rows.items }
         ensures { length self.new.rows.items ≡ length self.old.rows.items }
@@ -89,8 +85,7 @@ impl<'a, A: Arena> Plan<'a, A> {
         Ok(true)
     }
 
-    /// The new row of a vertex, computed from the choice of the vertex's owner, if this row is worth less than the
-    /// vertex's present value. Fails if out of memory.
+    /// The row of the owner's choice, if it is worth less than the vertex.
     fn lower_row(&self, vertex: usize, fuel: &mut Fuel) -> Result<Option<Row>, AllocError>
         requires { vertex < length self.now.rows.items }
     {
@@ -111,7 +106,7 @@ impl<'a, A: Arena> Plan<'a, A> {
         Ok(Some(row))
     }
 
-    /// The first of the successors of a vertex that are worth least to player 0.
+    /// The first of the successors that are worth least.
     #[tactic(auto, using(crate::proofs::Within::successor_within))]
     pub fn least(&self, vertex: usize, fuel: &mut Fuel) -> usize
         requires { vertex < length self.now.rows.items }
@@ -129,8 +124,7 @@ impl<'a, A: Arena> Plan<'a, A> {
         least
     }
 
-    /// The first of the successors of a vertex that are worth most to player 0, or `None` if no successor is worth more
-    /// than the present move.
+    /// The first of the successors that are worth most, if it is worth more than the present move.
     #[tactic(auto, using(crate::proofs::Within::successor_within))]
     pub fn better(&self, vertex: usize, fuel: &mut Fuel) -> Option<usize>
         requires { vertex < length self.now.rows.items }
@@ -151,7 +145,6 @@ impl<'a, A: Arena> Plan<'a, A> {
     }
 }
 
-/// A list in which each of `count` vertices has the value of an endless play.
 fn endless(alloc: Global, count: usize) -> Result<Vec<Option<Row>>, AllocError>
     ensures { IfOk result (λ rows. length rows.items ≡ count) }
 {

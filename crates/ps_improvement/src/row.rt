@@ -1,10 +1,10 @@
-//! The values of plays in strategy improvement, and their comparison.
+//! The values of plays.
 
 use crate::fuel::Fuel;
 use std::alloc::{AllocError, Global};
 use std::cmp::Ordering;
 
-/// An entry of a row: a priority, and how often a play meets the priority.
+/// An entry of a row.
 #[derive(Clone, Copy, PartialEq, Eq)]
 pub struct Cell {
     /// The priority.
@@ -13,21 +13,20 @@ pub struct Cell {
     pub count: u64,
 }
 
-/// The priorities that a play meets before it stops, in descending order, each with the number of times that the play
-/// meets it. Each `count` is at least 1.
+/// The priorities that a play meets before it stops, descending, each at least once.
 pub type Row = Vec<Cell>;
 
 /// The value of a play for player 0.
 #[derive(Clone, Copy)]
 pub enum Value<'a> {
-    /// The play never stops. An endless play is worth more to player 0 than any play that stops.
+    /// The play never stops, which is worth more than any row.
     Endless,
-    /// The play stops after it has met the priorities in the given row.
+    /// The play stops after the priorities of this row.
     Stops(&'a [Cell]),
 }
 
 impl Value<'_> {
-    /// The number of cells (entries) of the value's row; 0 for an endless play.
+    /// The number of cells; 0 for an endless play.
     pub fn cells(self) -> usize {
         match self {
             Value::Endless => 0,
@@ -35,7 +34,7 @@ impl Value<'_> {
         }
     }
 
-    /// Compares two values. The greater value is worth more to player 0.
+    /// Compares what values are worth to player 0.
     pub fn order(self, other: Value<'_>, fuel: &mut Fuel) -> Ordering {
         match (self, other) {
             (Value::Endless, Value::Endless) => Ordering::Equal,
@@ -46,7 +45,7 @@ impl Value<'_> {
     }
 }
 
-/// Compares two rows. The first cell (entry) in which the two rows differ decides which row is worth more to player 0.
+/// The first cell in which two rows differ decides.
 fn order_of_rows(row: &[Cell], other: &[Cell], fuel: &mut Fuel) -> Ordering {
     let same = row
         .iter()
@@ -62,9 +61,7 @@ fn order_of_rows(row: &[Cell], other: &[Cell], fuel: &mut Fuel) -> Ordering {
     }
 }
 
-/// Compares two rows by the first cells in which they differ. The cell with the greater priority decides, or the one
-/// with the greater count if the priorities are equal. The row with this cell is worth more to player 0 if the cell's
-/// priority is even, and less if it is odd.
+/// The cell with the greater priority, or else count, decides: for its row if the priority is even, else against it.
 fn order_of_cells(cell: Cell, beside: Cell) -> Ordering {
     match cell.priority.cmp(&beside.priority) {
         Ordering::Greater => worth_of(cell.priority),
@@ -74,7 +71,7 @@ fn order_of_cells(cell: Cell, beside: Cell) -> Ordering {
     }
 }
 
-/// Whether a play is worth more (`Greater`) or less (`Less`) to player 0 if it meets a given priority once more.
+/// Whether to meet a priority once more is worth more or less.
 fn worth_of(priority: u64) -> Ordering {
     if priority % 2 == 0 {
         Ordering::Greater
@@ -83,8 +80,7 @@ fn worth_of(priority: u64) -> Ordering {
     }
 }
 
-/// The row of a play that meets one priority once more than a play with a given row. The row has three parts: the cells
-/// of greater priorities, the cell of the priority that is met once more, and the cells of smaller priorities.
+/// A row with one priority met once more: greater priorities, this one, smaller ones.
 #[derive(Drop)]
 pub struct Raised<'a> {
     front: &'a [Cell],
@@ -93,7 +89,7 @@ pub struct Raised<'a> {
 }
 
 impl<'a> Raised<'a> {
-    /// The row of a play that meets the priority once more than a play with the given row.
+    /// The row with the priority met once more.
     pub fn of(row: &'a [Cell], priority: u64) -> Raised<'a> {
         let (front, back) = row.split_at(row.partition_point(|cell| cell.priority > priority));
         let (count, rest) = match back.split_first() {
@@ -110,7 +106,7 @@ impl<'a> Raised<'a> {
         }
     }
 
-    /// Whether a play with this row is worth less to player 0 than a play with the given value.
+    /// Whether it is worth less than a value.
     pub fn is_below(&self, value: Value<'_>, fuel: &mut Fuel) -> bool {
         match value {
             Value::Endless => true,
@@ -118,7 +114,6 @@ impl<'a> Raised<'a> {
         }
     }
 
-    /// Compares what this row and another row are worth to player 0: `Greater` if this row is worth more.
     fn order(&self, other: &[Cell], fuel: &mut Fuel) -> Ordering {
         let (begin, back) = other.split_at(self.front.len().min(other.len()));
         let fronts = order_of_rows(self.front, begin, fuel);
@@ -134,7 +129,7 @@ impl<'a> Raised<'a> {
         }
     }
 
-    /// The whole row. Fails if out of memory.
+    /// The whole row.
     pub fn row(&self, alloc: Global) -> Result<Row, AllocError> {
         let cells = self.front.len().saturating_add(1);
         let mut row = Vec::with_capacity(alloc, cells.saturating_add(self.rest.len()))?;

@@ -1,4 +1,4 @@
-//! The improvement of the players' choices, one strongly connected component after another.
+//! Improves the choices, one component after another.
 
 ghost use Rattle.std.specs.Prelude.{◌≡◌, ◌<◌, ◌≤◌, All, IfOk, length};
 ghost use Rattle.ps_game.specs.Games.{vertex_count};
@@ -12,8 +12,7 @@ use ps_game::Arena;
 use std::alloc::{AllocError, Global};
 use std::cmp::Ordering;
 
-/// The present choices of the players (the plan), the component that is being solved, and the vertices of this
-/// component whose values may decrease.
+/// The choices, the component that is being solved, and which of its values may decrease.
 #[derive(Drop)]
 pub struct Settling<'a, A: Arena> {
     ground: &'a Ground<'a, A>,
@@ -27,7 +26,7 @@ pub struct Settling<'a, A: Arena> {
 }
 
 impl<'a, A: Arena> Settling<'a, A> {
-    /// The initial state, in which no component is solved. Fails if out of memory.
+    /// No component is solved.
     pub fn new(alloc: Global, ground: &'a Ground<'a, A>) -> Result<Settling<'a, A>, AllocError>
         ensures { IfOk result (λ settling. A.game settling.ground.now.arena.now ≡ A.game ground.now.arena.now) }
     {
@@ -39,8 +38,7 @@ impl<'a, A: Arena> Settling<'a, A> {
         })
     }
 
-    /// Improves the players' choices in one component after another, until nothing improves. Each component is solved
-    /// after the components to which its edges lead. Returns whether the fuel sufficed. Fails if out of memory.
+    /// Solves all components, each after those to which its edges lead; returns whether the fuel sufficed.
     pub fn settle_all(&mut self, fuel: &mut Fuel) -> Result<bool, AllocError>
         ensures { self.new.ground ≡ self.old.ground }
     {
@@ -56,8 +54,7 @@ impl<'a, A: Arena> Settling<'a, A> {
         Ok(true)
     }
 
-    /// Improves the players' choices in the current component until nothing improves. Returns whether the fuel
-    /// sufficed. Fails if out of memory.
+    /// Improves the choices in the component until nothing improves; returns whether the fuel sufficed.
     fn settle(&mut self, fuel: &mut Fuel) -> Result<bool, AllocError>
         ensures { self.new.ground ≡ self.old.ground }
     {
@@ -75,9 +72,7 @@ impl<'a, A: Arena> Settling<'a, A> {
         Ok(false)
     }
 
-    /// Computes the values of the vertices of the current component, given the present choices of the players. At
-    /// first, each of these vertices has the value of an endless play. Values are lowered until none changes or the
-    /// fuel is spent. Fails if out of memory.
+    /// Computes the values in the component: from endless plays, lowered until none changes or the fuel is spent.
     fn evaluate(&mut self, fuel: &mut Fuel) -> Result<(), AllocError>
         ensures { self.new.ground ≡ self.old.ground }
     {
@@ -96,8 +91,7 @@ impl<'a, A: Arena> Settling<'a, A> {
         Ok(())
     }
 
-    /// Gives each vertex of the current component the value of an endless play, and adds it to the queue. Fails if out
-    /// of memory.
+    /// Makes all plays endless, and queues all vertices.
     fn forget_all(&mut self, fuel: &mut Fuel) -> Result<(), AllocError>
         ensures { self.new.ground ≡ self.old.ground }
     {
@@ -110,8 +104,7 @@ impl<'a, A: Arena> Settling<'a, A> {
         Ok(())
     }
 
-    /// Adds to the queue the vertices of the same component whose values may decrease with the value of `vertex`. Fails
-    /// if out of memory.
+    /// Queues the vertices whose values may decrease with that of `vertex`.
     fn wake(&mut self, vertex: usize, fuel: &mut Fuel) -> Result<(), AllocError>
         requires { vertex < vertex_count (A.game self.old.ground.now.arena.now) }
         ensures { self.new.ground ≡ self.old.ground }
@@ -128,9 +121,8 @@ impl<'a, A: Arena> Settling<'a, A> {
         Ok(())
     }
 
-    /// At each vertex of player 0 in the current component, changes the move to a successor that is worth most, if it
-    /// is worth more than the present move. All comparisons use the present values of the vertices. Returns whether a
-    /// move changed.
+    /// Moves player 0 to successors that are worth most, if they are worth more than the present move by the values
+    /// before. Returns whether a move changed.
     fn go_on(&mut self, fuel: &mut Fuel) -> bool
         ensures { self.new.ground ≡ self.old.ground }
     {
@@ -148,8 +140,7 @@ impl<'a, A: Arena> Settling<'a, A> {
         improved
     }
 
-    /// Opens each closed vertex of player 1 in the current component that is worth more than stopping, so that plays
-    /// may enter the vertex. Returns whether a vertex was opened.
+    /// Opens each closed vertex that is worth more than stopping; returns whether there was one.
     fn open_up(&mut self, fuel: &mut Fuel) -> bool
         ensures { self.new.ground ≡ self.old.ground }
     {
@@ -167,7 +158,7 @@ impl<'a, A: Arena> Settling<'a, A> {
     }
 }
 
-/// The number of vertices at the front of a list that are in the component of the list's first vertex.
+/// How many vertices at the front are in the component of the first.
 fn length_of_part<A: Arena>(ground: &Ground<'_, A>, rest: &[usize]) -> usize
     requires { All (λ v. v < vertex_count (A.game ground.now.arena.now)) rest.now }
     ensures { result ≤ length rest.now }

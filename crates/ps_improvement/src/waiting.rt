@@ -1,4 +1,4 @@
-//! A queue of vertices that are still to be processed.
+//! A queue of vertices.
 
 ghost use Rattle.std.specs.Prelude.{◌≡◌, ◌<◌, All, IfOk, IfSome, length};
 
@@ -6,17 +6,17 @@ use ps_game::Region;
 use std::alloc::{AllocError, Global};
 use std::collections::VecDeque;
 
-/// A queue of vertices that are still to be processed, in which each vertex occurs at most once.
+/// A queue of vertices in which each occurs at most once.
 #[derive(Drop)]
 pub struct Waiting {
     queue: VecDeque<usize>,
-    /// The vertices that are in the queue.
+    /// The vertices in the queue.
     pub waits: Region,
     ghost within: { All (λ v. v < length waits) queue.items },
 }
 
 impl Waiting {
-    /// An empty queue for a game with `count` vertices. Fails if out of memory.
+    /// An empty queue for `count` vertices.
     pub fn none(alloc: Global, count: usize) -> Result<Waiting, AllocError>
         ensures { IfOk result (λ waiting. length waiting.waits ≡ count) }
     {
@@ -26,7 +26,7 @@ impl Waiting {
         })
     }
 
-    /// Appends a vertex to the queue, unless the queue has it already. Fails if out of memory.
+    /// Appends a vertex, unless the queue has it already.
     pub fn put(&mut self, vertex: usize) -> Result<(), AllocError>
         requires { vertex < length self.old.waits }
         ensures { length self.new.waits ≡ length self.old.waits }
@@ -38,7 +38,7 @@ impl Waiting {
         Ok(())
     }
 
-    /// Removes the first vertex from the queue, and returns it.
+    /// Removes the first vertex.
     pub fn take(&mut self) -> Option<usize>
         ensures places { length self.new.waits ≡ length self.old.waits }
         ensures within { IfSome result (λ vertex. vertex < length self.old.waits) }

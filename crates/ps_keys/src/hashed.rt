@@ -8,19 +8,19 @@ ghost use Rattle.ps_keys.specs.Hashes.{folded, mixed};
 /// An odd number without a pattern in its bits.
 pub(crate) const MULTIPLIER: u64 = 0x9e37_79b9_7f4a_7c15;
 
-/// A key that has a hash for each seed. Equal keys have equal hashes.
+/// A key with a hash for each seed.
 pub trait Hashed: Eq + Copy {
     ghost hash: { ℕ → Self → ℕ };
 
-    /// The hash of the key for a seed.
+    /// The hash for a seed.
     fn hash(&self, seed: u64) -> u64
         ensures { result ≡ hash seed self.now };
 
     ghost alike: { (seed : ℕ) (x y : Self) → IsTrue (Self.eq x y) → hash seed x ≡ hash seed y };
 }
 
-/// A hash of two numbers for a seed: the halves of a product of 128 bits, joined by exclusive or. If `second` is
-/// `MULTIPLIER`, the hash is 0 for every seed, so `second` should be a number that a text cannot choose freely.
+/// A hash of two numbers. If `second` is `MULTIPLIER`, it is 0 for every seed, so `second` should be a number that a
+/// text cannot choose freely.
 #[inline(always)]
 pub fn mixed(seed: u64, first: u64, second: u64) -> u64
     ensures { result ≡ mixed seed first second }

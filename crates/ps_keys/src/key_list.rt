@@ -1,4 +1,4 @@
-//! A list of keys that finds the index of a key by its hash.
+//! Lists of keys.
 
 ghost use Rattle.std.specs.Prelude.{◌≡◌, ◌^◌, ◌<◌, [], IfOk, length};
 ghost use Rattle.ps_keys.specs.Keys.{IsLastEqual, PlacesKey};
@@ -8,7 +8,7 @@ use crate::table::{Sought, Table};
 use std::alloc::{AllocError, Global};
 use std::marker::Model;
 
-/// A list of keys, which finds the index of a key by its hash. `place_of` appends only keys that the list lacks.
+/// A list of keys, each found by its hash. `place_of` appends only keys that the list lacks.
 #[derive(Debug, Drop)]
 pub struct KeyList<K: Hashed> {
     list: Vec<K>,
@@ -65,7 +65,7 @@ impl<K: Hashed> KeyList<K> {
         self.list.len()
     }
 
-    /// The index of the last key in the list that equals the given key.
+    /// The last index of a key that equals this one.
     #[inline(always)]
     pub fn find(&self, key: K) -> Option<usize>
         ensures { IsLastEqual K.eq self.now key result }
@@ -76,9 +76,8 @@ impl<K: Hashed> KeyList<K> {
         }
     }
 
-    /// The index of a key in the list; a new key is appended. Fails if out of memory, and, as if out of memory, if the
-    /// list has so many keys that its table would need more than 2^32 slots: 5 * 2^29 keys, or 2^27 keys if searches
-    /// get long.
+    /// The index of a key, which is appended if it is new. Fails if out of memory, or if the table would need more than
+    /// 2^32 slots: with 5 * 2^29 keys, or 2^27 if searches get long.
     #[inline(always)]
     pub fn place_of(&mut self, key: K) -> Result<usize, AllocError>
         ensures { PlacesKey K.eq self.old self.new key result }

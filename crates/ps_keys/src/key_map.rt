@@ -1,4 +1,4 @@
-//! A map from keys to values that finds a key by its hash.
+//! Maps of keys.
 
 ghost use Rattle.std.specs.Prelude.{◌≡◌, [], OnErr, OnOk};
 ghost use Rattle.ps_keys.specs.Keys.{GivesValue, value_for};
@@ -8,11 +8,10 @@ use crate::key_list::KeyList;
 use std::alloc::{AllocError, Global};
 use std::marker::Model;
 
-/// A map from keys to values, which finds a key by its hash.
+/// A map in which a key is found by its hash.
 #[derive(Drop)]
 pub struct KeyMap<K: Hashed, V: Copy> {
     keys: KeyList<K>,
-    /// The value of each key.
     values: Vec<V>,
 }
 
@@ -28,7 +27,7 @@ impl<K: Hashed, V: Copy> Model for KeyMap<K, V> {
 }
 
 impl<K: Hashed + Drop, V: Copy + Drop> KeyMap<K, V> {
-    /// A map without keys.
+    /// No keys.
     pub fn new(alloc: Global) -> Self
         ensures { result.keys ≡ [] }
     {
@@ -49,7 +48,7 @@ impl<K: Hashed + Drop, V: Copy + Drop> KeyMap<K, V> {
         }
     }
 
-    /// Gives a value to a key, unless the key has one already. Fails if out of memory.
+    /// Gives a value to a key that has none. Fails if out of memory.
     pub fn put(&mut self, key: K, value: V) -> Result<(), AllocError>
         ensures put { OnOk result (GivesValue K.eq self.old key value self.new) }
         ensures err { OnErr result (self.new ≡ self.old) }

@@ -1,4 +1,4 @@
-//! A table of the keys of a list, by which the index of a key in the list is found.
+//! Finds keys by their hashes.
 
 ghost use Rattle.std.specs.Prelude.{◌≡◌, ℕ, ◌+◌, ◌*◌, ◌^◌, ◌<◌, ◌≤◌, [], false, true, IfOk, IfSome, MatchOption, OnOk};
 ghost use Rattle.std.specs.Prelude.{IsSome, length, slice_index_or};
@@ -9,57 +9,50 @@ ghost use Rattle.ps_keys.specs.Inner.Tables.{HasKeys, HasRoom, IsFree, IsSought}
 use crate::hashed::{Hashed, MULTIPLIER};
 use std::alloc::{AllocError, Global};
 
-/// The number of slots that a table gets with its first key.
+/// The number of slots for the first key.
 const FEWEST: usize = 32;
 
-/// The most slots that a table may have. A table that would need more is refused as if out of memory.
+/// The most slots; more are refused as if out of memory.
 const MOST: usize = 1 << 32;
 
-/// If a search for a new key passes more slots than this, the table gets a new seed and twice as many slots, unless it
-/// has at least `SPARSE` times as many slots as keys.
+/// If a search for a new key passes more slots than this, the table grows and gets a new seed, unless it has at least
+/// `SPARSE` slots for each key.
 const LONG: usize = 256;
 
-/// See `LONG`.
 const SPARSE: usize = 32;
 
-/// What a search for a key finds.
 #[derive(Clone, Copy)]
 pub(crate) enum Sought {
-    /// The index of an equal key in the list.
+    /// The index of an equal key.
     Found(usize),
-    /// No equal key. If the search ended at an empty slot, this slot is given.
+    /// No equal key; the empty slot at which the search ended, if it did.
     Missing(Option<Free>),
 }
 
-/// An empty slot, for the key that was sought when a search ended at this slot.
+/// An empty slot.
 #[derive(Clone, Copy)]
 pub(crate) struct Free {
-    /// The hash of the key.
+    /// The hash of the key that was sought.
     pub hash: u64,
-    /// The index of the slot.
     pub slot: usize,
-    /// The number of slots that the search passed.
+    /// How many slots the search passed.
     pub passed: usize,
 }
 
-/// A table of the keys of a list, by open addressing with linear probing. The number of slots is a power of two, and at
-/// most five eighths of the slots are used. The low bits of a key's hash give its home, the slot at which a search for
-/// the key begins. From there, the search goes from each slot to the next, and from the last slot to the first, until
-/// it finds the key or an empty slot, or has passed as many slots as it must for any key.
+/// Finds the keys of a list, by open addressing with linear probing. The number of slots is a power of two, at most
+/// five eighths of them used. A search begins where the low bits of the hash say, and goes round.
 ///
-/// A slot holds 0 if it is empty. Otherwise it holds the index of a key, counted from 1, and in the bits above it the
-/// key's tag, which is a part of the hash. So a search seldom reads a key that it does not seek.
+/// A slot holds 0 if it is empty, else the index of a key, from 1, and in the bits above it the key's tag, a part of
+/// the hash, so that a search seldom reads another key.
 #[derive(Debug, Drop)]
 pub(crate) struct Table {
     slots: Vec<u32>,
-    /// A search for any key of the table passes fewer slots than this.
+    /// A search for any key of the table passes fewer slots.
     reach: usize,
-    /// The seed of the hash.
     seed: u64,
 }
 
 impl Table {
-    /// A table without slots, for a list without keys.
     pub(crate) fn new(alloc: Global) -> Self
         ensures slots { result.slots.items ≡ [] }
         ensures reach { result.reach ≡ 0 }
@@ -71,7 +64,6 @@ impl Table {
         }
     }
 
-    /// The same table.
     pub(crate) fn copy(&self) -> Result<Self, AllocError>
         ensures slots { IfOk result (λ table. table.slots.items ≡ self.now.slots.items) }
         ensures reach { IfOk result (λ table. table.reach ≡ self.now.reach) }
@@ -85,7 +77,6 @@ impl Table {
         })
     }
 
-    /// Searches for a key in the list.
     #[inline(always)]
     pub(crate) fn find<K: Hashed>(&self, list: &[K], key: K) -> Sought
         requires { HasKeys K.hash list.now (length list.now) self.now }
@@ -112,7 +103,7 @@ impl Table {
         Sought::Missing(None)
     }
 
-    /// The empty slot to which a search for a key with this hash comes, if there is one.
+    /// The first empty slot for this hash.
     #[inline(always)]
     fn free_slot(&self, hash: u64) -> Option<Free>
         ensures some { HasEmpty self.now.slots.items → IsSome result }
@@ -131,7 +122,7 @@ impl Table {
         None
     }
 
-    /// Puts a key of the list into an empty slot; the table has all keys before it.
+    /// Puts a key into an empty slot; the table has all keys before it.
     #[inline(always)]
     pub(crate) fn fill<K: Hashed>(&mut self, list: &[K], place: usize, key: K, free: Free)
         requires keys { HasKeys K.hash list.now place self.old }
@@ -147,8 +138,7 @@ impl Table {
         self.reach = self.reach.max(free.passed + 1);
     }
 
-    /// Makes room for a key that the list lacks, and returns an empty slot for it: the given one, if the table can take
-    /// the key there.
+    /// An empty slot for a key that the list lacks: the given one, if it may be used.
     #[inline(always)]
     pub(crate) fn make_room<K: Hashed>(
         &mut self,
@@ -168,8 +158,8 @@ impl Table {
         }
     }
 
-    /// Whether the table can take a new key, behind `passed` slots, in addition to `count` keys: at most five eighths
-    /// of its slots are then used, and no search is too long (see `LONG`).
+    /// Whether a new key may be put behind `passed` slots: at most five eighths are then used, and no search is too
+    /// long.
     #[inline(always)]
     fn takes(&self, count: usize, passed: usize) -> bool
         ensures { OnTrue result (HasRoom (count + 1) (length self.now.slots.items)) }
@@ -178,8 +168,7 @@ impl Table {
         count < size / 8 * 5 && (passed <= LONG || count <= size / SPARSE)
     }
 
-    /// Finds an empty slot for a key that the list lacks. If the table cannot take the key there, the number of slots
-    /// is doubled.
+    /// Finds an empty slot for a key that the list lacks, and grows if need be.
     #[inline(never)]
     fn seek_room<K: Hashed>(&mut self, list: &[K], key: K) -> Result<Free, AllocError>
         requires { HasKeys K.hash list.now (length list.now) self.old }
@@ -196,8 +185,7 @@ impl Table {
         Ok(self.free_slot(key.hash(self.seed)).unwrap())
     }
 
-    /// Doubles the number of slots, and changes the seed. Fails if out of memory, and, as if out of memory, if there
-    /// would be more than `MOST` slots.
+    /// Doubles the number of slots, with a new seed. Fails if out of memory, or beyond `MOST` slots.
     fn grow<K: Hashed>(&mut self, list: &[K]) -> Result<(), AllocError>
         requires { HasKeys K.hash list.now (length list.now) self.old }
         ensures keys { HasKeys K.hash list.now (length list.now) self.new }
@@ -224,7 +212,6 @@ impl Table {
     }
 }
 
-/// The tag of a hash in a table with so many slots.
 #[inline(always)]
 fn tag_of(hash: u64, size: usize) -> u32
     requires some { 0 < size }
@@ -235,7 +222,7 @@ fn tag_of(hash: u64, size: usize) -> u32
     (hash >> 32) as u32 & (u32::MAX - (size - 1) as u32)
 }
 
-/// The index of the slot that a search for a hash visits after it has passed so many slots.
+/// The slot that a search visits after `passed` others.
 #[inline(always)]
 fn nth_slot(hash: u64, passed: usize, size: usize) -> usize
     requires { 0 < size }
@@ -245,7 +232,7 @@ fn nth_slot(hash: u64, passed: usize, size: usize) -> usize
     (hash as usize).wrapping_add(passed) & (size - 1)
 }
 
-/// The index of a key in the list, if a slot has the entry of an equal key with this tag.
+/// The key's index, if the slot's entry is of an equal key.
 #[inline(always)]
 fn place_in<K: Hashed>(entry: u32, tag: u32, list: &[K], key: K) -> Option<usize>
     ensures { MatchOption result

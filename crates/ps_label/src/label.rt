@@ -1,4 +1,4 @@
-//! Labels: Boolean expressions over propositions and aliases.
+//! Labels.
 
 ghost use Rattle.std.specs.Prelude.{◌≡◌, All, IfOk};
 ghost use Rattle.ps_label.specs.Expression.{IsPlainLabel, expression, literal_expression, literal_expressions, not_of};
@@ -10,21 +10,21 @@ use std::alloc::{AllocError, Global};
 /// A Boolean expression over propositions, such as the label of an edge.
 #[derive(Debug, Drop)]
 pub enum Label {
-    /// True at every letter, or false at every letter.
+    /// True at every letter, or at none.
     Truth(bool),
-    /// The proposition with the given number. Propositions are numbered from 0.
+    /// The proposition with this number, from 0.
     Atom(u32),
-    /// True if the proposition with the given number is false.
+    /// The negation of the proposition with this number.
     Negated(u32),
-    /// The alias with the given number. Aliases are numbered from 0 in the order of their definitions.
+    /// The alias with this number, from 0 in the order of definitions.
     Named(usize),
-    /// True if all literals are true, and also if there are no literals.
+    /// True if all literals are, also if there are none.
     Literals(Literals),
     /// True if the operand is false.
     Neg(Box<Label>),
-    /// True if all operands are true, and also if there are no operands.
+    /// True if all operands are, also if there are none.
     Both(Vec<Label>),
-    /// True if at least one operand is true, and false if there are no operands.
+    /// True if at least one operand is.
     Either(Vec<Label>),
 }
 
@@ -32,7 +32,7 @@ impl Label {
     ghost use Rattle.std.specs.Prelude.{◌↔◌, IfSome, IsSome};
     ghost use Rattle.ps_label.specs.Expression.{IsLiteral};
 
-    /// The label that is true exactly if a literal is true.
+    /// The label of a literal.
     pub fn of_literal(literal: Literal) -> Label
         ensures literal { IsLiteral result }
         ensures same { expression result ≡ literal_expression literal }
@@ -44,7 +44,7 @@ impl Label {
         }
     }
 
-    /// The literal that the label is; `None` unless the label is `Atom` or `Negated` of a proposition less than 64.
+    /// The literal that the label is, if it is `Atom` or `Negated` of a proposition less than 64.
     pub fn as_literal(&self) -> Option<Literal>
         ensures some { IsSome result ↔ IsLiteral self.now }
         ensures same { IfSome result (λ literal. expression self.now ≡ literal_expression literal) }
@@ -61,12 +61,8 @@ impl Label {
         }
     }
 
-    /// The same expression, written by the forms `Truth`, `Atom`, `Named`, `Neg`, `Both` and `Either` alone. The other
-    /// two forms are there for speed: `Negated` stands for `Neg` of `Atom`, and `Literals` for `Both` of literals.
-    ///
-    /// # Errors
-    ///
-    /// Fails if out of memory.
+    /// The same expression without `Negated` and `Literals`, which for speed stand for `Neg` of `Atom`, and for `Both`
+    /// of literals. Fails if out of memory.
     #[cycle(plain)]
     pub fn plain(&self, alloc: Global) -> Result<Label, AllocError>
         ensures same { IfOk result (λ label. expression label ≡ expression self.now) }
@@ -88,7 +84,6 @@ impl Label {
     }
 }
 
-/// The negation of a label.
 fn negation(alloc: Global, label: Label) -> Result<Label, AllocError>
     ensures same { IfOk result (λ made. expression made ≡ not_of (expression label)) }
     ensures plain { IfOk result (λ made. IsPlainLabel label → IsPlainLabel made) }
@@ -96,7 +91,6 @@ fn negation(alloc: Global, label: Label) -> Result<Label, AllocError>
     Ok(Label::Neg(Box::new(alloc, label)?))
 }
 
-/// Each of the labels, as `plain` writes it.
 #[cycle(plain)]
 fn each_plain(alloc: Global, labels: &[Label]) -> Result<Vec<Label>, AllocError>
     ensures same { IfOk result (λ made. expressions made.items ≡ expressions labels.now) }
@@ -109,7 +103,6 @@ fn each_plain(alloc: Global, labels: &[Label]) -> Result<Vec<Label>, AllocError>
     Ok(made)
 }
 
-/// The labels of literals, as `plain` writes them.
 fn plain_literals(alloc: Global, literals: &[Literal]) -> Result<Vec<Label>, AllocError>
     ensures same { IfOk result (λ made. expressions made.items ≡ literal_expressions literals.now) }
     ensures plain { IfOk result (λ made. All IsPlainLabel made.items) }
@@ -121,7 +114,6 @@ fn plain_literals(alloc: Global, literals: &[Literal]) -> Result<Vec<Label>, All
     Ok(made)
 }
 
-/// The label of a literal, as `plain` writes it.
 fn plain_literal(alloc: Global, literal: Literal) -> Result<Label, AllocError>
     ensures same { IfOk result (λ made. expression made ≡ literal_expression literal) }
     ensures plain { IfOk result IsPlainLabel }

@@ -1,4 +1,4 @@
-//! The aliases of a text, and the truth of a label at a letter.
+//! Aliases, and the truth of labels.
 
 ghost use Rattle.std.specs.Prelude.{◌≡◌, ℕ, ◌+◌, ◌^◌, ◌<◌, ◌++◌, ◌∷◌, [], List, Bool, IfOk, OnErr, OnOk, length};
 ghost use Rattle.ps_label.specs.Expression.{Expression, expression, IsOver, AreOrdered, operands_in};
@@ -10,8 +10,7 @@ use crate::literal::Literal;
 use std::alloc::{AllocError, Global};
 use std::marker::Model;
 
-/// The aliases of a text in the order of their definitions. Each alias uses only earlier aliases and propositions less
-/// than 64.
+/// The aliases of a text in the order of their definitions, each over earlier ones and propositions less than 64.
 #[derive(Debug, Drop)]
 pub struct Labels {
     aliases: Vec<Label>,
@@ -35,7 +34,7 @@ impl Model for Labels {
 }
 
 impl Labels {
-    /// An empty list of aliases.
+    /// No aliases.
     pub fn new(alloc: Global) -> Self
         ensures { result ≡ [] }
     {
@@ -62,8 +61,7 @@ impl Labels {
         self.aliases.as_slice()
     }
 
-    /// The truth of a label at a letter. Each alias is evaluated once; its truth is then in `scratch`, which must have
-    /// one entry for each alias.
+    /// The truth of a label at a letter. Each alias is evaluated once; its truth is then in `scratch`.
     pub fn eval(&self, label: &Label, letter: u64, scratch: &mut [bool]) -> bool
         requires room { length scratch.old ≡ length self.now }
         requires within { IsOver (length self.now) 64 (expression label.now) }
@@ -77,9 +75,8 @@ impl Labels {
     }
 }
 
-/// If each alias uses only earlier aliases, there is exactly one table of their truths at a letter: each entry is the
-/// truth of the alias's expression, computed with the same table. The truth of each label at the letter is the truth
-/// that is computed with the table.
+/// If each alias uses only earlier ones, there is exactly one table of their truths at a letter in which each has the
+/// truth of its expression, computed with the same table. It gives the truth of each label.
 pub fn one_table_of_truths()
     ensures table { (aliases : List Expression) (letter : ℕ) → AreOrdered aliases →
         AreTruths aliases letter (alias_truths aliases letter) }
@@ -89,7 +86,6 @@ pub fn one_table_of_truths()
         AreTruths aliases letter known → label_truth aliases letter e ≡ truth known letter e }
 {}
 
-/// The truth of a label at a letter, given the truth of each alias in the list `known`.
 fn truth_by(label: &Label, letter: u64, known: &[bool]) -> bool
     requires { IsOver (length known.now) 64 (expression label.now) }
     ensures { result ≡ truth known.now letter (expression label.now) }
@@ -120,7 +116,6 @@ fn truth_by(label: &Label, letter: u64, known: &[bool]) -> bool
     }
 }
 
-/// Whether all literals are true at a letter.
 fn are_true(literals: &[Literal], letter: u64) -> bool
     ensures { (known : List Bool) →
         result ≡ all_true known letter (operands_in (literal_expressions literals.now)) }
@@ -133,7 +128,6 @@ fn are_true(literals: &[Literal], letter: u64) -> bool
     true
 }
 
-/// Whether a literal is true at a letter.
 fn is_true(literal: Literal, letter: u64) -> bool
     ensures { (known : List Bool) → result ≡ truth known letter (literal_expression literal) }
 {

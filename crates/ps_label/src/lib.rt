@@ -1,16 +1,16 @@
 //! The labels of an automaton's edges, which are Boolean expressions over propositions and aliases, and their truth at
 //! a letter.
 //!
-//! Labels are the label expressions of HOA v1, and the aliases are those that `Alias:` defines in the header of a file.
-//! A letter is a number whose bit p is the truth of proposition p, so there are at most 64 propositions.
+//! Labels are the label expressions of HOA v1, and aliases are what `Alias:` defines. A letter is a 64-bit number whose
+//! bit p is the truth of proposition p, so there are at most 64 propositions.
 //!
 //! | Call | What it gives |
 //! |---|---|
 //! | `Labels::new`, `push`, `as_slice` | the aliases of a text, each defined over earlier aliases |
 //! | `Label::as_literal`, `of_literal` | the literal that a label is, and the label of a literal |
-//! | `Label::plain` | the same expression without the two forms `Negated` and `Literals` |
+//! | `Label::plain` | the same label without `Negated` and `Literals`, which are short for others |
 //! | `Literals::new`, `of`, `push`, `is_full`, `as_slice` | a list of at most 23 literals |
-//! | `Labels::eval(label, letter, scratch)` | exactly whether the label is true at the letter; allocates no memory |
+//! | `Labels::eval(label, letter, scratch)` | the label's truth at the letter; `scratch` takes that of each alias |
 //! | `labels::one_table_of_truths` | a law: in exactly one table each alias has the truth of its own expression |
 #![tactic(auto)]
 

@@ -5,11 +5,11 @@ ghost use Rattle.std.specs.Prelude.{◌≡◌, ◌/◌, ◌%◌, ◌<◌, ◌≤
 use std::fmt;
 use std::marker::Model;
 
-/// The greatest number of literals in a `Literals`. With this number, a `Literals` is as large as a `Vec`.
+/// The most literals in a `Literals`, which is then as large as a `Vec`.
 pub const MOST: usize = 23;
 
-/// A proposition less than 64, or its negation. In contracts, a literal is its number in the AIGER format: twice the
-/// proposition, plus 1 if the proposition is negated.
+/// A proposition less than 64, or its negation. In contracts, its number in AIGER: twice the proposition, plus 1 if
+/// negated.
 #[derive(Clone, Copy)]
 pub struct Literal {
     code: u8,
@@ -31,7 +31,7 @@ impl Model for Literal {
 }
 
 impl Literal {
-    /// The proposition, negated if `negated` is true.
+    /// The proposition, or its negation.
     pub fn new(proposition: u32, negated: bool) -> Self
         requires { proposition < 64 }
         ensures proposition { result / 2 ≡ proposition }
@@ -57,7 +57,6 @@ impl Literal {
     }
 }
 
-/// The number of the proposition, behind `!` if the proposition is negated.
 impl fmt::Debug for Literal {
     fn fmt<W: fmt::Write>(&self, f: &mut fmt::Formatter<W>) -> fmt::Result {
         let sign = if self.is_negated() { "!" } else { "" };
@@ -66,7 +65,7 @@ impl fmt::Debug for Literal {
     }
 }
 
-/// A list of at most 23 literals. The list uses no memory outside this value.
+/// A list of at most 23 literals, which uses no memory outside this value.
 #[derive(Drop)]
 pub struct Literals {
     count: u8,
@@ -98,7 +97,7 @@ impl Literals {
         }
     }
 
-    /// Only the given literal.
+    /// The given literal alone.
     pub fn of(literal: Literal) -> Self
         ensures { result ≡ literal ∷ [] }
     {
@@ -133,7 +132,6 @@ impl Literals {
     }
 }
 
-/// The literals in their order.
 impl fmt::Debug for Literals {
     fn fmt<W: fmt::Write>(&self, f: &mut fmt::Formatter<W>) -> fmt::Result {
         let literals = self.as_slice();

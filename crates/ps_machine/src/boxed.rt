@@ -6,7 +6,7 @@ use ps_certificate::Certificate;
 use ps_game::NamedGame;
 use std::alloc::AllocError;
 
-/// A boxed solver is itself a solver, so a function that takes any solver also takes a `Box` of one.
+/// Whoever takes any solver also takes a `Box` of one.
 impl Solver for Box<dyn Solver> {
     ghost known = { λ b. (Solver-box b).known b.value };
 

@@ -14,42 +14,36 @@ use ps_referee::{JudgeFault, certificate_of_solution, judge};
 use ps_zielonka::{regions, regions_within};
 use std::alloc::{AllocError, Global};
 
-/// The number of rounds in which the solver's work is limited. The rounds with limits are followed by one round without
-/// a limit.
+/// The number of rounds with limits.
 const ROUNDS: u64 = 8;
 
-/// The factor by which the limits on the solver's work grow from round to round.
+/// How the limits grow from round to round.
 const GROWTH: u64 = 64;
 
-/// How many times the solver's recursion may assign a vertex to a player in the first round, for each vertex of the
-/// game. In practical games, the recursion assigns each vertex to a player about ten times on average.
+/// For each vertex of the game, how many times the recursion may place vertices (decide or attract them) in the first
+/// round. In practical games about ten suffice.
 const PLACED_EACH: u64 = 256;
 
-/// How many more times the recursion may assign a vertex to a player in the first round, in addition to `PLACED_EACH`
-/// times for each vertex of the game.
+/// How many more times it may do so.
 const PLACED_BESIDE: u64 = 1024;
 
-/// The priorities of a game are few if each of them is less than this number. On a game with few priorities the
-/// recursion does not take exponential time, but the number of its assignments may grow with the square of the number
-/// n of vertices, so its limit in the first round is at least n * n / 2.
+/// The priorities of a game are few if each is less than this. The recursion then takes no exponential time, but it may
+/// grow faster than the number n of vertices, so its limit in the first round is at least n * n / 2.
 const FEW_PRIORITIES: u64 = 4;
 
-/// For each assignment that `PLACED_EACH` and `PLACED_BESIDE` allow the recursion in the first round, an attempt at
-/// strategy improvement may read or write this many array cells.
+/// For each of these times, how many array cells an attempt at strategy improvement may read or write.
 const CELLS_EACH: u64 = 64;
 
-/// The limits, in one round, for the recursion and for the attempt at strategy improvement.
+/// The limits of one round.
 #[derive(Drop)]
 struct Budget {
-    /// The number of times that the recursion may assign a vertex to a player.
+    /// How many times the recursion may place a vertex.
     placed: u64,
-    /// The number of array cells that an attempt at strategy improvement may read or write. An attempt that fails
-    /// without reaching this limit sets it to 0, and no other attempt follows.
+    /// How many array cells an attempt may use. One that fails otherwise sets this to 0; then no other follows.
     cells: u64,
 }
 
 impl Budget {
-    /// The limits on the work of the built-in solver in its first round.
     fn first<A: Arena>(arena: &A) -> Budget {
         let count = arena.count() as u64;
         let linear = count
@@ -66,14 +60,12 @@ impl Budget {
         }
     }
 
-    /// The limits of the next round.
     fn grow(&mut self) {
         self.placed = self.placed.saturating_mul(GROWTH);
         self.cells = self.cells.saturating_mul(GROWTH);
     }
 }
 
-/// Whether each priority of a game is less than `FEW_PRIORITIES`.
 fn has_few_priorities<A: Arena>(arena: &A) -> bool {
     for vertex in 0..arena.count() {
         if arena.priority(vertex) >= FEW_PRIORITIES {
@@ -83,17 +75,15 @@ fn has_few_priorities<A: Arena>(arena: &A) -> bool {
     true
 }
 
-/// psyn's own solver. The solver computes the regions and the moves of both players. The solver then computes the
-/// certificate's counts, which prove that the moves win: the least counts that are valid for these moves. The solver is
-/// sure (each of its certificates is valid, and it fails only if memory runs out), and ignores every text that it is
-/// fed.
+/// psyn's own solver: regions and moves of both players, and the least counts that are valid for these moves. It is
+/// sure (its certificates are valid, and it fails only if memory runs out), and ignores every text that it is fed.
 #[derive(Drop)]
 pub struct BuiltIn {
     alloc: Global,
 }
 
 impl BuiltIn {
-    /// Creates the solver, which is sure: each of its certificates is valid, and it fails only if memory runs out.
+    /// Creates the solver.
     pub fn new(alloc: Global) -> Self
         ensures sure { (⟦<BuiltIn as Solver>⟧.known result).is_sure ≡ true }
         ensures fed { (⟦<BuiltIn as Solver>⟧.known result).fed ≡ None }
@@ -121,7 +111,7 @@ impl Solver for BuiltIn {
     }
 }
 
-/// The certificate of a game, computed on flat arrays whose numbers have the width `W`.
+/// The certificate of a game, on flat arrays whose numbers have the width `W`.
 fn certificate_in<W: Width>(alloc: Global, game: &Game) -> Result<Certificate, SolveFault>
     requires { FitsWithin game.now W.LIMIT }
     ensures { Finds result (IsLeastCertificate game.now) }
@@ -130,11 +120,9 @@ fn certificate_in<W: Width>(alloc: Global, game: &Game) -> Result<Certificate, S
     certificate_of(alloc, &flat)
 }
 
-/// The certificate of a game. In each round, the number of times that the recursion may assign a vertex to a player is
-/// limited; practical games stay within the first limit. When the recursion reaches its limit, an attempt at strategy
-/// improvement follows, unless an earlier attempt failed for a reason that a higher limit would not remove. Nothing
-/// guarantees that an attempt's result is right, so it is checked. Both limits grow from round to round, and the last
-/// round has no limit.
+/// The certificate of a game. In each round, first the recursion is limited; practical games stay within the first
+/// limit. Then comes an attempt, unless a higher limit would not have helped an earlier one. Its result may be wrong,
+/// so it is checked. The last round has no limit.
 fn certificate_of<A: Arena>(alloc: Global, arena: &A) -> Result<Certificate, SolveFault>
     ensures { Finds result (IsLeastCertificate (A.game arena.now)) }
 {
@@ -148,8 +136,7 @@ fn certificate_of<A: Arena>(alloc: Global, arena: &A) -> Result<Certificate, Sol
     certificate_without_bound(alloc, arena)
 }
 
-/// The certificate of a game, or None if neither the recursion nor the attempt at strategy improvement finds one within
-/// the round's limits.
+/// The certificate that a round finds, or None.
 fn certificate_within<A: Arena>(
     alloc: Global,
     arena: &A,
@@ -180,9 +167,8 @@ fn solved_within<A: Arena>(
     Ok(Some(certificate))
 }
 
-/// The certificate that an attempt at strategy improvement finds, or None if the limit on array cells does not suffice,
-/// the game is too large for an attempt, or the result is wrong. In the last two cases a higher limit on array cells
-/// would not help, so the limit becomes 0.
+/// The certificate that an attempt finds, or None if its limit does not suffice, the game is too large, or the result
+/// is wrong. In these last cases the limit becomes 0.
 fn attempted<A: Arena>(
     alloc: Global,
     arena: &A,
@@ -203,9 +189,7 @@ fn attempted<A: Arena>(
     }
 }
 
-/// The certificate for two regions, into which the vertices are divided, and for two tables of moves, one for each
-/// player. The regions and the moves may be wrong. If each player, moving by that player's table, wins from every
-/// vertex of that player's region, the result is a certificate; otherwise it is None.
+/// The certificate for two regions and two tables of moves, or None if a player does not win its region by its table.
 fn tried<A: Arena>(
     alloc: Global,
     arena: &A,
@@ -231,7 +215,7 @@ fn tried<A: Arena>(
     }
 }
 
-/// The certificate that the recursion finds for a game, however long the recursion takes.
+/// The certificate that the recursion finds.
 fn certificate_without_bound<A: Arena>(alloc: Global, arena: &A) -> Result<Certificate, SolveFault>
     ensures { Finds result (IsLeastCertificate (A.game arena.now)) }
 {

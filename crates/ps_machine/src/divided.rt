@@ -1,4 +1,4 @@
-//! The classes of letters for the states of an automaton.
+//! The classes of letters.
 
 ghost use Rattle.std.specs.Prelude.{◌≡◌, ◌<◌, ℕ, IfOk, IsSome, None, Some, nat_eq};
 ghost use Rattle.indexmap.specs.IndexMap.{get};
@@ -11,26 +11,24 @@ use std::alloc::{AllocError, Global};
 /// What is known of the classes of the first player's letters.
 #[derive(Drop)]
 pub enum Division {
-    /// The letters of both players, each of whom has few. The classes are found by trying each letter.
+    /// Each player has few letters, which are tried one by one.
     ByLetters(FewLetters),
-    /// The classes of letters for the states.
+    /// The classes at the states.
     ByClasses(Divided),
 }
 
-/// For each state whose classes were computed, the classes of the first player's letters. Letters of one class lead
-/// from this state to the same steps.
+/// The classes of the first player's letters at some states: those of one class lead to the same steps.
 #[derive(Drop)]
 pub struct Divided {
-    /// The store of the classes' diagrams, which also has the diagrams of the automaton's steps.
+    /// The store of the classes' diagrams, which also has those of the automaton's steps.
     pub store: Store,
-    /// For each state whose letters have been divided into classes, the list of the classes.
+    /// The classes of each state where they were computed.
     pub classes: IndexMap<u32, Classes>,
 }
 
 impl Divided {
-    /// Creates a value in which no state has classes yet. Its store begins as a copy of the given store, which has the
-    /// diagrams of the automaton's steps. So what remains of such a diagram after a letter is mostly a node that the
-    /// copy has already. Fails if out of memory.
+    /// No classes. The store begins as a copy of the automaton's, so that what remains of its diagrams after a letter
+    /// is mostly there already.
     pub(crate) fn new(alloc: Global, store: &Store) -> Result<Self, AllocError>
         ensures store { IfOk result (λ made. made.store ≡ store.now) }
         ensures none { IfOk result (λ made. (q : ℕ) → get nat_eq made.classes q ≡ None) }

@@ -1,5 +1,4 @@
-//! Makes the diagrams of a machine. Each memory state has a diagram that leads each letter of the other player to a
-//! row: a letter to output, and a next memory state.
+//! Makes the diagrams of a machine.
 
 ghost use Rattle.std.specs.Prelude.{◌≡◌, ◌≢◌, ◌↔◌, ℕ, ◌<◌, true, Any, IsTrue, OnOk, Some, length, slice_get};
 ghost use Rattle.std.specs.Prelude.{slice_index};
@@ -29,21 +28,15 @@ use ps_diagram::{Class, Node, Store};
 use ps_game::{Arena, Game};
 use std::alloc::{AllocError, Global};
 
-/// The data from which a machine is made. The certificate has the moves of the machine's player in the automaton's game.
-/// The keys state what the game's vertices stand for. The automaton gives the steps from each state. The field
-/// `memories` lists the game's vertices for which the machine has memory states. The data of a `Plan` do not change
-/// while the machine's diagrams are made.
+/// What a machine is made from.
 #[derive(Drop)]
 pub(crate) struct Plan<'a> {
-    /// Who moves first.
     pub order: Order,
-    /// The automaton.
     pub automaton: &'a Automaton,
     /// The automaton's game.
     pub game: &'a Game,
-    /// The key of each vertex of the game, which states what the vertex stands for.
+    /// What each vertex stands for.
     pub keys: &'a [Key],
-    /// The certificate of the game: the winner of each vertex, and the winners' moves.
     pub certificate: &'a Certificate,
     /// Whether the winner of vertex 0 moves first.
     pub moves_first: bool,
@@ -51,21 +44,19 @@ pub(crate) struct Plan<'a> {
     pub memories: &'a Memories,
 }
 
-/// The machine's diagrams and rows so far. The function `node` adds the diagram of one memory state, and the rows to
-/// which this diagram leads.
+/// The machine's diagrams and rows so far.
 #[derive(Drop)]
 pub(crate) struct Drawing {
-    /// The store of the diagrams.
     pub store: Store,
-    /// The rows of the machine's table. Each leaf of the machine's diagrams is the index of a row of this table.
+    /// The rows, whose indices are the leaves of the machine's diagrams.
     pub rows: IndexSet<Row>,
-    /// Each leaf of the automaton's diagrams is the index of a step. For each leaf, `places` has the index of the
-    /// machine's row for the leaf's step. Only entries that the last call of `place_rows` has set are valid.
+    /// For each leaf of the automaton's diagrams, which stands for a step, the index of the machine's row. Only what
+    /// the last `place_rows` has set is valid.
     pub places: Vec<u64>,
 }
 
 impl Plan<'_> {
-    /// The memory state of the machine after a step of the automaton, given the vertex that stands for the step.
+    /// The memory state after a step, given the vertex that stands for it.
     pub fn memory_at(&self, vertex: usize, step: Step) -> usize
         requires enters { CanEnterBy self.now step.state step.priority }
         requires at { StandsAt self.now.keys.now vertex (First step.state step.priority) }
@@ -77,8 +68,7 @@ impl Plan<'_> {
         self.memories.anchors.get_index_of(&anchor).unwrap()
     }
 
-    /// The memory state of the machine after a step that the automaton can make from a vertex. The successor at the
-    /// index `number` is tried first.
+    /// The memory state after a step from a vertex, whose successor at the index `number` is tried first.
     pub fn memory_behind(&self, vertex: usize, number: usize, step: Step) -> usize
         requires enters { CanEnterBy self.now step.state step.priority }
         requires leads { LeadsBy self.now vertex (First step.state step.priority) }
@@ -94,8 +84,8 @@ impl Plan<'_> {
         self.memory_at(next, step)
     }
 
-    /// The successor of a vertex that stands for the given key. The successor at the index `number` is tried first, so
-    /// that a caller who goes through all successors in order finds each of them at once.
+    /// The successor of a vertex that stands for the key. The one at the index `number` is tried first, so that a
+    /// caller who goes through all in order finds each at once.
     pub fn successor(&self, vertex: usize, number: usize, key: Key) -> usize
         requires game { IsGameOf (board_by self.now) (mover_of self.now.order) self.now.keys.now self.now.game.now }
         requires leads { LeadsBy self.now vertex key }
@@ -112,7 +102,6 @@ impl Plan<'_> {
         unreachable!()
     }
 
-    /// Whether the successor at the index `number` of a vertex stands for the given key.
     fn leads(&self, vertex: usize, number: usize, key: Key) -> bool
         requires game { IsGameOf (board_by self.now) (mover_of self.now.order) self.now.keys.now self.now.game.now }
         requires vertex { vertex < vertex_count self.now.game.now }
@@ -123,8 +112,8 @@ impl Plan<'_> {
         self.keys[self.game.successor(vertex, number)] == key
     }
 
-    /// The move that a player who moves first makes at the vertex of a memory state: the vertex to which the move leads,
-    /// and the letter that the player outputs, which is the least letter of that vertex's class.
+    /// The move of a player who moves first, at the vertex of a memory state: the vertex to which it leads, and the
+    /// output, the least letter of that vertex's class.
     pub fn move_at(&self, vertex: usize) -> (usize, u64)
         requires plan { IsPlanned self.now }
         requires kept { Contains self.now.memories.now.kept.items vertex }
@@ -142,7 +131,7 @@ impl Plan<'_> {
 }
 
 impl Drawing {
-    /// Makes the diagram of the memory state that a vertex has. Fails if out of memory.
+    /// Makes the diagram of the memory state that a vertex has.
     pub fn node(
         &mut self,
         alloc: Global,
@@ -163,9 +152,8 @@ impl Drawing {
         }
     }
 
-    /// Makes the diagram of a memory state for a player who moves first. The player's move leads to a class of letters.
-    /// The result is the diagram of the steps that can follow this class, with the index of a row of the machine's
-    /// table in place of each step.
+    /// Makes the diagram of a memory state for a player who moves first. Its move leads to a class of letters; the
+    /// result is the diagram of the steps after it, with indices of rows in place of steps.
     fn first_node(
         &mut self,
         plan: &Plan<'_>,
@@ -183,9 +171,8 @@ impl Drawing {
         self.store.relabel_from(&divided.store, rest, &self.places)
     }
 
-    /// Each of the given leaves of the automaton's diagrams needs a row: the output `letter`, and the memory state
-    /// after the leaf's step from the vertex `chosen`. Adds the rows that the machine's table lacks, and records the
-    /// index of each leaf's row.
+    /// Adds a row for each leaf that needs one: the output `letter`, and the memory state after the leaf's step from
+    /// the vertex `chosen`. Records each leaf's row.
     fn place_rows(
         &mut self,
         plan: &Plan<'_>,
@@ -212,7 +199,7 @@ impl Drawing {
     }
 }
 
-/// The diagram of the steps that can follow the given letter, which is the least letter of a class.
+/// The diagram of the steps after a letter, the least of its class.
 fn rest_of(classes: &[Class], letter: u64) -> Node
     requires { Any (λ class. class.letter ≡ letter) classes.now }
     ensures { Any (λ class. (class.letter ≡ letter) × (class.rest ≡ result)) classes.now }
@@ -223,8 +210,7 @@ fn rest_of(classes: &[Class], letter: u64) -> Node
     }
 }
 
-/// Records the index of the machine's row for a leaf of the automaton's diagrams. If the list of indices is too short
-/// to have an entry for the leaf, it is first extended with zeros.
+/// Records the index of the row for a leaf.
 fn note(places: &mut Vec<u64>, leaf: u64, place: u64) -> Result<(), AllocError>
     ensures noted { OnOk result (slice_get places.new.items leaf ≡ Some place) }
     ensures others { OnOk result ((other n : ℕ) → other ≢ leaf → slice_get places.old.items other ≡ Some n →

@@ -39,16 +39,10 @@ use ps_diagram::{Node, Store};
 use ps_game::{Game, NamedGame, Player};
 use std::alloc::{AllocError, Global};
 
-/// Builds the machine of the player who wins vertex 0 in the game of an automaton. The machine plays by the moves of a
-/// valid certificate. If the winner moves first, the machine remembers the current vertex. If the winner moves second,
-/// the machine remembers only the current state of the automaton. If the winner is player 0, the automaton accepts
-/// every word of the machine; if the winner is player 1, the automaton accepts none. This function builds the game
-/// again, to get the keys of its vertices, which state what the vertices stand for. A caller that has the keys can call
-/// `machine_of_certificate`, which does not build the game again.
-///
-/// # Errors
-///
-/// Fails if out of memory.
+/// Builds the machine of the player who wins vertex 0, by the moves of a valid certificate. It remembers the current
+/// vertex if the winner moves first, and else only the state of the automaton. The automaton accepts every word of a
+/// machine of player 0, and none of one of player 1. To get the keys of the vertices, the game is built again; a caller
+/// that has them can call `machine_of_certificate`. Fails if out of memory.
 pub fn extract(
     alloc: Global,
     automaton: &Automaton,
@@ -71,8 +65,7 @@ pub fn extract(
     machine_of_certificate(alloc, automaton, order, &keyed, certificate)
 }
 
-/// Builds the same machine as `extract`, from an automaton's game with the keys of its vertices. Fails if out of
-/// memory.
+/// Builds the same machine from a game with its keys. Fails if out of memory.
 pub fn machine_of_certificate(
     alloc: Global,
     automaton: &Automaton,
@@ -111,7 +104,7 @@ pub fn machine_of_certificate(
     machine_by(alloc, &plan, &game.divided)
 }
 
-/// The memory states of the winner of vertex 0, for the vertices that can be reached by the certificate's moves.
+/// The memory states of the winner of vertex 0, for the vertices that its moves can reach.
 fn memories_of(
     alloc: Global,
     keys: &[Key],
@@ -128,7 +121,6 @@ fn memories_of(
     remembered(alloc, keys, &used, moves_first)
 }
 
-/// Builds the machine from the data of a `Plan`.
 fn machine_by(alloc: Global, plan: &Plan<'_>, division: &Division) -> Result<Machine, AllocError>
     requires plan { IsPlanned plan.now }
     requires division { AreKnownBy plan.now division.now }
@@ -147,8 +139,7 @@ fn machine_by(alloc: Global, plan: &Plan<'_>, division: &Division) -> Result<Mac
     Ok(Machine::new(player, plan.moves_first, propositions, diagrams))
 }
 
-/// Makes the diagrams of all memory states, and the rows (output letter and next memory state) to which these diagrams
-/// lead.
+/// Makes the diagrams of all memory states, and their rows.
 fn draw(alloc: Global, plan: &Plan<'_>, division: &Division) -> Result<Diagrams, AllocError>
     requires plan { IsPlanned plan.now }
     requires division { AreKnownBy plan.now division.now }
@@ -162,7 +153,7 @@ fn draw(alloc: Global, plan: &Plan<'_>, division: &Division) -> Result<Diagrams,
     }
 }
 
-/// Like `draw`, but the diagrams are made letter by letter.
+/// Like `draw`, letter by letter.
 fn draw_by_letters(
     alloc: Global,
     plan: &Plan<'_>,
@@ -189,7 +180,6 @@ fn draw_by_letters(
     })
 }
 
-/// Makes the diagrams of all memory states, letter by letter.
 fn nodes_by_letters(
     alloc: Global,
     plan: &Plan<'_>,
@@ -210,7 +200,7 @@ fn nodes_by_letters(
     Ok(nodes)
 }
 
-/// Like `draw`, but the diagrams are made from the classes of letters.
+/// Like `draw`, from the classes of letters.
 fn draw_by_classes(
     alloc: Global,
     plan: &Plan<'_>,
@@ -234,7 +224,6 @@ fn draw_by_classes(
     })
 }
 
-/// Makes the diagrams of all memory states.
 fn nodes_of(
     alloc: Global,
     plan: &Plan<'_>,
@@ -255,8 +244,7 @@ fn nodes_of(
     Ok(nodes)
 }
 
-/// Finds the propositions that a machine reads, and those that it outputs. The flag `moves_first` states whether the
-/// machine's player moves first.
+/// The propositions that a machine reads, and those that it outputs.
 fn roles(
     alloc: Global,
     automaton: &Automaton,

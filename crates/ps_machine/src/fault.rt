@@ -12,14 +12,14 @@ use thiserror::Error;
 /// Why a solver gives no certificate.
 #[derive(Debug, Drop, Error)]
 pub enum SolveFault {
-    /// The solver reported a cycle that its moves for a player allow; this player loses if a play repeats the cycle for
-    /// ever. The cycle is a list of vertex numbers.
+    /// The solver reported a cycle that its moves for a player allow, and that this player loses if a play repeats it
+    /// for ever.
     #[error("a cycle that its player loses")]
     BadCycle(Vec<usize>),
-    /// The text that the solver was fed is not the text of a certificate of the game.
+    /// The text that the solver was fed is not that of a certificate of the game.
     #[error("{} at byte {offset}", .cause.name())]
     Text {
-        /// The reason why the text is rejected.
+        /// Why the text is rejected.
         cause: CertCause,
         /// The offset of the error in bytes, from 0.
         offset: usize,

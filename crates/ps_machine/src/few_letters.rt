@@ -1,19 +1,19 @@
-//! The letters of the players, if each player has few.
+//! The letters of players who have few.
 
 ghost use Rattle.std.specs.Prelude.{◌≡◌};
 ghost use Rattle.ps_machine.specs.Inner.Trying.{others_of};
 
-/// The letters of both players. If there are few, letters are divided into classes by trying each letter.
+/// The letters of both players, each of whom has few.
 #[derive(Drop)]
 pub struct FewLetters {
-    /// The letters of the player who moves first, in order.
+    /// The first player's, in order.
     pub firsts: Vec<u64>,
-    /// The letters of the player who moves second, in order.
+    /// The second player's, in order.
     pub seconds: Vec<u64>,
 }
 
 impl FewLetters {
-    /// The letters of a machine's opponent. The flag `moves_first` states whether the machine's player moves first.
+    /// The letters of a machine's opponent, given whether its player moves first.
     pub(crate) fn of_opponent(&self, moves_first: bool) -> &[u64]
         ensures { result.now ≡ others_of moves_first self.now }
     {

@@ -19,8 +19,8 @@ ghost use Rattle.ps_machine.specs.Solving.{AnswersLeast};
 ghost use Rattle.ps_machine.specs.declared.key.Key.{Key};
 ghost use Rattle.ps_machine.specs.declared.key.Order.{Order};
 
-/// The winner of vertex 0 wins each word of the machine of a valid certificate of an automaton's game. If the winner is
-/// player 0, the automaton accepts all words of the machine; otherwise it accepts none of them.
+/// The winner of vertex 0 wins each word of the machine of a valid certificate of an automaton's game: the automaton
+/// accepts all of them if it is player 0, else none.
 pub fn lassos_won()
     ensures { (file : FileData) (chain : Chain) (a : AutomatonData) (order : Order) (keys : List Key)
         (game : ParityGame) (certificate : CertificateData) (m : Behaviour) →
@@ -30,7 +30,7 @@ pub fn lassos_won()
         IsMachineOf (board_of order a) (mover_of order) keys game certificate m → LassosWon file m }
 {}
 
-/// The law `lassos_won` for the game of a file, whichever automaton of the file is taken.
+/// `lassos_won` for the game of a file, whichever of its automata is taken.
 pub fn lassos_of_file_won()
     ensures { (order : Order) (file : FileData) (game : NamedGameData) (is_game : IsGameOfFile order file game)
         (certificate : CertificateData) (m : Behaviour) → Fits game.game certificate → IsValid game.game certificate →
@@ -39,28 +39,27 @@ pub fn lassos_of_file_won()
         LassosWon file m }
 {}
 
-/// An automaton with given owners of its propositions (a board) has at most one game: any two have the same keys and
-/// are equal.
+/// An automaton with given owners of its propositions (a board) has at most one game and list of keys.
 pub fn one_game()
     ensures { (board : Board) (mover : ℕ) (keys others : List Key) (game other : ParityGame) →
         IsGameOf board mover keys game → IsGameOf board mover others other → (keys ≡ others) × (game ≡ other) }
 {}
 
-/// For each order of moves, a file has at most one game, including its names and ids. Several automata may be automata
-/// of one file, but they differ only at states and letters that no play reaches.
+/// For each order of moves, a file has at most one game, names and ids included. Its automata may differ, but only
+/// where no play leads.
 pub fn one_game_of_file()
     ensures { (order : Order) (file : FileData) (game other : NamedGameData) → IsGameOfFile order file game →
         IsGameOfFile order file other → game ≡ other }
 {}
 
-/// Each file that was parsed and is accepted has a game for each order of moves.
+/// Each admitted file has a game for each order of moves.
 pub fn game_is_there()
     ensures { (order : Order) (file : FileData) → IsSoundFile file → IsAdmitted file →
         (game : NamedGameData) × IsGameOfFile order file game }
 {}
 
-/// The game that a file defines meets the definition of a game: each vertex has the owner 0 or 1 and at least one
-/// successor, and its successors are different vertices of the game.
+/// The game that a file defines is one: each vertex has the owner 0 or 1, and at least one successor; its successors
+/// are different vertices of the game.
 pub fn game_of_file_is_game()
     ensures { (order : Order) (file : FileData) (game : NamedGameData) → IsGameOfFile order file game →
         IsGame game.game }
@@ -76,9 +75,8 @@ pub fn machine_is_there()
         IsMachineOf board mover keys game certificate m }
 {}
 
-/// A certificate has at most one machine. Any two machines of one certificate of an automaton's game have the same
-/// propositions and player. From each memory state, at every letter that they read, the two machines take the same
-/// step.
+/// A certificate of an automaton's game has at most one machine: any two have the same propositions and player, and
+/// take the same step from each memory state, at every letter that they read.
 pub fn one_machine()
     ensures { (names : List (List ℕ)) (board : Board) (mover : ℕ) (keys : List Key) (game : ParityGame)
         (certificate : CertificateData) → IsGameOf board mover keys game → (m o : Behaviour) →
@@ -87,8 +85,7 @@ pub fn one_machine()
         BehavesAs m o }
 {}
 
-/// A certificate of a file's game has at most one machine, although the file's automata may differ at states and
-/// letters that no play reaches.
+/// A certificate of a file's game has at most one machine, although the file's automata may differ where no play leads.
 pub fn one_machine_of_file()
     ensures { (order : Order) (file : FileData) (game : NamedGameData) (first second : IsGameOfFile order file game)
         (certificate : CertificateData) (m o : Behaviour) → IsMachine m → IsMachine o →
@@ -99,9 +96,8 @@ pub fn one_machine_of_file()
         BehavesAs m o }
 {}
 
-/// Each game has a certificate that psyn's own solver may return: it fits the game and is valid, and its counts (the
-/// numbers that prove it) are the least for its moves. This law does not say that a call of the solver returns this
-/// certificate: a call may fail because memory runs out.
+/// Each game has a certificate that psyn's own solver may return: it fits and is valid, and its counts are the least
+/// for its moves. A call may still run out of memory.
 pub fn each_game_has_a_certificate()
     ensures { (game : NamedGameData) → IsGame game.game →
         (certificate : CertificateData) × AnswersLeast game (Ok certificate) }

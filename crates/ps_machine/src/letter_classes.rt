@@ -1,4 +1,4 @@
-//! What the builder of an automaton's game asks of the automaton: the classes of letters, and the steps behind a class.
+//! What the builder of a game asks.
 
 ghost use Rattle.std.specs.Prelude.{ℕ, ◌<◌, ◌≤◌, List, IfOk, OnOk, length, slice_index};
 ghost use Rattle.ps_automaton.specs.Automata.{AutomatonData};
@@ -9,17 +9,16 @@ ghost use Rattle.ps_machine.specs.declared.key.Order.{Order};
 
 use std::alloc::AllocError;
 
-/// Computes the classes of the first player's letters at the states of an automaton, and the steps behind each class.
+/// Computes the classes of the first player's letters, and the steps behind each class.
 pub(crate) trait LetterClasses {
-    /// The source is for this order of moves and this automaton.
     ghost fits: { Self → Order → AutomatonData → Type 0 };
 
-    /// The relation between a place, a state, and the least letters of the state's classes, in order: what is needed to
-    /// find the steps behind these classes is stored from this place on.
+    /// From this place on, it is stored how to find the steps behind the classes of a state, whose least letters are
+    /// listed.
     ghost divided: { Self → ℕ → ℕ → List ℕ → Type 0 };
 
-    /// Divides the letters of the first player into classes, by the steps to which they lead from a state. Afterwards,
-    /// `letters` has the least letter of each class, in order. Returns the place from which on the classes are stored.
+    /// Divides the first player's letters at a state into classes; `letters` then has the least of each, in order.
+    /// Returns the place from which on the classes are stored.
     fn divide(&mut self, state: u32, letters: &mut Vec<u64>) -> Result<usize, AllocError>
         requires { (order : Order) × (a : AutomatonData) × fits self.old order a × (state ≤ a.states) }
         ensures fits { OnOk result ((order : Order) (a : AutomatonData) → fits self.old order a →
@@ -30,9 +29,8 @@ pub(crate) trait LetterClasses {
         ensures listed { OnOk result ((order : Order) (a : AutomatonData) → fits self.old order a →
             IsListOf (IsClassLetter (board_of order a) state) letters.new.items) };
 
-    /// Finds the steps that can follow the least letter of a class: `leaves` then has the leaves of the automaton's
-    /// diagrams that stand for these steps, in the order of the second player's letters. The class is given by the place
-    /// from which on the classes of its state are stored, and by its index among these classes.
+    /// Finds the steps after the least letter of a class: `leaves` then has the leaves that stand for them, in the
+    /// order of the second player's letters. The class is given by the place of its state, and its index there.
     fn leaves(&self, place: usize, class: usize, leaves: &mut Vec<u64>) -> Result<(), AllocError>
         requires { (order : Order) × (a : AutomatonData) × (q : ℕ) × (letters : List ℕ) × fits self.now order a
             × divided self.now place q letters × (class < length letters) }

@@ -1,4 +1,4 @@
-//! Makes the diagrams of a machine letter by letter, if each player has few letters.
+//! Makes the diagrams of a machine letter by letter.
 
 ghost use Rattle.std.specs.Prelude.{◌≡◌, ◌<◌, ◌≤◌, ◌+◌, ◌↔◌, ℕ, All, IfOk, IsTrue, MatchOption, false, length};
 ghost use Rattle.std.specs.Prelude.{slice_index, true};
@@ -22,7 +22,7 @@ use ps_diagram::Node;
 use std::alloc::{AllocError, Global};
 
 impl Plan<'_> {
-    /// Whether two letters of the first player lead to the same steps from a state.
+    /// Whether two letters of the first player lead to the same steps.
     fn are_alike(&self, letters: &FewLetters, state: u32, one: u64, other: u64) -> bool
         requires at { TriesAt self.now letters.now state }
         requires one { IsFirstLetter (board_by self.now) one }
@@ -39,8 +39,8 @@ impl Plan<'_> {
         true
     }
 
-    /// The index of an earlier letter of the first player that leads to the same steps as the letter at the index
-    /// `at`, or `None` if this letter is the least one of its class.
+    /// The index of an earlier letter that leads to the same steps as the one at the index `at`; `None` if that is the
+    /// least of its class.
     fn alike_before(&self, letters: &FewLetters, state: u32, at: usize) -> Option<usize>
         requires at { TriesAt self.now letters.now state }
         requires within { at < length letters.now.firsts.items }
@@ -59,8 +59,7 @@ impl Plan<'_> {
         None
     }
 
-    /// The row of the machine's table for the least letter of a class of the first player's letters. The given vertex
-    /// stands for the state, and its successor at the index `number` is tried first.
+    /// The row for the least letter of a class, at a vertex whose successor at the index `number` is tried first.
     fn row_behind(
         &self,
         letters: &FewLetters,
@@ -81,7 +80,7 @@ impl Plan<'_> {
         }
     }
 
-    /// The least letter of the second player that makes a step after a letter of the first player.
+    /// The least letter of the second player that makes a step after `letter`.
     fn second_to(&self, letters: &FewLetters, state: u32, letter: u64, step: Step) -> u64
         requires at { TriesAt self.now letters.now state }
         requires first { IsFirstLetter (board_by self.now) letter }
@@ -101,7 +100,7 @@ impl Plan<'_> {
 }
 
 impl Drawing {
-    /// Makes the diagram of the memory state that a vertex has, letter by letter. Fails if out of memory.
+    /// Makes the diagram of the memory state that a vertex has.
     pub fn node_by_letters(
         &mut self,
         alloc: Global,
@@ -122,8 +121,8 @@ impl Drawing {
         }
     }
 
-    /// Makes the diagram of a memory state for a player who moves first. The player's move leads to a class of letters.
-    /// The result leads each letter of the other player to the index of the row for the step after this class.
+    /// Makes the diagram of a memory state for a player who moves first: each letter of the other player leads to the
+    /// index of the row for the step after the class that the player chooses.
     fn first_by_letters(
         &mut self,
         alloc: Global,
@@ -140,8 +139,8 @@ impl Drawing {
         self.store.relabel_from(&tried.store, tried.places, &rows)
     }
 
-    /// For each letter of the second player, the index of the row that has the output `letter`, and the memory state
-    /// after the step that both letters make. The step leads from the vertex `chosen`.
+    /// For each letter of the second player, the index of the row with the output `letter`, and the memory state after
+    /// the step of both letters, which leads from the vertex `chosen`.
     fn rows_after(
         &mut self,
         alloc: Global,
@@ -169,8 +168,8 @@ impl Drawing {
         Ok(rows)
     }
 
-    /// Makes the diagram of a memory state for a player who moves second. The result leads each letter of the first
-    /// player to the index of the row for the letter's class.
+    /// Makes the diagram of a memory state for a player who moves second: each letter of the first player leads to the
+    /// index of the row for its class.
     fn second_by_letters(
         &mut self,
         alloc: Global,
@@ -186,7 +185,7 @@ impl Drawing {
         self.store.relabel_from(&tried.store, tried.places, &rows)
     }
 
-    /// For each letter of the first player, the index of the row for the letter's class at the state of a vertex.
+    /// For each letter of the first player, the index of its row.
     fn rows_behind(
         &mut self,
         alloc: Global,
@@ -209,8 +208,7 @@ impl Drawing {
         Ok(rows)
     }
 
-    /// The index of the row for the class of the first player's letter at the index `at`, given the indices of the rows
-    /// for the letters before it.
+    /// The index of the row for the letter at the index `at`, given those for the letters before it.
     fn row_at(
         &mut self,
         plan: &Plan<'_>,

@@ -1,4 +1,4 @@
-//! Finds the letters of a machine's opponent by a diagram, if each player has few letters.
+//! Finds the letters of a machine's opponent by a diagram.
 
 ghost use Rattle.std.specs.Prelude.{◌≡◌, ◌<◌, ◌≤◌, ◌^◌, ℕ, IfOk, bit_and, length, slice_index};
 ghost use Rattle.std.specs.List.{Contains};
@@ -20,16 +20,14 @@ use std::alloc::{AllocError, Global};
 /// The letters from which a machine's diagrams are made.
 #[derive(Drop)]
 pub(crate) struct LetterPlan<'a> {
-    /// The letters of both players.
     pub letters: &'a FewLetters,
-    /// The store of the diagram `places`.
+    /// The store of `places`.
     pub store: Store,
-    /// The diagram that leads each letter of the machine's opponent to its index in the list of the opponent's letters.
+    /// Leads each letter of the opponent to its index in the list of these.
     pub places: Node,
 }
 
 impl<'a> LetterPlan<'a> {
-    /// Makes the diagram that finds the letters of the opponent. Fails if out of memory.
     pub fn new(
         alloc: Global,
         plan: &Plan<'_>,
@@ -58,7 +56,7 @@ impl<'a> LetterPlan<'a> {
     }
 }
 
-/// A number whose bits at the automaton's propositions are those of the opponent of the machine's player.
+/// The mask of the opponent's propositions.
 fn others_mask(automaton: &Automaton, order: Order, moves_first: bool) -> u64
     requires { length automaton.now.names ≤ 64 }
     ensures { (p : ℕ) → p < length automaton.now.names →
@@ -68,8 +66,7 @@ fn others_mask(automaton: &Automaton, order: Order, moves_first: bool) -> u64
     if moves_first { !mask } else { mask }
 }
 
-/// For each letter over the given number of propositions, the index in the list `letters` of that part of the letter
-/// whose propositions are in the mask.
+/// For each letter, the index in `letters` of its part in the mask.
 fn places_of(
     alloc: Global,
     letters: &[u64],
@@ -87,7 +84,6 @@ fn places_of(
     Ok(places)
 }
 
-/// The index of a letter in a list that has it.
 fn place_of(letters: &[u64], letter: u64) -> u64
     requires { Contains letters.now letter }
     ensures within { result < length letters.now }

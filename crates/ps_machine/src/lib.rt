@@ -1,17 +1,18 @@
 //! Builds the game of an automaton, solves it, and builds the machine of a certificate of the game.
 //!
-//! The vertices of the game are numbered breadth first from the start. A vertex at which the first player moves stands
-//! for a state and the priority by which the state was entered. A vertex at which the second player moves stands for a
-//! state and a class of the first player's letters. Letters of one class lead to the same steps. Classes of letters are
-//! computed from the automaton's decision diagrams, and one vertex stands for all letters of its class. If no player
-//! has more than four letters, the letters are compared one by one, and no diagrams of classes are made.
+//! The vertices of the game are numbered breadth first from the start, vertex 0. The first player is the one who moves
+//! first in each step. A vertex at which it moves stands for a state and the priority by which this was entered; one at
+//! which the second player moves, for a state and a class of the first player's letters, all of which lead to the same
+//! steps. Classes are computed from the automaton's decision diagrams, or letter by letter if no player has more than
+//! four. In each of its memory states, a machine leads an input letter to a row: the output letter, and the next memory
+//! state.
 //!
 //! | Call | What it gives |
 //! |---|---|
 //! | `game_of(automaton, order)` | the game with ids and names; `Order` states who moves first |
-//! | `AutomatonGame::build(automaton, order)` | the same game with the key of each vertex |
-//! | `Solver::feed`, `solve` | what every solver guarantees, also in a box, and what it means that a solver is sure |
-//! | `BuiltIn::new` | psyn's own solver: regions, moves and least counts; it is sure |
+//! | `AutomatonGame::build(automaton, order)` | the same game with the key of each vertex: what it stands for |
+//! | `Solver::feed`, `solve` | takes a text, such as a certificate; gives a certificate of a game, or a fault |
+//! | `BuiltIn::new` | psyn's own solver, which is sure: its certificates are valid, and only memory may run out |
 //! | `Replay::new` | the solver that returns the certificate whose text it was fed; it is not sure |
 //! | `machine_of_certificate`, `extract` | the machine of the winner of vertex 0, by a valid certificate |
 //! | `Machine::step(memory, letter)` | the next memory state, and the letter that is output |
@@ -23,7 +24,7 @@
 //! | `each_game_has_a_certificate` | each game has a certificate that fits, is valid and has the least counts |
 //! | `lassos_won`, `lassos_of_file_won` | the winner of vertex 0 wins each word of the machine of a valid certificate |
 //! | `one_game`, `one_game_of_file` | an automaton, and a file, have at most one game for each order of moves |
-//! | `game_is_there`, `game_of_file_is_game` | a file that is accepted has a game; what a file defines is a game |
+//! | `game_is_there`, `game_of_file_is_game` | an admitted file has a game; what a file defines is a game |
 //! | `machine_is_there` | a valid certificate of an automaton's game has a machine |
 //! | `one_machine`, `one_machine_of_file` | a certificate of an automaton's or a file's game has at most one machine |
 #![tactic(auto)]

@@ -11,7 +11,7 @@ use ps_diagram::{Node, Store};
 use ps_game::Player;
 use std::marker::Model;
 
-/// One row of a machine: the memory state after a step, and the letter that is output.
+/// A row of a machine.
 #[derive(Debug, Clone, Copy, PartialEq, Eq, Hash)]
 pub struct Row {
     /// The next memory state.
@@ -20,34 +20,27 @@ pub struct Row {
     pub letter: u64,
 }
 
-/// The propositions of a machine.
 #[derive(Drop)]
 pub(crate) struct Propositions {
-    /// The names of the propositions.
     pub names: Vec<Vec<u8>>,
-    /// The propositions that the machine reads, ascending.
+    /// The propositions that it reads, ascending.
     pub inputs: Vec<u32>,
-    /// The propositions that the machine outputs, ascending.
+    /// The propositions that it outputs, ascending.
     pub outputs: Vec<u32>,
 }
 
-/// The diagrams of a machine.
 #[derive(Drop)]
 pub(crate) struct Diagrams {
-    /// The store of the diagrams.
     pub store: Store,
     /// The diagram of each memory state.
     pub nodes: Vec<Node>,
-    /// The rows of the machine's table, each with a next memory state and an output letter. Each leaf of the machine's
-    /// diagrams is the index of a row.
+    /// The rows, whose indices are the leaves.
     pub rows: IndexSet<Row>,
 }
 
-/// A player's finite machine. The machine begins in memory state 0. In each step the machine reads an input letter,
-/// which is a letter of the other player. The input letter and the memory state determine a row of the machine's table.
-/// The machine outputs the letter of the row, and enters the memory state of the row. If the machine's player moves
-/// first, the output letter does not depend on the input letter. Each leaf of the machine's diagrams is the index of a
-/// row in the machine's table.
+/// A player's finite machine. It begins in memory state 0. In each step it reads a letter of the other player, which
+/// with the memory state determines a row: it outputs the row's letter, and enters its memory state. If its player
+/// moves first, the output does not depend on the input. Each leaf of the diagrams is the index of a row.
 #[derive(Drop)]
 pub struct Machine {
     names: Vec<Vec<u8>>,
@@ -92,7 +85,6 @@ impl Model for Machine {
 }
 
 impl Machine {
-    /// Builds the machine of a player from its parts.
     pub(crate) fn new(
         player: Player,
         moves_first: bool,
@@ -114,7 +106,7 @@ impl Machine {
         }
     }
 
-    /// The names of the propositions, at most 64. The names differ, are not empty and contain no control bytes.
+    /// The names of the propositions, at most 64: different, not empty, and without control bytes.
     pub fn names(&self) -> &[Vec<u8>]
         ensures names { map bytes_of result.now ≡ self.now.names }
         ensures machine { IsWholeMachine self.now }
@@ -138,7 +130,7 @@ impl Machine {
         self.outputs.as_slice()
     }
 
-    /// The player whose machine this is: player 0 is the controller, player 1 the environment.
+    /// The machine's player: 0 is the controller, 1 the environment.
     pub fn player(&self) -> Player
         ensures player { result ≡ self.now.player }
         ensures machine { IsWholeMachine self.now }
@@ -146,8 +138,7 @@ impl Machine {
         self.player
     }
 
-    /// Whether the machine's player moves first in each step, so that the output letter does not depend on the input
-    /// letter.
+    /// Whether the machine's player moves first, so that its output does not depend on the input.
     pub fn moves_first(&self) -> bool
         ensures first { result ≡ self.now.is_first }
         ensures machine { IsWholeMachine self.now }
@@ -155,7 +146,7 @@ impl Machine {
         self.moves_first
     }
 
-    /// The number of memory states, at least one. The machine begins in memory state 0.
+    /// The number of memory states, at least one.
     pub fn memories(&self) -> usize
         ensures memories { result ≡ (behaviour self.now).memories }
         ensures machine { IsWholeMachine self.now }
@@ -172,8 +163,7 @@ impl Machine {
         &self.store
     }
 
-    /// The diagram of a memory state. The diagram's leaf at an input letter is the index of a row of the machine's
-    /// table: the letter to output, and the next memory state.
+    /// The diagram of a memory state. Its leaf at an input letter is the index of a row.
     pub fn node(&self, memory: usize) -> Node
         requires { memory < (behaviour self.now).memories }
         ensures node { result ≡ slice_index self.now.nodes memory }
@@ -182,7 +172,7 @@ impl Machine {
         self.nodes[memory]
     }
 
-    /// The row of the machine's table (next memory state and output letter) whose index is the given leaf of a diagram.
+    /// The row whose index is a leaf.
     pub fn row(&self, leaf: u64) -> Row
         requires { leaf < length self.now.rows }
         ensures row { result ≡ row_at_leaf self.now leaf }
@@ -191,8 +181,7 @@ impl Machine {
         self.rows.as_slice()[leaf as usize]
     }
 
-    /// The rows of the machine's table, each with a next memory state and an output letter. Each leaf of the machine's
-    /// diagrams is the index of a row.
+    /// The rows, whose indices are the leaves of the diagrams.
     pub fn rows(&self) -> &[Row]
         ensures rows { result.now ≡ self.now.rows }
         ensures machine { IsWholeMachine self.now }
@@ -200,8 +189,7 @@ impl Machine {
         self.rows.as_slice()
     }
 
-    /// The row of the machine's table for a memory state and an input letter: the next memory state, and the letter
-    /// that is output.
+    /// The row for a memory state and an input letter.
     pub fn step(&self, memory: usize, letter: u64) -> Row
         requires { memory < (behaviour self.now).memories }
         ensures step { result ≡ machine_row self.now memory letter }

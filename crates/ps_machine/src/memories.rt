@@ -8,19 +8,17 @@ use crate::used::Found;
 use indexmap::IndexSet;
 use std::alloc::{AllocError, Global};
 
-/// The memory states of a machine.
 #[derive(Drop)]
 pub(crate) struct Memories {
-    /// For each memory state, the smallest vertex that it stands for: a reachable vertex of the first player. The list
+    /// For each memory state, the smallest vertex that it stands for: a reachable one of the first player. The list
     /// ascends.
     pub kept: Vec<usize>,
-    /// What each memory state remembers, its anchor: a vertex if the machine's player moves first, and otherwise a
-    /// state of the automaton.
+    /// What each memory state remembers, its anchor: a vertex if the machine's player moves first, else a state of the
+    /// automaton.
     pub anchors: IndexSet<usize>,
 }
 
-/// Makes a memory state for each reachable vertex of the first player or, if the machine's player moves second, for
-/// each state of these vertices.
+/// Makes a memory state for each anchor of a reachable vertex of the first player.
 pub(crate) fn remembered(
     alloc: Global,
     keys: &[Key],
@@ -46,8 +44,7 @@ pub(crate) fn remembered(
     Ok(memories)
 }
 
-/// What the machine remembers at a first-player vertex, its anchor: the vertex itself or, if the machine's player moves
-/// second, the vertex's state.
+/// The anchor of a vertex of the first player.
 pub(crate) fn anchor(moves_first: bool, vertex: usize, state: u32) -> usize
     ensures { result ≡ anchor_of moves_first vertex state }
 {
@@ -55,8 +52,7 @@ pub(crate) fn anchor(moves_first: bool, vertex: usize, state: u32) -> usize
 }
 
 impl Memories {
-    /// Adds a memory state for a vertex, unless one exists with the same anchor (what the machine remembers at the
-    /// vertex).
+    /// Adds a memory state for a vertex, unless one has the same anchor.
     fn keep(&mut self, vertex: usize, anchor: usize) -> Result<(), AllocError>
         ensures { OnOk result (KeepsAt self.old.kept.items self.old.anchors.keys vertex anchor self.new.kept.items
             self.new.anchors.keys) }

@@ -1,4 +1,4 @@
-//! A solver that returns the certificate whose text it was fed.
+//! A solver that returns what it was fed.
 
 ghost use Rattle.std.specs.Prelude.{◌≡◌, [], Some};
 
@@ -8,8 +8,7 @@ use ps_certificate::{CertFault, Certificate, read};
 use ps_game::NamedGame;
 use std::alloc::{AllocError, Global};
 
-/// A solver that parses the text that it was fed as a certificate of the game. A `Replay` is not sure: the certificate
-/// that it returns fits the game, but may be wrong.
+/// Parses what it was fed as a certificate of the game. It is not sure: this fits the game, but may be wrong.
 #[derive(Drop)]
 pub struct Replay {
     alloc: Global,

@@ -19,9 +19,8 @@ use ps_diagram::{Class, Node};
 use std::alloc::{AllocError, Global};
 
 impl Plan<'_> {
-    /// The step that the winner, who moves second, chooses after the least letter of a class, and the vertex that stands
-    /// for this step. Before the letter, the game is at the given vertex, whose successor at the index `number` is tried
-    /// first.
+    /// The step that the winner, who moves second, chooses after the least letter of a class, and the vertex that
+    /// stands for it. Of the successors of `vertex`, the one at the index `number` is tried first.
     pub fn reply(&self, vertex: usize, number: usize, state: u32, letter: u64) -> (usize, Step)
         requires { CanReply self.now vertex state letter }
         ensures stands { StandsAt self.now.keys.now result.0 (First result.1.state result.1.priority) }
@@ -37,8 +36,7 @@ impl Plan<'_> {
         }
     }
 
-    /// The row of the machine's table for a class of the first player's letters: the letter that is output, and the
-    /// next memory state. The class is the one at the index `number` among those of the state of the given vertex.
+    /// The row for a class, the one at the index `number` of the state of a vertex.
     fn row_of_class(
         &self,
         divided: &Divided,
@@ -61,9 +59,8 @@ impl Plan<'_> {
 }
 
 impl Drawing {
-    /// Makes the diagram of a memory state for a player who moves second. The result is the diagram that divides the
-    /// first player's letters into classes, with the index of a row of the machine's table in place of each class.
-    /// Fails if out of memory.
+    /// Makes the diagram of a memory state for a player who moves second: the one that divides the first player's
+    /// letters into classes, with indices of rows in place of classes.
     pub fn second_node(
         &mut self,
         alloc: Global,
@@ -81,8 +78,7 @@ impl Drawing {
             .relabel_from(&divided.store, classes.places, &values)
     }
 
-    /// For each class of the first player's letters at the state of a vertex, the index of the row that the machine's
-    /// table has for that class.
+    /// For each class at a vertex, the index of its row.
     fn rows_of_classes(
         &mut self,
         alloc: Global,
@@ -113,8 +109,7 @@ impl Drawing {
     }
 }
 
-/// The letter that is listed with a given step of the automaton. Each entry of the list `leaves` is a pair: a step's
-/// index, and a letter. If several entries have the given step, the result is the letter of the first of them.
+/// The letter of the first of `leaves` (pairs of a step's index and a letter) with this step.
 fn letter_to(automaton: &Automaton, leaves: &[(u64, u64)], step: Step) -> u64
     requires named { All (λ leaf. leaf.0 < length automaton.now.steps) leaves.now }
     requires there { Any (λ leaf. pair_of automaton.now leaf.0 ≡ step) leaves.now }

@@ -1,4 +1,4 @@
-//! The trait of solvers, and what every solver guarantees.
+//! The trait of solvers.
 
 ghost use Rattle.std.specs.Prelude.{◌≡◌, true, None, IsOk, OnOk, OnErr};
 ghost use Rattle.ps_machine.specs.Solvers.{Answered, IsKept, SolverData, once_fed};
@@ -9,19 +9,19 @@ use ps_certificate::Certificate;
 use ps_game::NamedGame;
 use std::alloc::AllocError;
 
-/// Finds a certificate of a game. A solver may first be fed a text, such as a certificate that another program made.
+/// Finds a certificate of a game. It may first be fed a text, such as a certificate that another program made.
 pub trait Solver: Drop {
-    /// What is known about the solver: whether it is sure, what it may answer, and the text that it was fed.
+    /// Whether the solver is sure, what it may answer, and the text that it was fed.
     ghost known: { Self → SolverData };
 
-    /// Gives the solver a text (feeds it), which replaces the text that it was fed before. If memory runs out, this
-    /// call fails, and the solver keeps the earlier text. A solver that ignores texts accepts every text.
+    /// Feeds the solver a text, which replaces the one before. If memory runs out, this fails, and the earlier text is
+    /// kept. A solver that ignores texts accepts every text.
     fn feed(&mut self, text: &[u8]) -> Result<(), AllocError>
         ensures unkept { (known self.old).fed ≡ None → IsOk result }
         ensures ok { OnOk result (IsKept (once_fed text.now (known self.old)) (known self.new)) }
         ensures err { OnErr result (IsKept (known self.old) (known self.new)) };
 
-    /// The solver's certificate of the game, or the reason why it returns none.
+    /// The solver's certificate of the game, or why it returns none.
     fn solve(&mut self, game: &NamedGame) -> Result<Certificate, SolveFault>
         ensures surely { (known self.old).is_sure ≡ true → AnswersSurely game.now result }
         ensures cycle { NamesVertices game.now result }

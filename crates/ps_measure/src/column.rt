@@ -1,4 +1,4 @@
-//! The least counts for one priority, computed from the strongly connected components of the reversed remaining edges.
+//! The least counts for one priority.
 
 ghost use Rattle.std.specs.Prelude.{◌≡◌, ℕ, ◌<◌, length, nat_lt, IfOk, OnOk, IfNone, IfSome};
 ghost use Rattle.std.specs.Bool.{OnFalse, OnTrue};
@@ -20,8 +20,8 @@ use std::alloc::{AllocError, Global};
 /// Counts are written by ascending vertex unless fewer than one in `FEW` vertices were visited.
 const FEW: usize = 8;
 
-/// The counts for one priority: a value for each strongly connected component that a search found. The same `Column` is
-/// reused for one priority after another.
+/// The counts for one priority: a value for each strongly connected component that a search of the reversed remaining
+/// edges found. It is reused for one priority after another.
 #[derive(Drop)]
 pub(crate) struct Column {
     components: Components,
@@ -29,7 +29,6 @@ pub(crate) struct Column {
 }
 
 impl Column {
-    /// A column without components and values.
     pub(crate) fn new(alloc: Global) -> Self {
         Column {
             components: Components::new(alloc),
@@ -37,10 +36,9 @@ impl Column {
         }
     }
 
-    /// Computes the least counts for the priority of `low`, from the components of the vertices reachable from the
-    /// roots. The count of a component starts at 1 if the component contains a vertex of `roots`, and at 0 otherwise.
-    /// If no counts keep the rule of counts (`KeepsRule`), returns a link that leads to a vertex of this priority and
-    /// lies on a cycle.
+    /// Computes the least counts for the priority of `low`. The count of a component starts at 1 if it has a vertex of
+    /// `roots`, else at 0. If no counts keep the rule, returns a link to a vertex of this priority that lies on a
+    /// cycle.
     pub(crate) fn work_out(
         &mut self,
         low: &Low,
@@ -65,7 +63,6 @@ impl Column {
         Ok(self.settle(low))
     }
 
-    /// The count that was computed for a vertex.
     pub(crate) fn count(&self, vertex: usize) -> u64
         requires { vertex < length self.now.components.numbers }
         ensures { result ≡ value_of self.now.components self.now.values.items vertex }
@@ -76,8 +73,7 @@ impl Column {
         }
     }
 
-    /// Writes the nonzero counts of the vertices into the table's rows, at index `place`. Returns the number of nonzero
-    /// counts.
+    /// Writes the nonzero counts into the table's rows, at index `place`, and returns their number.
     pub(crate) fn put_into(&self, place: usize, table: &mut CountTable) -> Result<u64, AllocError>
         requires components { (g : Digraph) × AreComponents g self.now.components }
         requires each { length table.old ≡ length self.now.components.numbers }
@@ -95,7 +91,7 @@ impl Column {
         }
     }
 
-    /// Does the same as `put_into`, in time proportional to the number of visited vertices.
+    /// Like `put_into`, in time proportional to the number of visited vertices.
     fn put_visited(&self, place: usize, table: &mut CountTable) -> Result<u64, AllocError>
         requires components { (g : Digraph) × AreComponents g self.now.components }
         requires each { length table.old ≡ length self.now.components.numbers }
@@ -117,9 +113,8 @@ impl Column {
         Ok(raised)
     }
 
-    /// Does the same as `put_into`, in time proportional to the number of all vertices. The counts are written by
-    /// ascending vertex, so that a later pass over the rows, vertex by vertex, finds the counts for this priority next
-    /// to one another in memory.
+    /// Like `put_into`, in time proportional to the number of all vertices, which it takes in order, so that a later
+    /// pass over the rows finds the counts for this priority next to one another in memory.
     fn put_ascending(&self, place: usize, table: &mut CountTable) -> Result<u64, AllocError>
         requires components { (g : Digraph) × AreComponents g self.now.components }
         requires each { length table.old ≡ length self.now.components.numbers }
@@ -141,8 +136,8 @@ impl Column {
         Ok(raised)
     }
 
-    /// Raises the value of the component of `to` as far as the link from `from` to `to` requires. Returns true if the
-    /// link stays within a component and leads to a vertex of the priority of `low`.
+    /// Raises the value of the component of `to` as far as the link from `from` requires. Returns true if the link
+    /// stays within a component and leads to a vertex of the priority of `low`.
     fn pass(&mut self, low: &Low, from: usize, number: usize, to: usize) -> bool
         requires turn { IsTurn (low_graph low.now) (low_weight low.now) self.old.components self.old.values.items
             from number }
@@ -167,8 +162,7 @@ impl Column {
         }
     }
 
-    /// Raises the values of components as far as the links of the vertex `from` require. Stops at a link that lies on a
-    /// cycle that the player loses, and returns the link's target.
+    /// Raises values as far as the links of `from` require. Stops at a link on a lost cycle, and returns its target.
     fn pass_all(&mut self, low: &Low, from: usize, number: usize) -> Option<usize>
         requires turn { IsTurn (low_graph low.now) (low_weight low.now) self.old.components self.old.values.items
             from number }
@@ -188,8 +182,8 @@ impl Column {
         None
     }
 
-    /// Raises the values of components as far as all links require, from the last finished vertex to the first. Stops
-    /// at a link that lies on a cycle that the player loses, and returns that link.
+    /// Raises values as far as all links require, from the last finished vertex to the first. Stops at a link on a lost
+    /// cycle, and returns it.
     fn settle(&mut self, low: &Low) -> Option<(usize, usize)>
         requires { IsCounting (low_graph low.now) (low_weight low.now) self.old.components self.old.values.items }
         ensures raised { IsRaised (low_graph low.now) (low_weight low.now) self.old.components self.new.components

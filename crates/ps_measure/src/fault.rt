@@ -1,4 +1,4 @@
-//! The reasons why no counts are computed for a region.
+//! Why no counts are computed for a region.
 
 ghost use Rattle.std.specs.Prelude.{◌≡◌};
 ghost use Rattle.ps_measure.specs.declared.fault.MeasureFault.TheVariants.{OutOfMemory};
@@ -7,15 +7,13 @@ use ps_game::GameFault;
 use std::alloc::{AllocError, AllocFailed};
 use thiserror::Error;
 
-/// The reason why no counts were computed for a region.
+/// Why no counts were computed for a region.
 #[derive(Debug, Drop, Error)]
 pub enum MeasureFault {
-    /// The remaining edges within the region have a cycle that the player loses: its greatest priority has the
-    /// opponent's parity.
+    /// The remaining edges within the region have a cycle whose greatest priority has the opponent's parity.
     #[error("the player loses a cycle of {} vertices", .cycle.len())]
     BadCycle {
-        /// The vertices of the cycle. An edge leads from each vertex of the cycle to the next, and from the last to the
-        /// first.
+        /// The cycle's vertices: an edge leads from each to the next, and from the last to the first.
         cycle: Vec<usize>,
     },
     /// Out of memory.

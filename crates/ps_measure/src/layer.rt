@@ -1,5 +1,4 @@
-//! The search for the roots of one priority: the vertices at which the computation of the counts for this priority
-//! begins.
+//! The search for the roots of one priority, at which the computation of its counts begins.
 
 ghost use Rattle.std.specs.Prelude.{◌≡◌, ℕ, ◌<◌, ◌≤◌, ◌↔◌, IfOk, IsTrue, slice_index};
 ghost use Rattle.ps_components.specs.Graphs.{Link};
@@ -13,9 +12,7 @@ use ps_components::Graph;
 use std::alloc::{AllocError, Global};
 use std::marker::Model;
 
-/// What the search for the roots of one priority uses: the remaining edges, the reversed edges between vertices of at
-/// most this priority, the vertices grouped by priority, and the index of this priority. The computation of the counts
-/// begins at the roots.
+/// One priority, and what the search for its roots uses.
 #[derive(Drop)]
 pub(crate) struct Layer<'a, G: Graph> {
     pub(crate) graph: &'a G,
@@ -36,7 +33,7 @@ impl<'a, G: Graph> Model for Layer<'a, G> {
 }
 
 impl<'a, G: Graph> Layer<'a, G> {
-    /// Returns each vertex of this priority that has a remaining edge to a vertex of the same or a smaller priority.
+    /// The vertices of this priority that have a remaining edge to one of the same or a smaller priority.
     pub(crate) fn roots(&self, alloc: Global) -> Result<Vec<usize>, AllocError>
         ensures { IfOk result (λ roots. AreRoots (low_graph self.now.low) (low_weight self.now.low) roots.items) }
     {
@@ -51,8 +48,7 @@ impl<'a, G: Graph> Layer<'a, G> {
         Ok(roots)
     }
 
-    /// The number of vertices that the search for the roots tries: those of the priority's group, or all vertices if
-    /// they are not grouped.
+    /// The number of vertices that the search tries: the priority's group, or all if they are not grouped.
     fn candidates(&self) -> usize
         ensures { result ≡ candidates_in self.now.members self.now.low.star.count self.now.place }
     {
@@ -62,7 +58,6 @@ impl<'a, G: Graph> Layer<'a, G> {
         }
     }
 
-    /// A vertex that the search for the roots tries.
     fn candidate(&self, number: usize) -> usize
         requires { number < candidates_in self.now.members self.now.low.star.count self.now.place }
         ensures is { result ≡ candidate_in self.now.members self.now.place number }
@@ -74,7 +69,6 @@ impl<'a, G: Graph> Layer<'a, G> {
         }
     }
 
-    /// Whether a remaining edge leads from a vertex to a vertex whose priority is at most `self.low.priority`.
     fn leads_down(&self, vertex: usize) -> bool
         requires vertex { vertex < self.now.low.star.count }
         requires level { slice_index self.now.low.levels vertex ≤ self.now.low.priority }

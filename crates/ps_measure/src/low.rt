@@ -1,4 +1,4 @@
-//! The reversed remaining edges between vertices whose priorities do not exceed a given one.
+//! The reversed remaining edges between vertices of bounded priority.
 
 ghost use Rattle.std.specs.Prelude.{◌≡◌, ◌<◌, nat_le, slice_index};
 ghost use Rattle.ps_measure.specs.Inner.Remaining.{low_graph, low_weight};
@@ -9,7 +9,7 @@ use ps_components::Graph;
 use ps_game::Region;
 use std::marker::Model;
 
-/// A graph of the reversed remaining edges between vertices whose priorities are at most `priority`.
+/// The reversed remaining edges between vertices whose priorities are at most `priority`.
 #[derive(Drop)]
 pub(crate) struct Low<'a> {
     pub(crate) back: &'a Back,
@@ -40,7 +40,6 @@ impl<'a> Model for Low<'a> {
 }
 
 impl<'a> Low<'a> {
-    /// Whether the priority of a vertex is at most `priority`.
     pub(crate) fn is_low(&self, item: usize) -> bool
         requires { item < self.now.star.count }
         ensures { result ≡ nat_le (slice_index self.now.levels item) self.now.priority }
@@ -49,7 +48,7 @@ impl<'a> Low<'a> {
         levels.at(item) as u64 <= self.priority
     }
 
-    /// The weight of a vertex: 1 if it is in the region and has the given priority, and otherwise 0.
+    /// 1 if a vertex is in the region and has the given priority, else 0.
     pub(crate) fn weight(&self, item: usize) -> u64
         requires { item < self.now.star.count }
         ensures { result ≡ low_weight self.now item }

@@ -1,4 +1,4 @@
-//! Lists of values that take 4 bytes for each number as long as all numbers fit in 4 bytes.
+//! Lists of values whose numbers take 4 bytes each as long as all of them fit.
 
 ghost use Rattle.std.specs.Prelude.{◌≡◌, ◌<◌, ◌∷◌, [], ◌++◌, IfSome, IfOk, OnOk, OnErr, length, replicate};
 ghost use Rattle.std.specs.Prelude.{slice_index_or, slice_set};
@@ -7,22 +7,22 @@ use std::alloc::{AllocError, Global};
 use std::fmt::Debug;
 use std::marker::Model;
 
-/// A type of values that take less memory if each of their numbers fits in 4 bytes.
+/// A value that takes less memory if each of its numbers fits in 4 bytes.
 pub trait Packable: Copy + Debug {
-    /// A value whose numbers take 4 bytes each.
+    /// The same with 4 bytes for each number.
     type Narrow: Copy + Debug;
 
-    /// In clauses, the value that has the same numbers as the given value of the type `Narrow`.
+    /// In clauses, the value with the same numbers.
     ghost value: { Self.Narrow → Self };
 
-    /// In clauses, the value at an index past the end of a list. All of its numbers are 0.
+    /// In clauses, the value past the end of a list, of zeros.
     ghost zero: { Self };
 
-    /// The value with 4 bytes for each number. Returns `None` if a number does not fit in 4 bytes.
+    /// The value in 4 bytes for each number, if all fit.
     fn narrowed(self) -> Option<Self::Narrow>
         ensures { IfSome result (λ narrow. value narrow ≡ self) };
 
-    /// The value that has the same numbers as the given value of the type `Narrow`.
+    /// The value with the same numbers.
     fn of(narrow: Self::Narrow) -> Self
         ensures { result ≡ value narrow };
 }
@@ -43,7 +43,7 @@ impl Packable for usize {
     }
 }
 
-/// The number in 4 bytes. Returns `None` if the number does not fit in 4 bytes.
+/// The number in 4 bytes, if it fits.
 #[inline(always)]
 pub(crate) fn narrow(number: usize) -> Option<u32>
     ensures { IfSome result (λ narrow. narrow ≡ number) }
@@ -55,8 +55,8 @@ pub(crate) fn narrow(number: usize) -> Option<u32>
     }
 }
 
-/// A list of values. Each number takes 4 bytes as long as all numbers of the list fit in 4 bytes, and 8 bytes from then
-/// on. A call that appends or writes a value fails if out of memory; then nothing changes.
+/// A list of values, in 4 bytes for each number as long as all fit, and in 8 from then on. A call that appends or
+/// writes fails if out of memory; then nothing changes.
 #[derive(Debug, Drop)]
 pub struct Packed<W: Packable> {
     alloc: Global,
@@ -74,7 +74,6 @@ impl<W: Packable> Model for Packed<W> {
 }
 
 impl Packed<usize> {
-    /// A list of `count` zeros.
     pub(crate) fn zeros(alloc: Global, count: usize) -> Result<Self, AllocError>
         ensures { IfOk result (λ list. list ≡ replicate count 0) }
     {
@@ -89,7 +88,6 @@ impl Packed<usize> {
 }
 
 impl<W: Packable> Packed<W> {
-    /// An empty list.
     pub(crate) fn new(alloc: Global) -> Self
         ensures { result ≡ [] }
     {
@@ -101,7 +99,7 @@ impl<W: Packable> Packed<W> {
         }
     }
 
-    /// An empty list with the capacity for `count` values whose numbers fit in 4 bytes.
+    /// An empty list with room for `count` values of 4-byte numbers.
     pub(crate) fn with_capacity(alloc: Global, count: usize) -> Result<Self, AllocError>
         ensures { IfOk result (λ list. list ≡ []) }
     {
@@ -114,7 +112,6 @@ impl<W: Packable> Packed<W> {
         })
     }
 
-    /// The number of items.
     pub(crate) fn len(&self) -> usize
         ensures { result ≡ length self.now }
     {
@@ -125,7 +122,6 @@ impl<W: Packable> Packed<W> {
         }
     }
 
-    /// The value at an index.
     #[inline(always)]
     pub(crate) fn at(&self, place: usize) -> W
         requires { place < length self.now }
@@ -138,7 +134,6 @@ impl<W: Packable> Packed<W> {
         }
     }
 
-    /// Appends a value. If a number of the value does not fit in 4 bytes, every number takes 8 bytes from then on.
     #[inline(always)]
     pub(crate) fn push(&mut self, item: W) -> Result<(), AllocError>
         ensures ok { OnOk result (self.new ≡ self.old ++ item ∷ []) }
@@ -159,8 +154,6 @@ impl<W: Packable> Packed<W> {
         Ok(())
     }
 
-    /// Replaces the value at an index. If a number of the new value does not fit in 4 bytes, every number takes 8 bytes
-    /// from then on.
     #[inline(always)]
     pub(crate) fn set(&mut self, place: usize, item: W) -> Result<(), AllocError>
         requires { place < length self.old }
@@ -182,7 +175,7 @@ impl<W: Packable> Packed<W> {
         Ok(())
     }
 
-    /// A copy of the list's values, with 8 bytes for each number.
+    /// The values, with 8 bytes for each number.
     #[inline(never)]
     fn widened(&self) -> Result<Vec<W>, AllocError>
         ensures { IfOk result (λ wide. wide.items ≡ self.now) }

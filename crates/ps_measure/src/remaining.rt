@@ -1,4 +1,4 @@
-//! The graph of the edges that remain within a region when a player moves by a table.
+//! The edges that remain within a region when a player moves by a table.
 
 ghost use Rattle.std.specs.Prelude.{◌≡◌, ◌<◌};
 ghost use Rattle.ps_game.specs.Games.{vertex_count};
@@ -38,7 +38,7 @@ impl<'a, A: Arena> Model for Remaining<'a, A> {
 }
 
 impl<'a, A: Arena> Remaining<'a, A> {
-    /// Whether an edge from one given vertex to another, if the game has it, remains within the region.
+    /// Whether an edge remains, if the game has it.
     fn keeps(&self, from: usize, to: usize) -> bool
         requires from { from < vertex_count self.now.game }
         requires to { to < vertex_count self.now.game }

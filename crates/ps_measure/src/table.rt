@@ -1,4 +1,4 @@
-//! The table in which the computed counts of all vertices are stored.
+//! The computed counts of all vertices.
 
 ghost use Rattle.std.specs.Prelude.{◌≡◌, ℕ, ◌<◌, ◌≤◌, [], Some, IfOk, OnOk, length, max, slice_get, slice_index};
 ghost use Rattle.std.specs.Prelude.{slice_index_or};
@@ -11,8 +11,8 @@ use ps_game::NonzeroCount;
 use std::alloc::{AllocError, Global};
 use std::marker::Model;
 
-/// A cell of a linked list: a count of a vertex, the index of the count's priority, and the number of the next cell of
-/// the same vertex. Cells are numbered from 1; 0 means none.
+/// A cell of a linked list: a count of a vertex, the index of its priority, and the number of the vertex's next cell.
+/// Cells are numbered from 1; 0 means none.
 #[derive(Clone, Copy, Debug)]
 pub struct CountCell {
     pub(crate) place: usize,
@@ -54,8 +54,7 @@ impl Packable for CountCell {
     }
 }
 
-/// A row of counts for each vertex. Only nonzero counts take memory: the counts of a vertex are stored in a chain
-/// (linked list) of cells by falling index, given by the number of the chain's first cell.
+/// A row of counts for each vertex. Only nonzero counts take memory, in a linked list of cells by falling index.
 #[derive(Debug, Drop)]
 pub struct CountTable {
     width: usize,
@@ -75,7 +74,6 @@ impl Model for CountTable {
 }
 
 impl CountTable {
-    /// A table of `count` rows with `width` counts each, all 0.
     pub(crate) fn new(alloc: Global, count: usize, width: usize) -> Result<Self, AllocError>
         ensures { IfOk result (λ table. AreZero table count width) }
     {
@@ -86,21 +84,21 @@ impl CountTable {
         })
     }
 
-    /// The number of rows, which is the number of vertices.
+    /// The number of rows, one for each vertex.
     pub fn len(&self) -> usize
         ensures { result ≡ length self.now }
     {
         self.heads.len()
     }
 
-    /// The number of counts in each row, including those that are 0.
+    /// The number of counts in each row, zeros included.
     pub fn width(&self) -> usize
         ensures { (v : ℕ) → v < length self.now → width_of self.now v ≡ result }
     {
         self.width
     }
 
-    /// Raises one count of a vertex to a given value. The vertex's counts at this index and all later ones must be 0.
+    /// Raises one count of a vertex. Those at this index and all later ones must be 0.
     pub(crate) fn put(&mut self, vertex: usize, place: usize, count: u64) -> Result<(), AllocError>
         requires vertex { vertex < length self.old }
         requires place { place < width_of self.old vertex }
@@ -113,7 +111,7 @@ impl CountTable {
         self.heads.set(vertex, self.cells.len())
     }
 
-    /// Replaces the contents of a list by the counts of a vertex, one for each priority. Fails if out of memory.
+    /// Replaces a list by the counts of a vertex, one for each priority. Fails if out of memory.
     pub fn row_into(&self, vertex: usize, row: &mut Vec<u64>) -> Result<(), AllocError>
         requires { vertex < length self.now }
         ensures { OnOk result (slice_get self.now vertex ≡ Some row.new.items) }
@@ -124,7 +122,7 @@ impl CountTable {
         Ok(())
     }
 
-    /// Replaces the contents of a list by the nonzero counts of a vertex, by ascending index. Fails if out of memory.
+    /// Replaces a list by the nonzero counts of a vertex, by ascending index. Fails if out of memory.
     pub fn nonzero_into(
         &self,
         vertex: usize,
@@ -148,8 +146,7 @@ impl CountTable {
     }
 }
 
-/// Raises each count of a vertex's row to the count that a chain of cells stores for the same index, if the stored
-/// count is larger.
+/// Raises each count of a row to the one that the list from the cell `head` has for its index, if that is larger.
 fn raise_by(cells: &Packed<CountCell>, head: usize, row: &mut Vec<u64>)
     requires chained { AreChained (length row.old.items) cells.now }
     requires head { head ≤ length cells.now }
@@ -167,11 +164,11 @@ fn raise_by(cells: &Packed<CountCell>, head: usize, row: &mut Vec<u64>)
     }
 }
 
-/// The priorities of a game by which a player loses, and the counts of each vertex for these priorities.
+/// The priorities by which a player loses, and the counts of each vertex for them.
 #[derive(Debug, Drop)]
 pub struct Ranks {
-    /// The priorities of the game by which the player loses, in ascending order.
+    /// The priorities of the game by which the player loses, ascending.
     pub priorities: Vec<u64>,
-    /// For each vertex, a row with one count for each priority in `priorities`, in the same order.
+    /// For each vertex, one count for each of `priorities`, in their order.
     pub counts: CountTable,
 }

@@ -1,4 +1,4 @@
-//! Claimed solutions of a game, written as certificates: without counts, and with the counts of both players.
+//! Claimed solutions as certificates.
 
 ghost use Rattle.std.specs.Prelude.{◌≡◌, ◌<◌, length, [], Some, IfOk, OnOk, ◌++◌, ◌∷◌};
 ghost use Rattle.ps_game.specs.Games.{vertex_count};
@@ -13,18 +13,14 @@ use std::alloc::{AllocError, Global};
 /// A claimed solution of a game.
 #[derive(Drop)]
 pub(crate) struct Solution<'a, A: Arena> {
-    /// The game.
     pub(crate) arena: &'a A,
-    /// The vertices that player 0 is claimed to win.
     pub(crate) won: &'a Region,
-    /// The moves of player 0.
     pub(crate) first: &'a Strategy,
-    /// The moves of player 1.
     pub(crate) second: &'a Strategy,
     ghost sized: { AreSizedFor (A.game arena.now) won.now first.now second.now },
 }
 
-/// A claimed solution, written as a certificate without priorities and counts.
+/// The certificate without priorities and counts.
 pub(crate) fn claim_of<A: Arena>(
     alloc: Global,
     solution: &Solution<'_, A>,
@@ -44,8 +40,6 @@ pub(crate) fn claim_of<A: Arena>(
     })
 }
 
-/// The certificate's entry for each vertex: its claimed winner, the winner's move, and the vertex's counts in the
-/// winner's table.
 pub(crate) fn entries_of<A: Arena>(
     alloc: Global,
     solution: &Solution<'_, A>,
@@ -70,7 +64,6 @@ pub(crate) fn entries_of<A: Arena>(
     Ok(entries)
 }
 
-/// The table of the player who is claimed to win a vertex.
 fn winner_rows<'a>(
     vertex: usize,
     won: &Region,
@@ -87,7 +80,7 @@ fn winner_rows<'a>(
     }
 }
 
-/// The player who is claimed to win a vertex, and this player's move if the player owns the vertex.
+/// The claimed winner of a vertex, and its move there.
 fn claim_at<A: Arena>(solution: &Solution<'_, A>, vertex: usize) -> (Player, Option<usize>)
     requires { vertex < vertex_count (A.game solution.now.arena.now) }
     ensures winner { result.0 ≡ winner_by solution.now.won.now vertex }

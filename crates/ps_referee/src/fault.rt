@@ -1,4 +1,4 @@
-//! The reasons why a claimed solution is rejected.
+//! Why a solution is rejected.
 
 ghost use Rattle.std.specs.Prelude.{◌≡◌};
 ghost use Rattle.ps_referee.specs.declared.fault.JudgeFault.TheVariants.{OutOfMemory};
@@ -8,19 +8,18 @@ use ps_game::GameFault;
 use std::alloc::AllocError;
 use thiserror::Error;
 
-/// The reason why a claimed solution is rejected. Vertices are given by their indices, from 0.
+/// Why a solution is rejected. Vertices are given by their indices.
 #[derive(Debug, Drop, Error)]
 pub enum JudgeFault {
-    /// A move is wrong, or a remaining edge leads to a vertex that the other player wins.
+    /// A move is wrong, or a remaining edge leads to the other player's region.
     #[error("{}", .0.name())]
     Unclosed(Flaw),
-    /// Among the vertices that a player is claimed to win, there is a cycle of remaining edges that the player loses.
+    /// The claimed winner of these vertices loses a cycle.
     #[error("player {player} loses a cycle of {} vertices", .cycle.len())]
     BadCycle {
         /// The player, 0 or 1.
         player: u8,
-        /// The vertices of the cycle. An edge leads from each vertex of the cycle to the next, and from the last to the
-        /// first.
+        /// An edge leads from each vertex to the next, and from the last to the first.
         cycle: Vec<usize>,
     },
     /// Out of memory.

@@ -1,4 +1,4 @@
-//! The call that judges a claimed solution, and the call that makes the certificate of a solution known to be correct.
+//! Judges claimed solutions.
 
 ghost use Rattle.std.specs.Prelude.{◌≡◌, ℕ, ◌<◌, length, not, IfOk, IfErr, OnOk};
 ghost use Rattle.ps_game.specs.Games.{vertex_count};
@@ -16,17 +16,12 @@ use ps_game::{Arena, Counts, Player, Region, Strategy};
 use ps_measure::{MeasureFault, Ranks, ranks};
 use std::alloc::{AllocError, Global};
 
-/// Judges a solution, and returns its certificate. The solution consists of the vertices that player 0 wins, and of a
-/// table of moves for each player; player 1 wins all other vertices. The certificate has the winners and moves of the
-/// solution, and the least counts. Only the moves of the winners at their own vertices are checked.
+/// The certificate of a solution, with the least counts. Player 0 wins `won`, player 1 the rest.
 ///
 /// # Errors
 ///
-/// A wrong solution is rejected. If the moves and edges of a solution have a flaw, the error is
-/// [`JudgeFault::Unclosed`] with the first flaw, as [`ps_certificate::closed`] reports it. If a wrong solution has no
-/// such flaw, the error is [`JudgeFault::BadCycle`] with a cycle of remaining edges that is lost by the player who is
-/// claimed to win the cycle's vertices. If out of memory, the error is [`JudgeFault::OutOfMemory`]; a correct solution
-/// has no other error.
+/// [`JudgeFault::Unclosed`] has the first flaw, as [`ps_certificate::closed`] reports it; [`JudgeFault::BadCycle`] has
+/// a lost cycle of a solution without a flaw; [`JudgeFault::OutOfMemory`] is the only error of a right one.
 pub fn judge<A: Arena>(
     alloc: Global,
     arena: &A,
@@ -36,12 +31,10 @@ pub fn judge<A: Arena>(
 ) -> Result<Certificate, JudgeFault>
     requires sized { AreSizedFor (A.game arena.now) won.now first.now second.now }
 
-    // Unless out of memory, the result is Ok exactly if the solution is correct: each player's moves stay among the
-    // vertices that the player is claimed to win, and win from each of them.
+    // Right means that each player's moves stay among the vertices that it is claimed to win, and win there.
     ensures solution { OnOk result (IsSolution (A.game arena.now) won.now first.now second.now) }
     ensures judged { IsSolution (A.game arena.now) won.now first.now second.now → IfErr result IsOutOfMemory }
 
-    // The certificate has the winners and moves of the solution.
     ensures certificate { IfOk result (IsCertificateOf (A.game arena.now) won.now first.now second.now) }
 
     ensures refused { IfErr result (IsRefusal (A.game arena.now) won.now first.now second.now) }
@@ -57,8 +50,8 @@ pub fn judge<A: Arena>(
     counting(alloc, &solution)
 }
 
-/// The certificate of a solution that is known to be correct; the solution is not checked. The certificate has the
-/// solution's winners and moves, and the least counts. Fails only if out of memory.
+/// The certificate, with the least counts, of a solution that is right, which is not checked. Fails only if out of
+/// memory.
 pub fn certificate_of_solution<A: Arena>(
     alloc: Global,
     arena: &A,
@@ -69,7 +62,6 @@ pub fn certificate_of_solution<A: Arena>(
     requires sized { AreSizedFor (A.game arena.now) won.now first.now second.now }
     requires holds { IsSolution (A.game arena.now) won.now first.now second.now }
 
-    // The certificate has the winners and moves of the solution.
     ensures certificate { IfOk result (IsCertificateOf (A.game arena.now) won.now first.now second.now) }
 {
     let _vertices = arena.count();
@@ -92,7 +84,7 @@ pub fn certificate_of_solution<A: Arena>(
     }
 }
 
-/// Checks that no move of a solution is wrong, and that each remaining edge leads to a vertex with the same winner.
+/// Checks that there is no flaw.
 fn closing<A: Arena>(alloc: Global, solution: &Solution<'_, A>) -> Result<(), JudgeFault>
     ensures closed { OnOk result
         (IsClosed (A.game solution.now.arena.now) (claimed (A.game solution.now.arena.now) solution.now.won.now
@@ -107,9 +99,7 @@ fn closing<A: Arena>(alloc: Global, solution: &Solution<'_, A>) -> Result<(), Ju
     }
 }
 
-/// The certificate of a solution without a flaw in its moves and edges. If a solution without a flaw is wrong, the
-/// fault is out of memory, or a cycle of remaining edges that is lost by the player who is claimed to win the cycle's
-/// vertices.
+/// The certificate of a solution without a flaw, or a lost cycle.
 fn counting<A: Arena>(alloc: Global, solution: &Solution<'_, A>) -> Result<Certificate, JudgeFault>
     requires { IsClosed (A.game solution.now.arena.now)
         (claimed (A.game solution.now.arena.now) solution.now.won.now solution.now.first.now solution.now.second.now) }
@@ -133,7 +123,6 @@ fn counting<A: Arena>(alloc: Global, solution: &Solution<'_, A>) -> Result<Certi
     })
 }
 
-/// The vertices that are not in a region.
 fn others(alloc: Global, region: &Region) -> Result<Region, AllocError>
     ensures places { IfOk result (λ others. length others ≡ length region.now) }
     ensures others { IfOk result (λ others. (v : ℕ) → v < length region.now → has others v ≡ not (has region.now v)) }
@@ -143,8 +132,7 @@ fn others(alloc: Global, region: &Region) -> Result<Region, AllocError>
     Ok(others)
 }
 
-/// The least counts for the vertices that a player is claimed to win, or a cycle through some of these vertices that
-/// the player loses.
+/// The least counts for the vertices that a player is claimed to win, or a cycle there that it loses.
 fn counts_of<A: Arena>(
     alloc: Global,
     arena: &A,

@@ -1,5 +1,4 @@
-//! Laws (theorems): each claimed solution has a verdict, which is unique, except that any one of several cycles that a
-//! player loses may be reported.
+//! Laws (theorems): each solution has one verdict, but for which lost cycle is reported.
 
 ghost use Rattle.std.specs.Prelude.{◌≡◌, ◌⊎◌, ℕ, List, Option, Bool};
 ghost use Rattle.ps_game.specs.Games.{ParityGame, IsGame};
@@ -13,9 +12,8 @@ pub fn one_certificate()
         IsCertificateOf game won first second one → IsCertificateOf game won first second other → one ≡ other }
 {}
 
-/// A solution never has both a flaw and a cycle that may be reported (`IsCycleOf`), and the same player loses all
-/// cycles that may be reported. A correct solution has neither a flaw nor a cycle that may be reported. The first flaw
-/// of a solution is unique (`ps_certificate::first_flaw_is_one`).
+/// A solution never has both a flaw and a lost cycle (`IsCycleOf`); one player loses all of these; a right solution has
+/// neither. The first flaw is unique (`ps_certificate::first_flaw_is_one`).
 pub fn one_verdict()
     ensures apart { (game : ParityGame) (won : List Bool) (first second : List (Option ℕ)) (flaw : Flaw) (player : ℕ)
         (cycle : List ℕ) → IsFirstFlaw game (claimed game won first second) flaw →
@@ -29,8 +27,7 @@ pub fn one_verdict()
         (cycle : List ℕ) → IsSolution game won first second → ¬ IsCycleOf game won first second player cycle }
 {}
 
-/// A claimed solution is correct and has a certificate, or has a first flaw, or has a cycle of remaining edges that is
-/// lost by the player who is claimed to win the cycle's vertices.
+/// A solution is right and has a certificate, or has a first flaw, or a lost cycle.
 pub fn solution_is_judged()
     ensures { (game : ParityGame) (won : List Bool) (first second : List (Option ℕ)) → IsGame game →
         (IsSolution game won first second ×

@@ -1,4 +1,4 @@
-//! The region and the strategies that follow from the winners and moves once every vertex is decided.
+//! What follows once every vertex is decided.
 
 ghost use Rattle.std.specs.Prelude.{◌≡◌, IfOk, length};
 ghost use Rattle.ps_game.specs.Games.{vertex_count};
@@ -8,7 +8,7 @@ use ps_attractor::Tables;
 use ps_game::{Arena, Player, Region, Strategy, Width};
 use std::alloc::{AllocError, Global};
 
-/// The set of the vertices that player 0 wins, given the winner of each vertex. Fails if out of memory.
+/// The vertices that player 0 wins.
 pub fn region_of(alloc: Global, winner: &[Player]) -> Result<Region, AllocError>
     ensures places { IfOk result (λ region. length region ≡ length winner.now) }
     ensures won { IfOk result (IsWonRegionTo winner.now (length winner.now)) }
@@ -22,7 +22,7 @@ pub fn region_of(alloc: Global, winner: &[Player]) -> Result<Region, AllocError>
     Ok(region)
 }
 
-/// The moves of a player at the vertices that the player owns and wins. Fails if out of memory.
+/// The moves of a player at the vertices that it owns and wins.
 pub fn strategy_of<A: Arena, W: Width>(
     alloc: Global,
     arena: &A,

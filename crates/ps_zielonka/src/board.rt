@@ -1,5 +1,4 @@
-//! The board records the level, the move and the winner of each vertex. The board's methods attract vertices to a
-//! player, test whether the player keeps the attractor's target vertices (tops), and take vertices off the trail.
+//! What is known of each vertex.
 
 ghost use Rattle.std.specs.Prelude.{◌≡◌, ◌≢◌, ◌+◌, ◌-◌, ◌<◌, ◌≤◌, ℕ, Bool, false, IfSome, IfNone, OnOk, IsTrue, length};
 ghost use Rattle.std.specs.Prelude.{take, slice_index, replicate, IfOk, []};
@@ -22,17 +21,16 @@ use std::alloc::{AllocError, Global};
 /// The level, the move and the winner of each vertex.
 #[derive(Drop)]
 pub struct Board<W: Width> {
-    /// The attractor's tables: the level and the move of each vertex; and the trail, which lists the vertices that were
-    /// decided or attracted (placed), in order.
+    /// The attractor's tables; their trail lists the placed (decided or attracted) vertices in order.
     pub tables: Tables<W>,
-    /// The winner of each vertex that was decided or attracted; any player for all other vertices.
+    /// The winner of each placed vertex.
     pub winner: Vec<Player>,
-    /// A buffer for the vertices that `reopen` takes off the trail.
+    /// A buffer for `reopen`.
     pub spare: Numbers<W>,
 }
 
 impl<W: Width> Board<W> {
-    /// The initial board, on which none of `count` vertices is decided. Fails if out of memory.
+    /// A board without decided vertices.
     pub fn undecided(alloc: Global, count: usize) -> Result<Board<W>, AllocError>
         requires { count ≤ W.LIMIT }
         ensures levels { IfOk result (λ board. board.tables.level ≡ replicate count (code_of Level.Unplaced)) }
@@ -47,8 +45,8 @@ impl<W: Width> Board<W> {
         })
     }
 
-    /// Extends the trail by the player's attractor to the vertices of the trail from index `begin` on, and records the
-    /// player as the winner of all vertices of the trail from this index on. Fails if out of memory.
+    /// Extends the trail by the player's attractor to its vertices from index `begin` on, all of which the player then
+    /// wins.
     pub fn attract<A: Arena>(
         &mut self,
         edges: &Adjacency<'_, A, W>,
@@ -72,7 +70,6 @@ impl<W: Width> Board<W> {
         Ok(())
     }
 
-    /// Records the player as the winner of all vertices of the trail from index `begin` on.
     fn give(&mut self, player: Player, begin: usize)
         requires begin { begin ≤ length self.old.tables.trail }
         requires winners { (j : ℕ) → j < length self.old.tables.trail →
@@ -86,8 +83,7 @@ impl<W: Width> Board<W> {
         }
     }
 
-    /// Whether the player keeps each top, a target vertex of its attractor, as `keeps` states; then the player wins all
-    /// vertices that the opponent did not win. Writes the player's moves at the tops.
+    /// Whether the player keeps each top, at which its moves are written. Then it wins all that the opponent did not.
     pub fn is_kept<A: Arena>(
         &mut self,
         edges: &Adjacency<'_, A, W>,
@@ -116,10 +112,8 @@ impl<W: Width> Board<W> {
         true
     }
 
-    /// Whether the player keeps a vertex, that is, can make each play within the subgame go on from it to a vertex that
-    /// the player won. The player keeps a vertex of its own if the vertex has a successor of a higher level than
-    /// `placed` that the player won; the first such successor then becomes the vertex's move. The player keeps a vertex
-    /// of the opponent if the vertex has no successor of a higher level than `placed` that the opponent won.
+    /// Whether the player can make each play within the subgame (of levels above `placed`) go on from a vertex to one
+    /// that it won. At its own vertex, the first such successor becomes its move.
     fn keeps<A: Arena>(
         &mut self,
         edges: &Adjacency<'_, A, W>,
@@ -149,8 +143,6 @@ impl<W: Width> Board<W> {
         }
     }
 
-    /// The first of a vertex's successors that have a higher level than `placed` and were won by the player; `None` if
-    /// the vertex has no such successor.
     fn won_successor<A: Arena>(
         &self,
         edges: &Adjacency<'_, A, W>,
@@ -176,8 +168,8 @@ impl<W: Width> Board<W> {
         None
     }
 
-    /// Removes the vertices at index `turn` and later from the trail. A vertex that the player won gets the level
-    /// `Unplaced`; any other vertex is appended to the trail again, with the given level. Fails if out of memory.
+    /// Takes the vertices from index `turn` on off the trail: those that the player won become `Unplaced`, and the
+    /// others return with the given level.
     pub fn reopen(&mut self, frame: &Frame, placed: PlacedLevel) -> Result<(), AllocError>
         requires turn { HasTurn self.old.tables W.LIMIT frame.now.turn }
         requires winners { length self.old.winner.items ≡ length self.old.tables.level }
@@ -199,8 +191,6 @@ impl<W: Width> Board<W> {
         Ok(())
     }
 
-    /// Removes the vertices at index `turn` and later from the trail, and stores them in `spare`. Fails if out of
-    /// memory.
     fn take_off(&mut self, turn: usize) -> Result<(), AllocError>
         requires { HasTurn self.old.tables W.LIMIT turn }
         ensures winner { self.new.winner.items ≡ self.old.winner.items }

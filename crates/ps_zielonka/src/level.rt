@@ -1,24 +1,22 @@
-//! The state of a vertex in the nested recursive calls of the solver.
+//! How far a vertex is decided.
 
 ghost use Rattle.std.specs.Prelude.{◌≡◌, ◌<◌, ◌≤◌};
 ghost use Rattle.ps_zielonka.specs.declared.level.TheConstants.{UNPLACED};
 ghost use Rattle.ps_zielonka.specs.Inner.Levels.{code_of};
 
-/// The code of the level `Unplaced`.
 const UNPLACED: usize = usize::MAX;
 
-/// The state of a vertex in the nested recursive calls of the solver. The depth of a recursive call is the number of
-/// calls that are pending when it runs.
+/// The state of a vertex. The depth of a call is the number of calls that wait when it runs.
 #[derive(Clone, Copy)]
 pub enum Level {
-    /// The vertex was decided by a call: its winner and its move are final within this call.
+    /// Its winner and its move are final within this call.
     Decided {
-        /// The depth of the recursive call.
+        /// The depth of the call.
         depth: usize,
     },
-    /// The vertex was attracted in the current iteration of a call, or is in the attractor's target.
+    /// Attracted in the current iteration of this call, or a top.
     Attracted {
-        /// The depth of the recursive call.
+        /// The depth of the call.
         depth: usize,
     },
     /// Not placed yet.
@@ -26,7 +24,7 @@ pub enum Level {
 }
 
 impl Level {
-    /// The number that represents the level in the tables.
+    /// The number of the level in the tables.
     pub fn code(self) -> usize
         requires { code_of self ≤ usize.MAX }
         ensures { result ≡ code_of self }
@@ -39,7 +37,7 @@ impl Level {
     }
 }
 
-/// The level of a vertex that was decided or attracted.
+/// The level of a placed vertex.
 #[derive(Clone, Copy)]
 pub struct PlacedLevel {
     /// Any level but `Unplaced`.

@@ -1,4 +1,4 @@
-//! The stack of pending recursive calls, and the solver's steps down into a subgame and back up.
+//! The steps down into a subgame and back up.
 
 ghost use Rattle.std.specs.Prelude.{◌≡◌, ◌≢◌, ◌+◌, ◌-◌, ◌*◌, ◌<◌, ◌≤◌, ℕ, Bool, true, false, [], ◌∷◌, ◌++◌, IfOk, OnOk};
 ghost use Rattle.std.specs.Prelude.{IsTrue, None, length, slice_index};
@@ -17,29 +17,27 @@ use ps_attractor::{Adjacency, Tables};
 use ps_game::{Arena, Numbers, Player, Width};
 use std::alloc::{AllocError, Global};
 
-/// The state of the solver: the pending recursive calls, the decisions so far, and where the search for the greatest
-/// undecided priority continues.
+/// The state of the solver.
 #[derive(Drop)]
 pub struct Nest<W: Width> {
-    /// The level, the move and the winner of each vertex.
+    /// What is known of each vertex.
     pub board: Board<W>,
-    /// All vertices of the game, by descending priority.
+    /// All vertices, by descending priority.
     pub order: Numbers<W>,
-    /// The pending calls.
+    /// The calls that wait.
     pub frames: Vec<Frame>,
-    /// An index into `order`; no vertex before it is undecided in the current call.
+    /// No earlier vertex in `order` is undecided in the current call.
     pub cursor: usize,
-    /// Whether the current recursive call is solved.
+    /// Whether the current call is solved.
     pub solved: bool,
-    /// The maximal number of pending recursive calls so far.
+    /// The most calls that have waited so far.
     pub depth: usize,
-    /// How often a vertex was placed (decided or attracted), counted over all vertices and capped at the largest 64-bit
-    /// number.
+    /// How often vertices were placed, capped.
     pub work: u64,
 }
 
 impl<W: Width> Nest<W> {
-    /// The initial state of the solver, in which no vertex is decided and no call is pending. Fails if out of memory.
+    /// No vertex is decided, and no call waits.
     pub fn new<A: Arena>(alloc: Global, edges: &Adjacency<'_, A, W>) -> Result<Nest<W>, AllocError>
         ensures stack { IfOk result (IsStack (A.game edges.now.arena.now)) }
         ensures deep { IfOk result (IsDeep (A.game edges.now.arena.now)) }
@@ -55,8 +53,7 @@ impl<W: Width> Nest<W> {
         })
     }
 
-    /// Decides each vertex, or stops because a budget is used up: vertices were decided or attracted `budget` times or
-    /// more. Returns whether all vertices are decided. Fails if out of memory.
+    /// Decides each vertex, or stops once vertices were placed `budget` times; returns whether all are decided.
     pub fn solve<A: Arena>(
         &mut self,
         edges: &Adjacency<'_, A, W>,
@@ -80,15 +77,13 @@ impl<W: Width> Nest<W> {
         Ok(true)
     }
 
-    /// Whether the budget for `work` is used up; false if there is no budget.
     fn has_spent(&self, budget: Option<u64>) -> bool
         ensures { budget ≡ None → result ≡ false }
     {
         budget.is_some_and(|most| self.work >= most)
     }
 
-    /// Begins an iteration of the current call if a vertex with the level `Unplaced` remains; otherwise records that
-    /// the call is solved. Fails if out of memory.
+    /// Begins an iteration if an undecided vertex remains; else the current call is solved.
     fn descend<A: Arena>(&mut self, edges: &Adjacency<'_, A, W>) -> Result<(), AllocError>
         requires { IsSearching (A.game edges.now.arena.now) self.old }
         ensures { OnOk result (IsStep (A.game edges.now.arena.now) self.old self.new) }
@@ -102,11 +97,7 @@ impl<W: Width> Nest<W> {
         }
     }
 
-    /// Begins an iteration of the current call. The vertex at index `cursor` of `order` is undecided and has the
-    /// greatest priority of all undecided vertices. Computes the attractor to all undecided vertices of the greatest
-    /// priority, for the player who wins by that priority. In every call except the first, the attractor's target also
-    /// has each undecided vertex whose priority exceeds all priorities of the other parity among the undecided
-    /// vertices. Fails if out of memory.
+    /// Begins an iteration at the first undecided vertex of `order`. In the first call, all tops have its priority.
     fn begin_turn<A: Arena>(
         &mut self,
         edges: &Adjacency<'_, A, W>,
@@ -145,8 +136,7 @@ impl<W: Width> Nest<W> {
         Ok(())
     }
 
-    /// Returns to the last pending call, which is then solved or continues with the vertices that are still undecided.
-    /// Fails if out of memory.
+    /// Returns to the last call that waits.
     fn climb<A: Arena>(&mut self, edges: &Adjacency<'_, A, W>) -> Result<(), AllocError>
         requires { IsReturning (A.game edges.now.arena.now) self.old }
         ensures { OnOk result (IsStep (A.game edges.now.arena.now) self.old self.new) }
@@ -165,9 +155,7 @@ impl<W: Width> Nest<W> {
         }
     }
 
-    /// Decides the vertices that the opponent won in the recursive call, and those that the opponent attracts to them.
-    /// The call that waited for the recursive call then continues with the vertices that are still undecided. Fails if
-    /// out of memory.
+    /// Decides what the opponent won in the recursive call, and attracts to it.
     fn go_on<A: Arena>(
         &mut self,
         edges: &Adjacency<'_, A, W>,
@@ -198,7 +186,7 @@ impl<W: Width> Nest<W> {
     }
 }
 
-/// Adds the number of vertices in the trail from index `turn` on to `work`; the sum is capped at the largest `u64`.
+/// Adds the number of vertices in the trail from index `turn` on.
 fn work_behind<W: Width>(work: u64, tables: &Tables<W>, turn: usize) -> u64 {
     let placed = tables.placed().saturating_sub(turn);
     work.saturating_add(placed as u64)

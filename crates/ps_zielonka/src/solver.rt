@@ -1,4 +1,4 @@
-//! The functions that solve a parity game.
+//! The calls.
 
 ghost use Rattle.std.specs.Prelude.{◌≡◌, IfOk, IfSome, IfNone, OnOk, OnSome};
 ghost use Rattle.ps_attractor.specs.Room.{HasRoom};
@@ -12,12 +12,10 @@ use ps_attractor::{Adjacency, has_room, no_room};
 use ps_game::{Arena, Counts, Player, Region, Strategy, Width};
 use std::alloc::{AllocError, Global};
 
-/// The vertices of a game that player 0 wins, the moves by which player 0 wins them, and the moves by which player 1
-/// wins all other vertices.
+/// The vertices that player 0 wins, its moves there, and player 1's moves at all others.
 ///
-/// Fails if out of memory. For games with 2^63 - 2 vertices or more, or 2^64 edges or more, the call always returns the
-/// out-of-memory error. Lack of memory is the only error: each vertex of a game is won by one of the players, so there
-/// is always a solution.
+/// Out of memory is the only error, since each game has a solution; games with 2^63 - 2 vertices or more, or 2^64 edges
+/// or more, always have it.
 pub fn regions<A: Arena>(
     alloc: Global,
     arena: &A,
@@ -36,7 +34,7 @@ pub fn regions<A: Arena>(
     }
 }
 
-/// Like `regions`, computed with tables that store integers of the type `W`. Fails if out of memory.
+/// Like `regions`, in tables of the type `W`. Fails if out of memory.
 pub fn regions_in<A: Arena, W: Width>(
     alloc: Global,
     arena: &A,
@@ -53,11 +51,8 @@ pub fn regions_in<A: Arena, W: Width>(
     answer_by(alloc, arena, &mut counts.depth, &nest)
 }
 
-/// The result of `regions`, or `None` if a budget is used up first. The budget is used up if vertices are decided or
-/// attracted `budget` times or more before all vertices are decided. No clause bounds how often vertices are attracted,
-/// since a vertex can be attracted again and again.
-///
-/// Fails if out of memory, like `regions`.
+/// The result of `regions`, or `None` if vertices are decided or attracted `budget` times before all are decided. No
+/// clause bounds how often that happens, since a vertex can be attracted again and again. Fails if out of memory.
 pub fn regions_within<A: Arena>(
     alloc: Global,
     arena: &A,
@@ -78,7 +73,6 @@ pub fn regions_within<A: Arena>(
     }
 }
 
-/// Like `regions_within`, computed with tables that store integers of the type `W`. Fails if out of memory.
 fn answer_within<A: Arena, W: Width>(
     alloc: Global,
     arena: &A,
@@ -98,8 +92,7 @@ fn answer_within<A: Arena, W: Width>(
     Ok(Some(answer))
 }
 
-/// The region and the two strategies in the final state of the solver. The maximal number of pending calls is written
-/// to `depth`. Fails if out of memory.
+/// The solution of the final state.
 fn answer_by<A: Arena, W: Width>(
     alloc: Global,
     arena: &A,
