@@ -33,7 +33,7 @@ class Forms(unittest.TestCase):
 
     def test_each_row_of_a_table_has_all_cells(self):
         tables = [(name, table) for name in ALL for table in documents.tables_of(documents.read(name))]
-        self.assertGreater(len(tables), 40)
+        self.assertGreater(len(tables), 30)
         self.found([f"{name}:{at}: {count} cells of {table[0][1]}" for name, table in tables for at, count in table if count != table[0][1]])
 
     def test_a_row_that_is_broken_is_seen(self):

@@ -14,10 +14,10 @@ from upkeep.sweeps import TOP
 
 GOALS = "goals: 38,000 words, 120 words of comments, 19 to 31 pronouns, 2 sentences that repeat"
 BOUNDS = {
-    "words": 46000,
+    "words": 38000,
     "comments": 170,
-    "pronouns": (8, 38),
-    "repetitions": 5,
+    "pronouns": (19, 31),
+    "repetitions": 2,
 }
 SHORT = 300
 MADE = ("docs/PROMISE.md",)  # made from specs/

@@ -39,7 +39,7 @@ CLAUSES = {
 GAME = (
     "The game is the one that this automaton defines ({is_game}), and each player wins every loop of every play from its own vertices by the "
     "moves of the certificate ({both_hold}).",
-    "No strategy wins from the other vertices, whatever its memory ({none_wins_outside}).",
+    "No strategy of finite memory wins from the other vertices ({none_wins_outside}).",
 )
 # A sentence on a circuit that was not printed with the game, in the place of the first of the following ones, by the command
 # that judged it and by the player.
