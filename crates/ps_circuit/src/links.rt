@@ -9,12 +9,10 @@ use crate::parts::Gate;
 use ps_ids::Ids;
 use std::alloc::{AllocError, Global};
 
-/// The indices of the gates that a gate reads.
+/// The indices of the gates that a gate reads, if its literals are gates.
 #[derive(Clone, Copy)]
 pub struct Links {
-    /// The gate of the first literal, if it is one.
     pub first: Option<usize>,
-    /// The gate of the second, if it is one.
     pub second: Option<usize>,
 }
 

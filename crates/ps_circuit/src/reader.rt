@@ -20,7 +20,7 @@ use ps_ids::Ids;
 use ps_text::cursor::Cursor;
 use std::alloc::Global;
 
-/// The parts that the text states, and what was noted for checks after it (undefined variables, cycles).
+/// The parts that a text states, and what was noted for checks.
 #[derive(Drop)]
 pub(crate) struct Draft {
     parts: Parts,

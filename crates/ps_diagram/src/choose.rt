@@ -14,15 +14,13 @@ use crate::store::Store;
 use crate::view::{Node, View};
 use std::alloc::AllocError;
 
-/// The sides of three nodes at the first proposition that one of them tests.
+/// The sides of three nodes at the first proposition that one of them tests: `one` is taken where `truth` has a leaf,
+/// and `other` elsewhere.
 #[derive(Clone, Copy)]
 pub(crate) struct Cut {
     pub proposition: u32,
-    /// Those of the first node, which decides between the others.
     pub truth: Sides,
-    /// Those of the second, which is taken where the first has a leaf.
     pub one: Sides,
-    /// Those of the third, which is taken where the first has none.
     pub other: Sides,
 }
 
@@ -40,7 +38,6 @@ impl Store {
         self.chosen(truth, one, other, &mut known)
     }
 
-    /// As `choose`, with a memo table.
     fn chosen(
         &mut self,
         truth: Node,

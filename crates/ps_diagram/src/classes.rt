@@ -42,8 +42,7 @@ pub struct Classes {
 }
 
 impl Store {
-    /// Divides the letters over the propositions of `split` into the classes of a node. This call copies the store, to
-    /// read the node from the copy.
+    /// The classes of a node's letters over the propositions of `split`. The node is read from a copy of the store.
     pub fn classes(&mut self, node: Node, split: u64) -> Result<Classes, AllocError>
         requires held { IsNode self.old node }
         ensures keeps { Keeps self.old self.new }
@@ -54,8 +53,8 @@ impl Store {
         Ok(classes)
     }
 
-    /// As `classes`, for a node of the store `other`, which this store began as a copy of. A node of `other` that
-    /// depends on no proposition of `split` is one of this store too, so its diagram isn't made again.
+    /// As `classes`, for a node of the store `other`, which this store began as a copy of. A node that depends on no
+    /// proposition of `split` is one of this store too, and not made again.
     pub fn classes_in_copy(
         &mut self,
         other: &Store,
@@ -111,8 +110,8 @@ impl Store {
         Ok(Classes { list, places })
     }
 
-    /// As `rests`, with memo tables. At each letter y, the node that remains after x has the leaf that `node` has at
-    /// the letter that agrees with x on `split`, and with y elsewhere.
+    /// As `rests`. The node that remains after x has, at each letter y, the leaf of `node` at the letter that agrees
+    /// with x on `split`, and with y elsewhere.
     fn divided(
         &mut self,
         other: &Store,
@@ -223,7 +222,6 @@ impl Store {
         Ok(made)
     }
 
-    /// As `tested`, for diagrams that test no proposition.
     fn tested_leaves(&mut self, proposition: u32, low: Node, high: Node) -> Result<Node, AllocError>
         requires leading { AreLeading self.old proposition low high }
         requires constant { AreConstants self.old low high }

@@ -29,7 +29,6 @@ impl Store {
         self.united(first, second, &mut known)
     }
 
-    /// As `either`, with a memo table.
     fn united(
         &mut self,
         first: Node,

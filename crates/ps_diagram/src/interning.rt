@@ -13,8 +13,8 @@ use std::marker::Model;
 /// The entry, in the table of leaves, of a leaf whose cell's index is not known.
 const UNKNOWN: u32 = u32::MAX;
 
-/// A list of different cells, found by a hash table. Half of the cells that are looked up are leaves, mostly small
-/// numbers, whose cells are found by a table indexed by the leaf.
+/// Different cells, found by a hash table. Half of those that are looked up are leaves, mostly small numbers, which are
+/// found by a table indexed by the leaf.
 #[derive(Debug, Drop)]
 pub(crate) struct Cells {
     list: PackedCells,

@@ -233,7 +233,6 @@ impl Store {
         self.mapped_by(other, node, rule, &mut known)
     }
 
-    /// As `mapped`, with a memo table.
     fn mapped_by<R: LeafRule>(
         &mut self,
         other: Option<&Store>,

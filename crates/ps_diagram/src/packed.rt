@@ -119,7 +119,6 @@ impl PackedCells {
         Ok(PackedCells { list })
     }
 
-    /// The cell at an index.
     #[inline(always)]
     pub(crate) fn at(&self, place: u32) -> View
         requires { place < length self.now }

@@ -151,7 +151,7 @@ impl Store {
         }
     }
 
-    /// The diagram with the leaf 1 where all literals are true.
+    /// The product that a label is, if it is one; aliases are not replaced by what they stand for.
     pub(crate) fn of_conjunction(&mut self, literals: &[Literal]) -> Result<Node, AllocError>
         requires within { (aliases : ℕ) ×
             AreOver aliases self.old.propositions (operands_in (literal_expressions literals.now)) }

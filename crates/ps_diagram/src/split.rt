@@ -18,9 +18,7 @@ pub(crate) struct Sides {
 #[derive(Clone, Copy)]
 pub(crate) struct Split {
     pub proposition: u32,
-    /// Those of the first node.
     pub left: Sides,
-    /// Those of the second.
     pub right: Sides,
 }
 

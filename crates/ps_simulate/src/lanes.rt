@@ -71,7 +71,7 @@ impl<'a> LaneSimulator<'a> {
         read_words(&self.plan.nexts, &self.values, &mut self.latches);
     }
 
-    /// The value of a latch in a run.
+    /// A latch's value in a run.
     pub fn latch(&self, lane: usize, number: usize) -> bool
         requires lane { lane < 256 }
         requires number { number < length self.now.circuit.latches }
@@ -134,7 +134,7 @@ fn work_words(gates: &[Operands], front: usize, values: &mut [[u64; 4]])
     }
 }
 
-/// Fills the table, which begins with the constant 0: the inputs, the latches and the gates.
+/// Fills the table after the constant 0: inputs, latches and gates.
 fn fill_words(
     gates: &[Operands],
     front: usize,

@@ -123,7 +123,7 @@ fn work(rows: &[Row], values: &mut [bool])
     }
 }
 
-/// Fills the table, which begins with the constant 0: the inputs, the latches and the gates.
+/// Fills the table after the constant 0: inputs, latches and gates.
 fn fill(rows: &[Row], inputs: &[bool], latches: &[bool], values: &mut [bool])
     requires { IsTableFor rows.now inputs.now latches.now values.old }
     ensures { IsWorkedOut rows.now inputs.now latches.now (length values.old) values.new }

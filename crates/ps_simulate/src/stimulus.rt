@@ -28,8 +28,8 @@ impl Model for Stimulus {
     ghost view = { λ s. record { stem = letters_of s.stem.items; lap = letters_of s.lap.items } };
 }
 
-/// Parses a stimulus, a line of digits for each letter. With `split`, a line `-` separates the stem from the lap;
-/// without it, all letters are the stem's. Fails with the first error in the text and its offset, or if out of memory.
+/// Parses a stimulus, a line of digits for each letter. With `split`, a line `-` comes between stem and lap; else there
+/// is no lap. Fails with the first error in the text and its offset, or if out of memory.
 pub fn parse_stimulus(
     alloc: Global,
     text: &[u8],
