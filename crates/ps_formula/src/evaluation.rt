@@ -62,9 +62,8 @@ fn letter_at(stem: &[u64], lap: &[u64], at: usize) -> u64
     }
 }
 
-/// The truth of a form of until or release at the start of the lap, and of no use for other operators. An until is true
-/// there if its right side makes it true within the first lap, a release unless its right side makes it false there:
-/// one pass over the lap tells.
+/// The truth of a form of until or release at the start of the lap. An until is true there if its right side makes it
+/// true within the first lap, a release unless its right side makes it false there: one pass tells.
 fn truth_at_lap(rows: &Rows, node: Node, stem: &[u64], lap: &[u64]) -> bool
     requires over { IsOver rows.now.count node }
     requires lasso { IsForLasso stem.now lap.now rows.now }
@@ -117,7 +116,7 @@ fn truth_here(rows: &Rows, node: Node, letter: u64, at: usize, next: bool) -> bo
     }
 }
 
-/// The truth of until or release at an index, by those of its sides and its own at the next.
+/// The same for until and release, by those of both sides.
 fn step(is_until: bool, left: bool, right: bool, next: bool) -> bool
     ensures { result ≡ step is_until left right next }
 {
