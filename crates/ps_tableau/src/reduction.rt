@@ -96,7 +96,7 @@ impl Board {
         false
     }
 
-    /// Whether a formula keeps another, or its end.
+    /// Whether a formula brings another back: it keeps it, or its end.
     fn brings(&self, from: u32, to: u32) -> bool
         requires board { IsBoard self.now }
         requires from { from < length self.now.formulas }
@@ -115,7 +115,7 @@ impl Board {
         }
     }
 
-    /// Whether a formula is another, or a release whose right side keeps it.
+    /// Whether a formula keeps another: it is that, or a release whose right side keeps it.
     fn keeps(&self, from: u32, to: u32) -> bool
         requires board { IsBoard self.now }
         requires from { from < length self.now.formulas }
