@@ -33,7 +33,7 @@ pub(crate) struct Plan<'a> {
     pub wanted: Wanted,
 }
 
-/// For each proposition, the literal of its input, if it is read; input k is variable k + 1.
+/// These literals; input k is variable k + 1.
 pub(crate) fn input_literals(
     alloc: Global,
     machine: &Machine,

@@ -41,7 +41,6 @@ pub enum Kind<'a> {
 /// A token, and where it is.
 #[derive(Clone, Copy)]
 pub struct Token<'a> {
-    /// Its kind.
     pub kind: Kind<'a>,
     /// The offset of its first byte, from 0.
     pub start: usize,
@@ -274,7 +273,7 @@ fn number_at<'a>(before: &[u8], rest: &'a [u8]) -> (Kind<'a>, usize)
     }
 }
 
-/// The same, whatever comes before or after it.
+/// The number of these digits.
 fn digits_at<'a>(rest: &'a [u8]) -> (Kind<'a>, usize)
     ensures { IsLexed result (Number (decimal_value (take_while is_digit rest.now))) (prefix_len is_digit rest.now)
         (length rest.now) }
