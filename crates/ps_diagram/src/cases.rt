@@ -31,8 +31,8 @@ pub struct Case {
 
 impl Store {
     /// The diagram that has, at each letter, the leaf of the cases whose products are true there, or else `other`; it
-    /// reorders the cases. None if cases that differ in leaf or kind are true at one letter, or after too many steps:
-    /// there are many if products leave out propositions that others test first.
+    /// reorders the cases. None if cases that differ in leaf or kind are true at one letter, or if it takes too many
+    /// steps, as it does if many products leave out propositions that others test first.
     pub fn of_cases(&mut self, cases: &mut [Case], other: u64) -> Result<Option<Node>, AllocError>
         ensures keeps { Keeps self.old self.new }
         ensures same { IsPermutation cases.old cases.new }

@@ -77,7 +77,7 @@ impl Store {
         Ok(made)
     }
 
-    /// The sides of three nodes at `first`, which `truth` tests.
+    /// The sides at `first`, which `truth` tests.
     fn cut(&self, first: u32, truth: Node, one: Node, other: Node) -> Cut
         requires truth { IsNode self.now truth }
         requires one { IsNode self.now one }

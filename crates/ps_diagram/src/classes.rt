@@ -22,8 +22,7 @@ use std::alloc::{AllocError, Global};
 /// If `split` has at most this many propositions, each letter over them is tried.
 const FEW: u32 = 4;
 
-/// A class of letters over some propositions: whatever the values of the others, they lead to the same leaf, or all to
-/// none.
+/// Letters over some propositions that lead to the same leaf, or all to none, whatever the values of the others.
 #[derive(Debug, Clone, Copy, PartialEq, Eq)]
 pub struct Class {
     /// The least letter of the class.
@@ -42,7 +41,7 @@ pub struct Classes {
 }
 
 impl Store {
-    /// The classes of a node's letters over the propositions of `split`. The node is read from a copy of the store.
+    /// The classes of the letters over the propositions of `split`, for a node, which is read from a copy of the store.
     pub fn classes(&mut self, node: Node, split: u64) -> Result<Classes, AllocError>
         requires held { IsNode self.old node }
         ensures keeps { Keeps self.old self.new }

@@ -90,7 +90,6 @@ impl Store {
         }
     }
 
-    /// As `united`, for diagrams that test no proposition.
     fn united_leaves(&self, first: Node, second: Node) -> Node
         requires { AreConstants self.now first second }
         ensures held { IsNode self.now result }

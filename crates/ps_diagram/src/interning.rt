@@ -10,7 +10,7 @@ use crate::view::View;
 use std::alloc::{AllocError, Global};
 use std::marker::Model;
 
-/// The entry, in the table of leaves, of a leaf whose cell's index is not known.
+/// The index of a leaf's cell, if it is not known.
 const UNKNOWN: u32 = u32::MAX;
 
 /// Different cells, found by a hash table. Half of those that are looked up are leaves, mostly small numbers, which are

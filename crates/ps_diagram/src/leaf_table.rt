@@ -1,4 +1,4 @@
-//! A list of different leaves, each with a letter, that finds the index of a leaf.
+//! Lists of leaves, each with a letter.
 
 ghost use Rattle.std.specs.Prelude.{◌≡◌, ◌++◌, ◌∷◌, [], MatchOption, None, OnErr, OnOk};
 ghost use Rattle.ps_diagram.specs.Inner.LeafTables.{IsPlace, LacksBefore, place_in};

@@ -31,8 +31,8 @@
 //! exactly if the node has the same leaf for both, whatever the other propositions' values (`AreClasses`).
 //! `classes_in_copy(other, node, split)` does this for a node of a store `other` that this one began as a copy of
 //! (`copy`). `eval`, `same` and `view` read a node without memory, and `product_of` a label, if it is a conjunction of
-//! literals. `len` tells how many nodes there are, which are numbered from 0 (`Node::number`); `leaves` lists a node's
-//! leaves with their least letters, and `path_to` finds this for one leaf.
+//! literals. `len` counts the nodes, which are numbered from 0 (`Node::number`); `leaves` lists a node's leaves with
+//! their least letters, and `path_to` finds this for one leaf.
 //!
 //! A store never drops a node. Equal diagrams are one node, found by a hash table or, for small leaves, by a table
 //! indexed by the leaf. But for the first few results, which are not kept, `negated`, `guard`, `fill` and the three

@@ -85,7 +85,7 @@ impl Hashed for Packed {
     }
 }
 
-/// A list of different cells, found by a hash table.
+/// Different cells, found by a hash table.
 #[derive(Debug, Drop)]
 pub(crate) struct PackedCells {
     list: KeyList<Packed>,

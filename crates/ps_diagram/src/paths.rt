@@ -41,7 +41,7 @@ impl Store {
         }
     }
 
-    /// The table of these leaves, in the same order.
+    /// These leaves as a table.
     pub(crate) fn found_below(&self, node: Node) -> Result<LeafTable, AllocError>
         requires held { IsNode self.now node }
         ensures { IfOk result (λ found. IsGathered self.now node found) }

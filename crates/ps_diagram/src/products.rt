@@ -115,7 +115,7 @@ impl Store {
         Ok(Some(node))
     }
 
-    /// The label, if it is a conjunction of literals. Aliases are not replaced by what they stand for.
+    /// The product that a label is, if it is one; aliases are not replaced by what they stand for.
     pub fn product_of(&self, label: &Label) -> Option<Product>
         requires within { (aliases : ℕ) × IsOver aliases self.now.propositions (expression label.now) }
         ensures value { IfSome result (λ product. (known : List Bool) (letter : ℕ) →
@@ -151,7 +151,7 @@ impl Store {
         }
     }
 
-    /// The product that a label is, if it is one; aliases are not replaced by what they stand for.
+    /// The diagram with the leaf 1 where all literals are true.
     pub(crate) fn of_conjunction(&mut self, literals: &[Literal]) -> Result<Node, AllocError>
         requires within { (aliases : ℕ) ×
             AreOver aliases self.old.propositions (operands_in (literal_expressions literals.now)) }

@@ -78,7 +78,7 @@ impl Store {
         Ok(made)
     }
 
-    /// The same by the `depth` propositions from `first` on.
+    /// As `joined`, by the `depth` propositions from `first` on.
     fn halved(
         &mut self,
         nodes: Vec<Node>,

@@ -68,7 +68,7 @@ impl Store {
         }
     }
 
-    /// The sides of two nodes at the first proposition that one of them tests, if there is one.
+    /// These sides, unless neither tests any.
     pub(crate) fn split(&self, first: Node, second: Node) -> Option<Split>
         requires first { IsNode self.now first }
         requires second { IsNode self.now second }

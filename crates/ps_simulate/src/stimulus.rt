@@ -68,7 +68,7 @@ pub fn stimulus_text_has_one_answer()
     ensures { (text : List ℕ) (width : ℕ) (split : Bool) → HasOneAnswer text width split }
 {}
 
-/// It has an answer. This is about texts: a call may also run out of memory.
+/// A text of a stimulus has an answer. This is about texts: a call may also run out of memory.
 pub fn stimulus_text_has_some_answer()
     ensures { (text : List ℕ) (width : ℕ) (split : Bool) → HasSomeAnswer text width split }
 {}

@@ -39,7 +39,7 @@ impl TraceWord {
         &self.letters[..self.start]
     }
 
-    /// The lap.
+    /// Those of the lap.
     pub fn lap(&self) -> &[u64]
         ensures { result.now ≡ self.now.lap }
     {

@@ -218,7 +218,7 @@ impl<'a> Cursor<'a> {
         Ok(())
     }
 
-    /// Moves past the longest run of the class, without newlines, and returns it.
+    /// Moves past the longest run of the class, which must not contain the newline, and returns it.
     pub fn run(&mut self, class: Class) -> &'a [u8]
         requires { in_class class 10 ≡ false }
         ensures { Passes (in_class class) self.old self.new result.now }

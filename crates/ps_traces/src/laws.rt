@@ -61,7 +61,8 @@ pub fn word_is_there()
     circuit_has_one_values();
 }
 
-/// An admitted file has a verdict on such a circuit and each stimulus: a stem, and a non-empty lap.
+/// An admitted file and a circuit with its role's inputs and outputs have a verdict on each stimulus: a stem, and a
+/// non-empty lap.
 pub fn verdict_is_there()
     ensures { (role : Role) (file : FileData) (c : CircuitData) (stem lap : List (List Bool)) → IsSoundFile file →
         IsAdmitted file → IsCircuit c →
@@ -87,7 +88,7 @@ pub fn meeting_is_one()
     circuit_has_one_values();
 }
 
-/// Their joint traces extend to a lasso trace, which also returns to the same memory state of the controller.
+/// Each joint trace of both extends to a lasso trace, which also returns to the same memory state of the controller.
 pub fn every_meeting_goes_on()
     ensures { (order : Order) (c : CircuitData) (k : FiniteController) → IsCircuit c →
         IsInTimeWhereReached order Environment c → IsController order c k → MeetsInLasso c k }
