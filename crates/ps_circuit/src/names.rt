@@ -70,14 +70,12 @@ pub fn symbols(alloc: Global, cursor: &mut Cursor, names: &mut Names) -> Result<
     Ok(())
 }
 
-/// Whether a byte begins a line of the symbol table.
 fn is_letter(byte: Option<u8>) -> bool
     ensures { result ≡ is_kind byte }
 {
     matches!(byte, Some(b'i' | b'l' | b'o'))
 }
 
-/// Reads a line of the symbol table.
 fn symbol_line(alloc: Global, cursor: &mut Cursor, names: &mut Names) -> Result<(), AigFault>
     requires { AreNames names.old (vec_len names.old.inputs) (vec_len names.old.latches) (vec_len names.old.outputs) }
     ensures exact { Tells (λ _. names_data names.new) (parts.symbol_line (names_data names.old)) cursor.old
@@ -124,7 +122,6 @@ fn name_line(
     Ok(())
 }
 
-/// Whether the number exists, and has no name yet.
 fn is_free(names: &Vec<Option<Vec<u8>>>, number: u64) -> bool
     ensures free { IsTrue result → slice_get (map name_bytes names.now.items) number ≡ Some None }
     ensures taken { result ≡ false → slice_get (map name_bytes names.now.items) number ≢ Some None }

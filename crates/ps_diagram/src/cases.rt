@@ -85,7 +85,6 @@ impl Store {
         Ok(Some(self.test(proposition, low, high)?))
     }
 
-    /// The same for at most one case.
     fn of_few(&mut self, cases: &[Case], level: u32, other: Node) -> Result<Node, AllocError>
         requires few { length cases.now < 2 }
         requires within { level ≤ self.old.propositions }
@@ -142,7 +141,6 @@ fn steps_for(count: usize, propositions: u32) -> usize {
     }
 }
 
-/// The propositions of the cases' literals.
 fn tested_by(cases: &[Case]) -> u64
     ensures { (case : Case) → Contains cases.now case → (p : ℕ) → p < 64 → is_in p result ≡ false → (b : Bool) →
         allows case.product p b ≡ true }

@@ -248,7 +248,6 @@ impl Store {
     }
 }
 
-/// One class for each leaf, with its least letter.
 fn listed(alloc: Global, leaves: &[(u64, u64)]) -> Result<Vec<Class>, AllocError>
     requires { All (λ pair. pair.0 < 2 ^ 32) leaves.now }
     ensures { IfOk result (λ list. AreOf leaves.now (length leaves.now) list.items) }

@@ -80,7 +80,6 @@ impl Cells {
         }
     }
 
-    /// The same for a leaf's cell.
     fn place_of_leaf(&mut self, leaf: u64) -> Result<u32, AllocError>
         ensures { PlacesCell self.old self.new (Leaf leaf) result }
     {
@@ -93,7 +92,6 @@ impl Cells {
         Ok(place)
     }
 
-    /// The same by the cell's hash.
     fn place_by_hash(&mut self, cell: View) -> Result<u32, AllocError>
         requires { CanPack cell }
         ensures { PlacesCell self.old self.new cell result }

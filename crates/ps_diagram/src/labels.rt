@@ -135,7 +135,6 @@ impl Store {
         self.either(one, other)
     }
 
-    /// The leaf 1 at every letter, or no leaf.
     fn of_truth(&mut self, value: bool) -> Result<Node, AllocError>
         ensures { MakesDiagram self.old self.new result (λ _. one_where value) }
     {

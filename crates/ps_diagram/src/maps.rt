@@ -268,7 +268,6 @@ impl Store {
         }
     }
 
-    /// The cell of a node, of `other` or else of this store.
     fn cell_of(&self, other: Option<&Store>, node: Node) -> View
         requires held { IsNode (unwrap_or (option_copied other) self.now) node }
         ensures part { IsPart (unwrap_or (option_copied other.entry) self.now) node result }

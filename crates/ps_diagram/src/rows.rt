@@ -138,14 +138,12 @@ fn part_of(alloc: Global, nodes: &[Node], rest: usize, none: Node) -> Result<Vec
     Ok(part)
 }
 
-/// The node at an index, or `other` past the end.
 fn node_or(nodes: &[Node], place: usize, other: Node) -> Node
     ensures { result ≡ slice_index_or nodes.now place other }
 {
     nodes.get(place).copied().unwrap_or(other)
 }
 
-/// The number of letters over `propositions`.
 fn power(propositions: u32) -> usize
     requires few { propositions < 64 }
     ensures value { result ≡ 2 ^ propositions }

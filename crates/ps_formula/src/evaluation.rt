@@ -32,7 +32,6 @@ pub(crate) fn truths(
     Ok(rows)
 }
 
-/// Fills a formula's row, by the rows before it.
 fn fill_row(rows: &mut Rows, row: usize, node: Node, stem: &[u64], lap: &[u64])
     requires row { row < rows.old.count }
     requires over { IsOver row node }
@@ -50,7 +49,6 @@ fn fill_row(rows: &mut Rows, row: usize, node: Node, stem: &[u64], lap: &[u64])
     }
 }
 
-/// The letter at an index within the first lap.
 fn letter_at(stem: &[u64], lap: &[u64], at: usize) -> u64
     requires { at < length stem.now + length lap.now }
     ensures { result ≡ lasso_word stem.now lap.now at }
@@ -116,7 +114,6 @@ fn truth_here(rows: &Rows, node: Node, letter: u64, at: usize, next: bool) -> bo
     }
 }
 
-/// The same for until and release, by those of both sides.
 fn step(is_until: bool, left: bool, right: bool, next: bool) -> bool
     ensures { result ≡ step is_until left right next }
 {

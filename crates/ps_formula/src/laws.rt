@@ -28,8 +28,7 @@ pub fn lasso_truths()
     ensures decided { (stem lap : List ℕ) → 0 < length lap → IsDecidedWord (lasso_word stem lap) }
 {}
 
-/// The expansion laws. Until holds where its right side does, or its left side does and until at the next index;
-/// release, where its right side does, and its left side or release at the next index.
+/// The expansion laws: until and release by their truth at the next index.
 pub fn expansions()
     ensures until { (f g : Formula) (w : ℕ → ℕ) (i : ℕ) →
         (Satisfies (until f g) w i) ↔ (Satisfies (or_of g (and_of f (next (until f g)))) w i) }

@@ -86,7 +86,6 @@ fn forms_of(table: &mut NormalFormulas, known: &[Forms], node: Node) -> Result<F
     }
 }
 
-/// Adds a node and its negation.
 fn pair(
     table: &mut NormalFormulas,
     formula: NormalNode,
@@ -155,7 +154,6 @@ fn constant_side(table: &NormalFormulas, f: Forms, g: Forms) -> Option<Forms>
     }
 }
 
-/// `f || g`
 fn either(table: &mut NormalFormulas, f: Forms, g: Forms) -> Result<Forms, AllocError>
     requires f { AreWithin table.old f }
     requires g { AreWithin table.old g }
@@ -224,7 +222,6 @@ fn is_decided_now(table: &NormalFormulas, f: Forms, g: Forms) -> bool
     }
 }
 
-/// `f R g`
 fn release(table: &mut NormalFormulas, f: Forms, g: Forms) -> Result<Forms, AllocError>
     requires f { AreWithin table.old f }
     requires g { AreWithin table.old g }

@@ -223,7 +223,6 @@ fn token_from<'a>(text: &'a [u8], at: usize) -> (Token<'a>, usize)
     (Token { kind, start }, start + size)
 }
 
-/// The offset of the next token, or of the end.
 #[inline(always)]
 fn next_start(text: &[u8], at: usize) -> usize
     requires { at ≤ length text.now }
@@ -287,7 +286,7 @@ fn digits_at<'a>(rest: &'a [u8]) -> (Kind<'a>, usize)
     }
 }
 
-/// The same for a run of letters.
+/// The token of a run of letters, and its length.
 #[inline(always)]
 fn word_at<'a>(before: &[u8], rest: &'a [u8]) -> (Kind<'a>, usize)
     ensures { IsLexed result (word_sign before.now rest.now) (prefix_len is_letter rest.now) (length rest.now) }
@@ -315,7 +314,6 @@ fn name_at<'a>(behind: &'a [u8]) -> (Kind<'a>, usize)
     }
 }
 
-/// A comma, a semicolon, or a byte that is never allowed.
 fn punctuation<'a>(byte: u8) -> Kind<'a>
     ensures sign { sign_of result ≡ Some (punctuation_sign byte) }
     ensures plain { IsPlain result }
@@ -327,7 +325,6 @@ fn punctuation<'a>(byte: u8) -> Kind<'a>
     }
 }
 
-/// Whether the first byte is in the class.
 fn begins_with(text: &[u8], class: Class) -> bool
     ensures { result ≡ begins_in (in_class class) text.now }
 {
@@ -337,7 +334,6 @@ fn begins_with(text: &[u8], class: Class) -> bool
     }
 }
 
-/// Whether the last byte is in the class.
 fn ends_in_class(text: &[u8], class: Class) -> bool
     ensures { result ≡ ends_in (in_class class) text.now }
 {

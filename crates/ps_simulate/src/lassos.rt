@@ -260,7 +260,6 @@ fn see(
     Ok(None)
 }
 
-/// Runs through a word, and appends the letters of its steps.
 fn read_word(
     naming: &Naming,
     simulator: &mut Simulator,

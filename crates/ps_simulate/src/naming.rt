@@ -120,7 +120,6 @@ fn put_places(
     Ok(Some(places))
 }
 
-/// Whether each proposition that is wanted has an index.
 fn is_full(controllable: &[u32], wanted: bool, places: &[Option<usize>]) -> bool
     ensures full { result ≡ true → (p : ℕ) → p < length places.now → is_among p controllable.now ≡ wanted →
         slice_index_or places.now p None ≢ None }

@@ -133,7 +133,6 @@ fn fill(rows: &[Row], inputs: &[bool], latches: &[bool], values: &mut [bool])
     work(rows, values);
 }
 
-/// Stores the values of literals.
 fn read_all(wires: &[Wire], values: &[bool], bits: &mut [bool])
     requires within { All (λ w. w.place < length values.now) wires.now }
     requires fit { length bits.old ≡ length wires.now }

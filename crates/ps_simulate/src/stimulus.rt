@@ -73,7 +73,6 @@ pub fn stimulus_text_has_some_answer()
     ensures { (text : List ℕ) (width : ℕ) (split : Bool) → HasSomeAnswer text width split }
 {}
 
-/// The next newline's offset, or else the text's end.
 pub(crate) fn line_end(text: &[u8], start: usize) -> usize
     requires { start < length text.now }
     ensures { IsLineEnd text.now start result }
@@ -81,14 +80,12 @@ pub(crate) fn line_end(text: &[u8], start: usize) -> usize
     start + run_length(&text[start..], Class::Inner)
 }
 
-/// Whether a line is `-`.
 fn is_divider(line: &[u8]) -> bool
     ensures { IsTrue result ↔ (line.now ≡ divider) }
 {
     line.len() == 1 && line[0] == b'-'
 }
 
-/// The index of the first byte that is not a digit.
 fn first_wrong(line: &[u8]) -> Option<usize>
     ensures digits { IfNone result (All IsDigit line.now) }
     ensures wrong { IfSome result (λ j. (j < length line.now) × ¬ IsDigit (slice_index line.now j)) }

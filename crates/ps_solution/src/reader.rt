@@ -172,7 +172,6 @@ fn any_number(tokens: &mut Tokens) -> Result<u64, CertFault>
     }
 }
 
-/// Checks that no token is left.
 fn finish(tokens: &Tokens) -> Result<(), CertFault>
     ensures { result ≡ end_answer (next_of tokens.now) (offset_of tokens.now.pieces tokens.now.end) }
 {
@@ -195,7 +194,6 @@ fn unless_named(id: u64, start: usize, ids: &Ids, solved: &Solved) -> Result<usi
     }
 }
 
-/// The number as a winner, if it is 0 or 1.
 fn one_of_two(winner: u64, start: usize) -> Result<Player, CertFault>
     ensures { result ≡ winner_of_number start winner }
 {

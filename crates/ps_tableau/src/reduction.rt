@@ -31,7 +31,6 @@ impl Board {
         Ok(kept)
     }
 
-    /// The same for one cover.
     fn reduced_edge(&mut self, edge: &Edge) -> Result<Edge, AllocError>
         requires board { IsBoard self.old }
         requires edge { IsEdgeOf self.old edge.now }
@@ -47,7 +46,6 @@ impl Board {
         })
     }
 
-    /// A set without the formulas that its others bring back.
     fn reduced_set(&mut self, set: Set) -> Result<Set, AllocError>
         requires board { IsBoard self.old }
         requires set { IsState self.old set }
