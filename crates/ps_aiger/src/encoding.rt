@@ -153,7 +153,6 @@ fn literals_of(
     Ok(literals)
 }
 
-/// The parts of the circuit of these literals.
 fn parts_of(
     alloc: Global,
     builder: &Builder,
@@ -209,7 +208,6 @@ fn latches_of(alloc: Global, first: u32, next: &[Literal]) -> Result<Vec<Latch>,
     Ok(latches)
 }
 
-/// The gates of a builder.
 fn gates_of(alloc: Global, builder: &Builder) -> Result<Vec<Gate>, AllocError>
     ensures { IfOk result (λ gates. AreGates (builder.now.given + 1) builder.now.gates gates.items) }
 {
@@ -225,7 +223,6 @@ fn gates_of(alloc: Global, builder: &Builder) -> Result<Vec<Gate>, AllocError>
     Ok(gates)
 }
 
-/// The names of propositions.
 fn symbols(
     alloc: Global,
     machine: &Machine,
@@ -244,7 +241,6 @@ fn symbols(
     Ok(names)
 }
 
-/// Latches have no names.
 fn no_symbols(alloc: Global, count: usize) -> Result<Vec<Option<Vec<u8>>>, AllocError>
     ensures many { IfOk result (λ names. length names.items ≡ count) }
     ensures none { IfOk result (λ names. map name_bytes names.items ≡ replicate count None) }

@@ -33,7 +33,7 @@ pub(crate) struct Plan<'a> {
     pub wanted: Wanted,
 }
 
-/// For each proposition, the literal of its input, if it is read; input k is variable k + 1.
+/// These literals; input k is variable k + 1.
 pub(crate) fn input_literals(
     alloc: Global,
     machine: &Machine,
@@ -156,7 +156,6 @@ fn constant(machine: &Machine, wanted: Wanted, leaf: u64) -> Literal
     }
 }
 
-/// The bit of a row.
 fn bit_of_row(wanted: Wanted, row: Row) -> bool
     ensures { result ≡ wanted_bit wanted row }
 {
@@ -166,14 +165,12 @@ fn bit_of_row(wanted: Wanted, row: Row) -> bool
     }
 }
 
-/// A bit of a number.
 fn has_bit(number: u64, place: u32) -> bool
     ensures { result ≡ is_in place number }
 {
     place < 64 && number >> place & 1 == 1
 }
 
-/// The index of a proposition in a list.
 fn place_among(list: &[u32], proposition: u32) -> Option<usize>
     ensures found { IfSome result (λ place. slice_get list.now place ≡ Some proposition) }
     ensures none { IfNone result (is_among proposition list.now ≡ false) }

@@ -14,13 +14,13 @@ pub fn one_circuit()
         Encodes o d → IsTidy d → IsWired o d → c ≡ d }
 {}
 
-/// A machine whose gates need too many variables has none.
+/// A machine whose gates need too many variables has no circuit.
 pub fn circuit_has_literals()
     ensures { (b o : Behaviour) (c : CircuitData) → IsMachine b → BehavesAs b o → Encodes b c → IsTidy c → IsWired b c →
         ¬ IsOutOfLiterals o }
 {}
 
-/// Every other machine has one.
+/// Every other machine has a circuit.
 pub fn circuit_is_there()
     ensures { (b : Behaviour) → IsMachine b →
         IsOutOfLiterals b ⊎ ((c : CircuitData) × Encodes b c × IsTidy c × IsWired b c) }

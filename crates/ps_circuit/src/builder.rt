@@ -21,9 +21,7 @@ const MOST_VARIABLES: u32 = 2147483647;
 /// What a gate reads, with the greater literal first.
 #[derive(Debug, Clone, Copy, PartialEq, Eq, Hash)]
 pub struct Sides {
-    /// The greater literal.
     pub first: Literal,
-    /// The smaller literal.
     pub second: Literal,
 }
 
@@ -44,10 +42,8 @@ impl Hashed for Sides {
     }
 }
 
-/// Makes and-gates over given variables. A gate that reads two literals is made once, and takes the next variable.
-///
-/// No call changes an existing gate. A call fails only if out of memory, or if 2147483647 variables exist and another
-/// gate is needed.
+/// Makes and-gates over given variables. A gate that reads two literals is made once, with the next variable. No call
+/// changes an existing gate; one fails only if out of memory, or if 2147483647 variables exist and another is needed.
 #[derive(Drop)]
 pub struct Builder {
     given: u32,
@@ -75,7 +71,7 @@ impl Builder {
         }
     }
 
-    /// How many variables there are, the given ones and the gates, without variable 0.
+    /// How many variables there are: the given ones and the gates.
     pub fn variables(&self) -> u32
         ensures variables { result ≡ variables_of self.now }
         ensures sound { IsSoundDraft self.now }

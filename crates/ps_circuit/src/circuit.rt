@@ -40,8 +40,8 @@ impl From<AllocError> for CircuitFault {
     }
 }
 
-/// A circuit of and-gates and latches: no variable is defined twice, the variable of each used literal is defined or 0,
-/// and no gate depends on itself. It stores an order of its gates, each after those that it reads.
+/// A circuit of and-gates and latches: no variable is defined twice, that of each used literal is defined or 0, and no
+/// gate depends on itself. It stores an order of its gates, each after those that it reads.
 #[derive(Drop)]
 pub struct Circuit {
     parts: Parts,

@@ -5,8 +5,8 @@ ghost use Rattle.ps_circuit.specs.Causes.{cause_number};
 
 use ps_text::faults::{Cause, Fault};
 
-/// What is wrong with an AIGER text, with the sections of the AIGER 1.9 format description. `UnsetLatch` and `Sections`
-/// are limits of psyn: AIGER allows such texts.
+/// What is wrong with an AIGER text, with sections of the AIGER 1.9 format description. AIGER allows texts with the
+/// last two errors, which are limits of psyn.
 #[derive(Clone, Copy, Debug, PartialEq, Eq)]
 pub enum AigCause {
     /// A byte is not allowed here, the text ends too early, or a symbol's input, latch or output does not exist or
@@ -21,9 +21,9 @@ pub enum AigCause {
     Undefined,
     /// A gate depends on itself (AIGER 1.9: and-gates).
     Cyclic,
-    /// A latch's reset is its own literal (AIGER 1.9: reset logic). psyn, which runs circuits, needs a first value.
+    /// A latch's reset is its own literal (AIGER 1.9: reset logic); psyn, which runs circuits, needs a first value.
     UnsetLatch,
-    /// One of the counts B, C, J and F of the header is not 0: of bad states, constraints, justice and fairness.
+    /// One of the header's counts B, C, J and F is not 0: bad states, constraints, justice, fairness.
     Sections,
 }
 

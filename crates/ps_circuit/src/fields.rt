@@ -34,7 +34,7 @@ pub fn gap(cursor: &mut Cursor) -> Result<(), AigFault>
     Ok(())
 }
 
-/// Reads up to the end of the line. Fails if this is no byte.
+/// Reads the rest of the line. Fails if it is empty.
 pub fn rest_of_line<'a>(cursor: &mut Cursor<'a>) -> Result<&'a [u8], AigFault>
     ensures { Tells (λ r. r.now) parts.rest_of_line cursor.old result cursor.new }
 {
@@ -61,8 +61,8 @@ pub fn line_end(cursor: &mut Cursor) -> Result<(), AigFault>
     newline(cursor)
 }
 
-/// Moves to the next field, if the line has one, or else past its end, and says which. Fails if the next byte is not a
-/// newline, a space or a tab.
+/// Moves to the next field of the line, or else past its end, and says which. Fails at any byte but a newline, a space
+/// or a tab.
 pub fn more(cursor: &mut Cursor) -> Result<bool, AigFault>
     ensures { Tells (λ b. b) parts.more cursor.old result cursor.new }
 {

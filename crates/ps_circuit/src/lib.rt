@@ -9,20 +9,19 @@
 //! | `read(text)` | the circuit of a text (AIGER 1.9: header, resets, symbols, comments), or the first `AigFault` |
 //! | `write(circuit)` | a text, which `read` parses as the same circuit |
 //! | `Literal::positive(variable)`, `constant(bit)`, `new(number)` | a literal |
-//! | `Literal::negated`, `variable`, `is_negated`, `number` | a literal's negation, its parts and its number |
+//! | `Literal::negated`, `variable`, `is_negated`, `number` | its negation, its parts and its number |
 //! | `Builder::new(given)` | a builder over given variables; no call changes an existing gate |
-//! | `Builder::and`, `or`, `mux` | a literal of a conjunction, disjunction or choice, or an `EncodeFault` |
+//! | `Builder::and`, `or`, `mux` | the literal of a conjunction, disjunction or choice, or an `EncodeFault` |
 //! | `Circuit::in_order(parts)` | a circuit of parts in which each gate comes after those that it reads |
 //! | `Circuit::inputs`, `latches`, `outputs`, `gates` | its parts |
 //! | `Circuit::order` | an order in which the gates can be evaluated |
-//! | `Circuit::input_name`, `latch_name`, `output_name` | the name of an input, a latch or an output, if it has one |
+//! | `Circuit::input_name`, `latch_name`, `output_name` | the name of one of these, if it has one |
 //! | `EncodeFault::number`, `name`, `AigCause::number`, `name` | the number and name of a fault or cause |
 //! | `one_answer`, `some_answer` | laws: a text has exactly one answer, its circuit or its first error |
 //! | `read_circuit_is_circuit` | a law: what a text describes is a circuit |
 //!
-//! A builder fails only if out of memory, or if 2,147,483,647 variables exist and another gate is needed. Parsing takes
-//! time proportional to the length of the text, but variables far out of order are looked up in a B-tree. It accepts no
-//! bad states, constraints, justice or fairness, and no latch with its own literal as its reset.
+//! Parsing takes time proportional to the length of the text, but variables far out of order are looked up in a B-tree.
+//! A text must have no bad states, constraints, justice or fairness, and no latch with its own literal as its reset.
 #![tactic(auto)]
 
 mod builder;

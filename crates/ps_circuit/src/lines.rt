@@ -94,7 +94,6 @@ pub fn lines<L: Line>(
     Ok(items)
 }
 
-/// Whether a literal may define a variable: it is not negated, not constant and not too great.
 fn can_define(literal: u64, most: u32) -> bool
     ensures { IsTrue result ↔ IsDefinition most literal }
 {

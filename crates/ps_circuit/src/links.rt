@@ -9,12 +9,10 @@ use crate::parts::Gate;
 use ps_ids::Ids;
 use std::alloc::{AllocError, Global};
 
-/// The indices of the gates that a gate reads.
+/// The indices of the gates that a gate reads, if its literals are gates.
 #[derive(Clone, Copy)]
 pub struct Links {
-    /// The gate of the first literal, if it is one.
     pub first: Option<usize>,
-    /// The gate of the second, if it is one.
     pub second: Option<usize>,
 }
 
@@ -28,7 +26,6 @@ pub fn links_of(alloc: Global, gates: &[Gate]) -> Result<Vec<Links>, AllocError>
     Ok(links)
 }
 
-/// The gates' variables.
 fn variables_of(alloc: Global, gates: &[Gate]) -> Result<Ids, AllocError>
     requires once { AllPairs (λ g h. variable g.literal ≢ variable h.literal) gates.now }
     ensures { IfOk result (λ variables. variables ≡ map (λ g. variable g.literal) gates.now) }
@@ -41,7 +38,6 @@ fn variables_of(alloc: Global, gates: &[Gate]) -> Result<Ids, AllocError>
     Ok(variables)
 }
 
-/// The links by these variables.
 fn links_to(alloc: Global, gates: &[Gate], variables: &Ids) -> Result<Vec<Links>, AllocError>
     ensures { IfOk result (λ links. links.items ≡ links_by (place_in variables.now) gates.now) }
 {

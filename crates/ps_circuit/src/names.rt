@@ -17,14 +17,11 @@ use crate::fields::{newline, number, rest_of_line};
 use ps_text::cursor::Cursor;
 use std::alloc::{AllocError, Global};
 
-/// The names of the inputs, latches and outputs.
+/// The names of inputs, latches and outputs that have one.
 #[derive(Drop)]
 pub struct Names {
-    /// Of each input, if it has one.
     pub inputs: Vec<Option<Vec<u8>>>,
-    /// Of each latch, if it has one.
     pub latches: Vec<Option<Vec<u8>>>,
-    /// Of each output, if it has one.
     pub outputs: Vec<Option<Vec<u8>>>,
 }
 
@@ -58,8 +55,8 @@ fn no_names(alloc: Global, count: usize) -> Result<Vec<Option<Vec<u8>>>, AllocEr
     Ok(names)
 }
 
-/// Reads the symbol table. Fails with [`AigCause::Syntax`] at the first byte that it may not have, or at the letter of
-/// a symbol whose input, latch or output does not exist or already has a name; or if out of memory.
+/// Reads the symbol table. Fails with [`AigCause::Syntax`] at the first byte that it may not have, or at the symbol of
+/// an input, latch or output that does not exist or already has a name; or if out of memory.
 pub fn symbols(alloc: Global, cursor: &mut Cursor, names: &mut Names) -> Result<(), AigFault>
     requires { AreNames names.old (vec_len names.old.inputs) (vec_len names.old.latches) (vec_len names.old.outputs) }
     ensures exact { Tells (λ _. names_data names.new) (many parts.symbol_line (names_data names.old)) cursor.old
@@ -73,14 +70,12 @@ pub fn symbols(alloc: Global, cursor: &mut Cursor, names: &mut Names) -> Result<
     Ok(())
 }
 
-/// Whether a byte begins a line of the symbol table.
 fn is_letter(byte: Option<u8>) -> bool
     ensures { result ≡ is_kind byte }
 {
     matches!(byte, Some(b'i' | b'l' | b'o'))
 }
 
-/// Reads a line of the symbol table.
 fn symbol_line(alloc: Global, cursor: &mut Cursor, names: &mut Names) -> Result<(), AigFault>
     requires { AreNames names.old (vec_len names.old.inputs) (vec_len names.old.latches) (vec_len names.old.outputs) }
     ensures exact { Tells (λ _. names_data names.new) (parts.symbol_line (names_data names.old)) cursor.old
@@ -127,7 +122,6 @@ fn name_line(
     Ok(())
 }
 
-/// Whether the number exists, and has no name yet.
 fn is_free(names: &Vec<Option<Vec<u8>>>, number: u64) -> bool
     ensures free { IsTrue result → slice_get (map name_bytes names.now.items) number ≡ Some None }
     ensures taken { result ≡ false → slice_get (map name_bytes names.now.items) number ≢ Some None }

@@ -20,7 +20,7 @@ use ps_ids::Ids;
 use ps_text::cursor::Cursor;
 use std::alloc::Global;
 
-/// The parts that the text states, and what was noted for checks after it (undefined variables, cycles).
+/// The parts that a text states, and what was noted for checks.
 #[derive(Drop)]
 pub(crate) struct Draft {
     parts: Parts,
@@ -38,7 +38,6 @@ pub fn read(alloc: Global, text: &[u8]) -> Result<Circuit, AigFault>
     assembled(alloc, parts, &noted.starts)
 }
 
-/// Reads a text to its end.
 fn read_draft(alloc: Global, text: &[u8]) -> Result<Draft, AigFault>
     ensures exact { TellsDraft text.now result }
     ensures sound { IfOk result (λ d. IsSoundDraft (draft_data d)) }

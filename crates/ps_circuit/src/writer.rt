@@ -89,7 +89,6 @@ fn write_gates(out: &mut Vec<u8>, gates: &[Gate]) -> Result<(), AllocError>
     Ok(())
 }
 
-/// Writes the line of each name.
 fn write_symbols(out: &mut Vec<u8>, letter: u8, names: &[Option<Vec<u8>>]) -> Result<(), AllocError>
     ensures { OnOk result (out.new.items ≡ out.old.items ++ symbol_lines letter 0 (map name_bytes names.now)) }
 {
@@ -117,7 +116,6 @@ fn write_symbol(
     Ok(())
 }
 
-/// Writes a line of numbers.
 fn write_line(out: &mut Vec<u8>, first: Literal, others: &[u64]) -> Result<(), AllocError>
     ensures { OnOk result (out.new.items ≡ out.old.items ++ line first others.now) }
 {
@@ -127,7 +125,6 @@ fn write_line(out: &mut Vec<u8>, first: Literal, others: &[u64]) -> Result<(), A
     Ok(())
 }
 
-/// Writes numbers, each after a space.
 fn write_fields(out: &mut Vec<u8>, numbers: &[u64]) -> Result<(), AllocError>
     ensures { OnOk result (out.new.items ≡ out.old.items ++ fields numbers.now) }
 {

@@ -35,7 +35,6 @@ impl Store {
         self.paired(first, second, pairs, &mut known)
     }
 
-    /// As `both`, with a memo table.
     fn paired(
         &mut self,
         first: Node,
@@ -76,7 +75,6 @@ impl Store {
         Ok(made)
     }
 
-    /// As `paired`, for diagrams that test no proposition.
     fn paired_leaves(
         &mut self,
         first: Node,

@@ -16,28 +16,23 @@ use crate::store::Store;
 use crate::view::Node;
 use std::alloc::AllocError;
 
-/// How many steps `of_cases` may take for each case, on average. A step looks at one case of a list that is split, or
-/// goes to the next proposition for a case that is alone.
+/// How many steps `of_cases` may take for each case, on average: to look at a case of a list that is split, or to go to
+/// the next proposition for a case that is alone.
 const STEPS: usize = 256;
 
 /// One case of a diagram: its leaf at letters at which the product is true.
 #[derive(Clone, Copy)]
 pub struct Case {
-    /// The product.
     pub product: Product,
-    /// The leaf.
     pub leaf: u64,
     /// A number that tells cases with the same leaf apart.
     pub kind: u64,
 }
 
 impl Store {
-    /// The diagram that has, at each letter, the leaf of the cases whose products are true there, or else `other`. The
-    /// call reorders the cases.
-    ///
-    /// The result is None if cases that differ in their leaves or kinds are true at one letter, or after a number of
-    /// steps proportional to that of the cases; it needs more if many products leave out propositions that others test
-    /// first.
+    /// The diagram that has, at each letter, the leaf of the cases whose products are true there, or else `other`; it
+    /// reorders the cases. None if cases that differ in leaf or kind are true at one letter, or if it takes too many
+    /// steps, as it does if many products leave out propositions that others test first.
     pub fn of_cases(&mut self, cases: &mut [Case], other: u64) -> Result<Option<Node>, AllocError>
         ensures keeps { Keeps self.old self.new }
         ensures same { IsPermutation cases.old cases.new }
@@ -90,7 +85,6 @@ impl Store {
         Ok(Some(self.test(proposition, low, high)?))
     }
 
-    /// The same for at most one case.
     fn of_few(&mut self, cases: &[Case], level: u32, other: Node) -> Result<Node, AllocError>
         requires few { length cases.now < 2 }
         requires within { level ≤ self.old.propositions }
@@ -139,7 +133,7 @@ impl Store {
     }
 }
 
-/// The number of steps to split `count` cases, or to make the diagram of one case over the last `propositions`.
+/// The steps to split `count` cases, or to make one case over the last `propositions`.
 fn steps_for(count: usize, propositions: u32) -> usize {
     match count {
         1 => propositions as usize,
@@ -147,7 +141,6 @@ fn steps_for(count: usize, propositions: u32) -> usize {
     }
 }
 
-/// The propositions of the cases' literals.
 fn tested_by(cases: &[Case]) -> u64
     ensures { (case : Case) → Contains cases.now case → (p : ℕ) → p < 64 → is_in p result ≡ false → (b : Bool) →
         allows case.product p b ≡ true }

@@ -14,15 +14,13 @@ use crate::store::Store;
 use crate::view::{Node, View};
 use std::alloc::AllocError;
 
-/// The sides of three nodes at the first proposition that one of them tests.
+/// The sides of three nodes at the first proposition that one of them tests: `one` is taken where `truth` has a leaf,
+/// and `other` elsewhere.
 #[derive(Clone, Copy)]
 pub(crate) struct Cut {
     pub proposition: u32,
-    /// Those of the first node, which decides between the others.
     pub truth: Sides,
-    /// Those of the second, which is taken where the first has a leaf.
     pub one: Sides,
-    /// Those of the third, which is taken where the first has none.
     pub other: Sides,
 }
 
@@ -40,7 +38,6 @@ impl Store {
         self.chosen(truth, one, other, &mut known)
     }
 
-    /// As `choose`, with a memo table.
     fn chosen(
         &mut self,
         truth: Node,
@@ -80,7 +77,7 @@ impl Store {
         Ok(made)
     }
 
-    /// The sides of three nodes at `first`, which `truth` tests.
+    /// The sides at `first`, which `truth` tests.
     fn cut(&self, first: u32, truth: Node, one: Node, other: Node) -> Cut
         requires truth { IsNode self.now truth }
         requires one { IsNode self.now one }

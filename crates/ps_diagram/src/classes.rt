@@ -22,8 +22,7 @@ use std::alloc::{AllocError, Global};
 /// If `split` has at most this many propositions, each letter over them is tried.
 const FEW: u32 = 4;
 
-/// A class of letters over some propositions: whatever the values of the others, they lead to the same leaf, or all to
-/// none.
+/// Letters over some propositions that lead to the same leaf, or all to none, whatever the values of the others.
 #[derive(Debug, Clone, Copy, PartialEq, Eq)]
 pub struct Class {
     /// The least letter of the class.
@@ -42,8 +41,7 @@ pub struct Classes {
 }
 
 impl Store {
-    /// Divides the letters over the propositions of `split` into the classes of a node. This call copies the store, to
-    /// read the node from the copy.
+    /// The classes of the letters over the propositions of `split`, for a node, which is read from a copy of the store.
     pub fn classes(&mut self, node: Node, split: u64) -> Result<Classes, AllocError>
         requires held { IsNode self.old node }
         ensures keeps { Keeps self.old self.new }
@@ -54,8 +52,8 @@ impl Store {
         Ok(classes)
     }
 
-    /// As `classes`, for a node of the store `other`, which this store began as a copy of. A node of `other` that
-    /// depends on no proposition of `split` is one of this store too, so its diagram isn't made again.
+    /// As `classes`, for a node of the store `other`, which this store began as a copy of. A node that depends on no
+    /// proposition of `split` is one of this store too, and not made again.
     pub fn classes_in_copy(
         &mut self,
         other: &Store,
@@ -111,8 +109,8 @@ impl Store {
         Ok(Classes { list, places })
     }
 
-    /// As `rests`, with memo tables. At each letter y, the node that remains after x has the leaf that `node` has at
-    /// the letter that agrees with x on `split`, and with y elsewhere.
+    /// As `rests`. The node that remains after x has, at each letter y, the leaf of `node` at the letter that agrees
+    /// with x on `split`, and with y elsewhere.
     fn divided(
         &mut self,
         other: &Store,
@@ -223,7 +221,6 @@ impl Store {
         Ok(made)
     }
 
-    /// As `tested`, for diagrams that test no proposition.
     fn tested_leaves(&mut self, proposition: u32, low: Node, high: Node) -> Result<Node, AllocError>
         requires leading { AreLeading self.old proposition low high }
         requires constant { AreConstants self.old low high }
@@ -251,7 +248,6 @@ impl Store {
     }
 }
 
-/// One class for each leaf, with its least letter.
 fn listed(alloc: Global, leaves: &[(u64, u64)]) -> Result<Vec<Class>, AllocError>
     requires { All (λ pair. pair.0 < 2 ^ 32) leaves.now }
     ensures { IfOk result (λ list. AreOf leaves.now (length leaves.now) list.items) }

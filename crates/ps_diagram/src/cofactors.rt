@@ -13,9 +13,8 @@ use crate::view::{Node, View};
 use std::alloc::AllocError;
 
 impl Store {
-    /// The diagram over `split` whose leaf at a letter is the number of the node that remains after it. The
-    /// propositions less than `level` have the values in `letter`. Each letter is tried, so `split` should have few
-    /// propositions.
+    /// The diagram over `split` of the nodes' numbers that remain after its letters, each of which is tried.
+    /// Propositions less than `level` are as in `letter`.
     pub(crate) fn spread(
         &mut self,
         other: &Store,
@@ -44,7 +43,7 @@ impl Store {
         self.spread(other, node, split, level + 1, letter)
     }
 
-    /// The diagram of one leaf: the number of the node that remains after `letter`.
+    /// The same if `letter` decides all of `split`.
     fn spread_leaf(
         &mut self,
         other: &Store,

@@ -14,8 +14,7 @@ use std::alloc::AllocError;
 
 impl Store {
     /// The diagram of a node of another store, in which the function `truths[p]`, true where this node has a leaf,
-    /// replaces the proposition p: at each letter, the functions' values form the letter at which the given node has
-    /// the result's leaf.
+    /// replaces the proposition p: the functions' values form the letter at which that node has the result's leaf.
     pub fn composed_from(
         &mut self,
         other: &Store,
@@ -33,7 +32,6 @@ impl Store {
         self.composed_by(other, node, truths, &mut known)
     }
 
-    /// As `composed_from`, with a memo table.
     fn composed_by(
         &mut self,
         other: &Store,

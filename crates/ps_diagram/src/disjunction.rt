@@ -29,7 +29,6 @@ impl Store {
         self.united(first, second, &mut known)
     }
 
-    /// As `either`, with a memo table.
     fn united(
         &mut self,
         first: Node,
@@ -91,7 +90,6 @@ impl Store {
         }
     }
 
-    /// As `united`, for diagrams that test no proposition.
     fn united_leaves(&self, first: Node, second: Node) -> Node
         requires { AreConstants self.now first second }
         ensures held { IsNode self.now result }

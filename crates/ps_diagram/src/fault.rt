@@ -9,12 +9,10 @@ use thiserror::Error;
 /// Why two diagrams can't be joined.
 #[derive(Debug, Drop, Error)]
 pub enum OverlayError {
-    /// At some letter they have different leaves.
+    /// At some letter, the first and the second have these different leaves.
     #[error("two different leaves, {first} and {second}, at one letter")]
     Clash {
-        /// The first diagram's leaf.
         first: u64,
-        /// The second diagram's leaf.
         second: u64,
     },
     /// Memory ran out.

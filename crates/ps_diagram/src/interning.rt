@@ -10,11 +10,11 @@ use crate::view::View;
 use std::alloc::{AllocError, Global};
 use std::marker::Model;
 
-/// The entry, in the table of leaves, of a leaf whose cell's index is not known.
+/// The index of a leaf's cell, if it is not known.
 const UNKNOWN: u32 = u32::MAX;
 
-/// A list of different cells, found by a hash table. Half of the cells that are looked up are leaves, mostly small
-/// numbers, whose cells are found by a table indexed by the leaf.
+/// Different cells, found by a hash table. Half of those that are looked up are leaves, mostly small numbers, which are
+/// found by a table indexed by the leaf.
 #[derive(Debug, Drop)]
 pub(crate) struct Cells {
     list: PackedCells,
@@ -80,7 +80,6 @@ impl Cells {
         }
     }
 
-    /// The same for a leaf's cell.
     fn place_of_leaf(&mut self, leaf: u64) -> Result<u32, AllocError>
         ensures { PlacesCell self.old self.new (Leaf leaf) result }
     {
@@ -93,7 +92,6 @@ impl Cells {
         Ok(place)
     }
 
-    /// The same by the cell's hash.
     fn place_by_hash(&mut self, cell: View) -> Result<u32, AllocError>
         requires { CanPack cell }
         ensures { PlacesCell self.old self.new cell result }

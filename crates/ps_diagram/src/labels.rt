@@ -13,8 +13,8 @@ use ps_label::{Label, Labels};
 use std::alloc::AllocError;
 
 impl Store {
-    /// The diagram with the leaf 1 at letters at which the label is true. It makes the diagrams of all aliases: for
-    /// many labels with the same aliases, make these once, by `of_aliases`.
+    /// The diagram with the leaf 1 where the label is true. It makes the diagrams of all aliases: for many labels with
+    /// the same aliases, make these once, by `of_aliases`.
     pub fn of_label(&mut self, labels: &Labels, label: &Label) -> Result<Node, AllocError>
         requires aliases { AreOverFrom 0 self.old.propositions (expressions labels.now) }
         requires within { IsOver (length labels.now) self.old.propositions (expression label.now) }
@@ -116,7 +116,7 @@ impl Store {
         }
     }
 
-    /// The disjunction of the nodes. Each half of the list is joined first, so each node takes part in logarithmically
+    /// The disjunction of the nodes. Each half of the list is joined first, so that each node is in logarithmically
     /// many joins.
     fn union_of(&mut self, nodes: &[Node]) -> Result<Node, AllocError>
         requires truths { All (IsTruth self.old) nodes.now }
@@ -135,14 +135,13 @@ impl Store {
         self.either(one, other)
     }
 
-    /// The leaf 1 at every letter, or no leaf.
     fn of_truth(&mut self, value: bool) -> Result<Node, AllocError>
         ensures { MakesDiagram self.old self.new result (λ _. one_where value) }
     {
         if value { self.leaf(1) } else { self.none() }
     }
 
-    /// The diagram with the leaf 1 at letters at which the proposition is true.
+    /// The diagram with the leaf 1 where the proposition is true.
     pub fn of_proposition(&mut self, proposition: u32) -> Result<Node, AllocError>
         requires named { proposition < self.old.propositions }
         ensures { MakesDiagram self.old self.new result (λ letter. one_where (is_in proposition letter)) }

@@ -1,4 +1,4 @@
-//! A list of different leaves, each with a letter, that finds the index of a leaf.
+//! Lists of leaves, each with a letter.
 
 ghost use Rattle.std.specs.Prelude.{◌≡◌, ◌++◌, ◌∷◌, [], MatchOption, None, OnErr, OnOk};
 ghost use Rattle.ps_diagram.specs.Inner.LeafTables.{IsPlace, LacksBefore, place_in};
@@ -64,7 +64,6 @@ impl LeafTable {
         }
     }
 
-    /// Adds a new leaf.
     pub(crate) fn push(&mut self, leaf: u64, letter: u64) -> Result<(), AllocError>
         requires { place_in self.old leaf ≡ None }
         ensures ok { OnOk result (self.new ≡ self.old ++ (leaf, letter) ∷ []) }
@@ -79,7 +78,6 @@ impl LeafTable {
     }
 }
 
-/// The index of a leaf, if it is among the first `FEW`.
 fn early_place(pairs: &[(u64, u64)], leaf: u64) -> Option<usize>
     ensures { MatchOption result (LacksBefore 8 pairs.now leaf) (λ place. IsPlace pairs.now leaf place) }
 {

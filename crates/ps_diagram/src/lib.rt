@@ -16,7 +16,7 @@
 //! | `of_leaves(leaves)` | the list's entry at the index `letter`, or none past its end |
 //! | `of_cases(cases, other)` | that of the cases whose products are true, or `other` where none is; may make no node |
 //! | `overlay(first, second)` | the first node's, or else the second's; `Clash` exactly if two leaves differ |
-//! | `choose(truth, one, other)` | the leaf of `one` where `truth` has a leaf, else the leaf of `other` |
+//! | `choose(truth, one, other)` | that of `one` where `truth` has a leaf, else that of `other` |
 //! | `both(first, second, pairs)` | the index in `pairs` of the pair of both leaves; none where either is none |
 //! | `negated(node)` | 1 where the node has no leaf, else none |
 //! | `guard(node, value)` | `value` where the node has a leaf, else none |
@@ -24,28 +24,27 @@
 //! | `relabel(node, values)` | `values[k]` where the node has the leaf k, else none |
 //! | `relabel_or(node, values, other)` | as `relabel`, but `other` where the node has none |
 //! | `relabel_from(other, node, values)` | as `relabel`, for a node of another store |
-//! | `composed_from(other, node, truths)` | the leaf of a node of another store at the letter that the truths form |
+//! | `composed_from(other, node, truths)` | that of a node of another store at the letter that the truths form |
 //!
-//! These calls keep every node of the store with its leaves, even if they fail (`Keeps`). So does `classes(node,
-//! split)`, which divides the letters over the propositions of `split` into classes: two are in one exactly if the node
-//! has the same leaf for both, whatever the other propositions' values (`AreClasses`). `classes_in_copy(other, node,
-//! split)` does this for a node of a store `other` that this one began as a copy of, by `copy`. `eval`, `same` and
-//! `view` read a node without memory, and `product_of` a label, if it is a conjunction of literals. `len` tells how
-//! many nodes there are, which are numbered from 0 (`Node::number`); `leaves` lists a node's leaves, each with the
-//! least letter that leads to it, and `path_to` finds this letter for one leaf.
+//! These calls keep every node of the store with its leaves, even if they fail (`Keeps`). So does
+//! `classes(node, split)`, which divides the letters over the propositions of `split` into classes: two are in one
+//! exactly if the node has the same leaf for both, whatever the other propositions' values (`AreClasses`).
+//! `classes_in_copy(other, node, split)` does this for a node of a store `other` that this one began as a copy of
+//! (`copy`). `eval`, `same` and `view` read a node without memory, and `product_of` a label, if it is a conjunction of
+//! literals. `len` counts the nodes, which are numbered from 0 (`Node::number`); `leaves` lists a node's leaves with
+//! their least letters, and `path_to` finds this for one leaf.
 //!
 //! A store never drops a node. Equal diagrams are one node, found by a hash table or, for small leaves, by a table
-//! indexed by the leaf. But for the first few results, which are not kept since most calls make no more, `negated`,
-//! `guard`, `fill` and the three that relabel visit each node once; `overlay` and `both`, each reachable pair;
-//! `choose`, each triple. `composed_from` chooses between the results for a node's sides by the function that replaces
-//! its proposition; if this is constant, it needs one side, and visits the node again from each node that leads to it.
-//! `leaves` does not keep nodes that test one of the last three propositions.
+//! indexed by the leaf. But for the first few results, which are not kept, `negated`, `guard`, `fill` and the three
+//! that relabel visit each node once; `overlay` and `both`, each reachable pair; `choose`, each triple. `composed_from`
+//! may visit a node again if the function that replaces its proposition is constant, since it then needs one side
+//! alone. `leaves` does not keep nodes that test one of the last three propositions.
 //!
 //! Besides the nodes of the leaf and of none, `of_letter` makes one for each proposition, and `of_label`, for a
-//! product, at most one for each literal. For another disjunction, it joins the operands' diagrams, those of each half
-//! of the list first; for another conjunction, it negates the join of the operands' negations. `of_cases` splits the
-//! list at one proposition after another; it makes no node if cases that differ are true at one letter, or if it needs
-//! more than 256 steps for each case on average. `classes` first copies the store.
+//! product, at most one for each literal; it joins the operands of another disjunction half by half, and negates such a
+//! join for another conjunction. `of_cases` splits the list at one proposition after another; it makes no node if cases
+//! that differ are true at one letter, or if it needs more than 256 steps for each case on average. `classes` first
+//! copies the store.
 #![tactic(auto)]
 
 mod both;

@@ -233,7 +233,6 @@ impl Store {
         self.mapped_by(other, node, rule, &mut known)
     }
 
-    /// As `mapped`, with a memo table.
     fn mapped_by<R: LeafRule>(
         &mut self,
         other: Option<&Store>,
@@ -269,7 +268,6 @@ impl Store {
         }
     }
 
-    /// The cell of a node, of `other` or else of this store.
     fn cell_of(&self, other: Option<&Store>, node: Node) -> View
         requires held { IsNode (unwrap_or (option_copied other) self.now) node }
         ensures part { IsPart (unwrap_or (option_copied other.entry) self.now) node result }

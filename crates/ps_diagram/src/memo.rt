@@ -10,8 +10,8 @@ use std::alloc::{AllocError, Global};
 /// How many results are not kept at first.
 const PASSED: u32 = 64;
 
-/// For each key (the nodes that an operation is given), the node that it made. The first few results are not kept, and
-/// perhaps computed again, so that small diagrams need no table.
+/// The node that an operation made for each key: the nodes that it was given. The first few results are not kept, so
+/// that small diagrams need no table.
 #[derive(Drop)]
 pub(crate) struct Memo<K: Hashed> {
     pub table: KeyMap<K, Node>,

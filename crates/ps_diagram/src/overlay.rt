@@ -30,7 +30,6 @@ impl Store {
         self.overlaid(first, second, &mut known)
     }
 
-    /// As `overlay`, with a memo table.
     fn overlaid(
         &mut self,
         first: Node,
@@ -69,7 +68,6 @@ impl Store {
         Ok(node)
     }
 
-    /// As `overlaid`, for diagrams that test no proposition.
     fn overlaid_leaves(&self, first: Node, second: Node) -> Result<Node, OverlayError>
         requires { AreConstants self.now first second }
         ensures held { IfOk result (λ node. IsNode self.now node) }

@@ -85,7 +85,7 @@ impl Hashed for Packed {
     }
 }
 
-/// A list of different cells, found by a hash table.
+/// Different cells, found by a hash table.
 #[derive(Debug, Drop)]
 pub(crate) struct PackedCells {
     list: KeyList<Packed>,
@@ -119,7 +119,6 @@ impl PackedCells {
         Ok(PackedCells { list })
     }
 
-    /// The cell at an index.
     #[inline(always)]
     pub(crate) fn at(&self, place: u32) -> View
         requires { place < length self.now }

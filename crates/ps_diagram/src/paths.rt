@@ -13,8 +13,8 @@ use crate::store::Store;
 use crate::view::{Node, View};
 use std::alloc::{AllocError, Global};
 
-/// A test of one of this many last propositions is not put into the set of visited nodes: it has at most eight leaves,
-/// so that visiting it again takes about as long as finding it.
+/// Tests of this many last propositions are not put into the set of visited nodes: they have at most eight leaves, so
+/// that visiting one again takes about as long as finding it.
 const LAST: u32 = 3;
 
 impl Store {
@@ -41,7 +41,7 @@ impl Store {
         }
     }
 
-    /// The table of these leaves, in the same order.
+    /// These leaves as a table.
     pub(crate) fn found_below(&self, node: Node) -> Result<LeafTable, AllocError>
         requires held { IsNode self.now node }
         ensures { IfOk result (λ found. IsGathered self.now node found) }

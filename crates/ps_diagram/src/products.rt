@@ -28,7 +28,6 @@ pub struct Product {
 impl Product {
     ghost use Rattle.ps_diagram.specs.Products.{allows};
 
-    /// True at every letter.
     fn empty() -> Product
         ensures { (n letter : ℕ) → meets n result letter ≡ true }
     {
@@ -115,7 +114,7 @@ impl Store {
         Ok(Some(node))
     }
 
-    /// The label, if it is a conjunction of literals. Aliases are not replaced by what they stand for.
+    /// The product that a label is, if it is one; aliases are not replaced by what they stand for.
     pub fn product_of(&self, label: &Label) -> Option<Product>
         requires within { (aliases : ℕ) × IsOver aliases self.now.propositions (expression label.now) }
         ensures value { IfSome result (λ product. (known : List Bool) (letter : ℕ) →
@@ -199,7 +198,6 @@ impl Store {
     }
 }
 
-/// The first node if the proposition is in `some`, and else the second.
 fn side(some: u64, proposition: u32, first: Node, second: Node) -> Node
     requires named { proposition < 64 }
     ensures { result ≡ cond (is_in proposition some) first second }
@@ -211,7 +209,6 @@ fn side(some: u64, proposition: u32, first: Node, second: Node) -> Node
     }
 }
 
-/// The label's proposition, if it is only that.
 fn atom_of(label: &Label) -> Option<u32>
     ensures some { IfSome result (λ p. expression label.now ≡ proposition p) }
     ensures none { IfNone result (is_proposition (expression label.now) ≡ false) }

@@ -1,6 +1,6 @@
-//! Makes the diagram of a list of leaves by rows of nodes, one for each proposition from the last on, each half as long
-//! as the one before. A long list is first divided into parts, one for each letter over the first few propositions, so
-//! that the cells of a part's diagram lie together.
+//! The diagram of a list of leaves, made by rows of nodes, one for each proposition from the last on, each half as long
+//! as the one before. A long list is first divided into parts by the first few propositions, so that the cells of a
+//! part's diagram lie together.
 
 ghost use Rattle.std.specs.Prelude.{◌≡◌, ℕ, ◌+◌, ◌-◌, ◌*◌, ◌%◌, ◌^◌, ◌<◌, ◌≤◌, IfOk, OnOk, length, slice_get};
 ghost use Rattle.std.specs.Prelude.{slice_index_or};
@@ -78,7 +78,7 @@ impl Store {
         Ok(made)
     }
 
-    /// The diagram that leads to the entry to which the `depth` propositions from `first` on lead.
+    /// As `joined`, by the `depth` propositions from `first` on.
     fn halved(
         &mut self,
         nodes: Vec<Node>,
@@ -138,14 +138,12 @@ fn part_of(alloc: Global, nodes: &[Node], rest: usize, none: Node) -> Result<Vec
     Ok(part)
 }
 
-/// The node at an index, or `other` past the end.
 fn node_or(nodes: &[Node], place: usize, other: Node) -> Node
     ensures { result ≡ slice_index_or nodes.now place other }
 {
     nodes.get(place).copied().unwrap_or(other)
 }
 
-/// The number of letters over `propositions`.
 fn power(propositions: u32) -> usize
     requires few { propositions < 64 }
     ensures value { result ≡ 2 ^ propositions }

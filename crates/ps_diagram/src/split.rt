@@ -18,9 +18,7 @@ pub(crate) struct Sides {
 #[derive(Clone, Copy)]
 pub(crate) struct Split {
     pub proposition: u32,
-    /// Those of the first node.
     pub left: Sides,
-    /// Those of the second.
     pub right: Sides,
 }
 
@@ -70,7 +68,7 @@ impl Store {
         }
     }
 
-    /// The sides of two nodes at the first proposition that one of them tests, if there is one.
+    /// These sides, unless neither tests any.
     pub(crate) fn split(&self, first: Node, second: Node) -> Option<Split>
         requires first { IsNode self.now first }
         requires second { IsNode self.now second }

@@ -26,7 +26,7 @@ pub fn fair_cycle<G: Marked>(alloc: Global, graph: &G) -> Result<Option<Vec<Edge
     fair_cycle_within(alloc, graph, &components)
 }
 
-/// The edges of a path, if there is one; none if it begins at its end. Fails if out of memory.
+/// The edges of a path, if there is one, and no edges from a vertex to itself. Fails if out of memory.
 pub fn walk_to<G: Graph>(
     alloc: Global,
     graph: &G,

@@ -3,8 +3,6 @@
 /// A link, by the vertex from which it leads and the slot there that holds its target.
 #[derive(Clone, Copy, Debug, PartialEq, Eq)]
 pub struct Edge {
-    /// The vertex.
     pub vertex: usize,
-    /// The slot.
     pub slot: usize,
 }

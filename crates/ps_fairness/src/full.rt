@@ -13,13 +13,11 @@ use std::alloc::{AllocError, Global};
 /// Edges within a component, one at least, with each mark on one of them.
 #[derive(Drop)]
 pub(crate) struct Full {
-    /// The component's number.
     pub(crate) number: usize,
-    /// The edges.
     pub(crate) edges: Vec<Edge>,
 }
 
-/// Such edges of any component; `None` if in each component some mark is on no edge, or there is no edge.
+/// Such edges of any component; `None` if each lacks a mark, or an edge.
 pub(crate) fn full_component<G: Marked>(
     alloc: Global,
     graph: &G,

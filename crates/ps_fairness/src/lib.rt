@@ -1,7 +1,7 @@
 //! Fair cycles of a directed graph whose edges bear marks: closed walks on which each mark occurs.
 //!
-//! The caller supplies the graph as an `impl Graph` of `ps_components`, and the marks as an `impl Marked`. An edge is a
-//! slot of a vertex that holds a link, so two edges between the same vertices may bear different marks.
+//! The graph is an `impl Graph` of `ps_components`, and the marks are an `impl Marked`. An edge is a slot of a vertex
+//! that holds a link, so two edges between the same vertices may bear different marks.
 //!
 //! | Call | What it gives |
 //! |---|---|

@@ -32,7 +32,6 @@ pub(crate) fn truths(
     Ok(rows)
 }
 
-/// Fills a formula's row, by the rows before it.
 fn fill_row(rows: &mut Rows, row: usize, node: Node, stem: &[u64], lap: &[u64])
     requires row { row < rows.old.count }
     requires over { IsOver row node }
@@ -50,7 +49,6 @@ fn fill_row(rows: &mut Rows, row: usize, node: Node, stem: &[u64], lap: &[u64])
     }
 }
 
-/// The letter at an index within the first lap.
 fn letter_at(stem: &[u64], lap: &[u64], at: usize) -> u64
     requires { at < length stem.now + length lap.now }
     ensures { result ≡ lasso_word stem.now lap.now at }
@@ -62,9 +60,8 @@ fn letter_at(stem: &[u64], lap: &[u64], at: usize) -> u64
     }
 }
 
-/// The truth of a form of until or release at the start of the lap, and of no use for other operators. An until is true
-/// there if its right side makes it true within the first lap, a release unless its right side makes it false there:
-/// one pass over the lap tells.
+/// The truth of a form of until or release at the start of the lap. An until is true there if its right side makes it
+/// true within the first lap, a release unless its right side makes it false there: one pass tells.
 fn truth_at_lap(rows: &Rows, node: Node, stem: &[u64], lap: &[u64]) -> bool
     requires over { IsOver rows.now.count node }
     requires lasso { IsForLasso stem.now lap.now rows.now }
@@ -117,7 +114,6 @@ fn truth_here(rows: &Rows, node: Node, letter: u64, at: usize, next: bool) -> bo
     }
 }
 
-/// The truth of until or release at an index, by those of its sides and its own at the next.
 fn step(is_until: bool, left: bool, right: bool, next: bool) -> bool
     ensures { result ≡ step is_until left right next }
 {

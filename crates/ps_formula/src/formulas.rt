@@ -72,8 +72,8 @@ impl Formulas {
         Ok(index as u32)
     }
 
-    /// Whether a lasso satisfies a formula at its first index. The time is at most proportional to the number of nodes
-    /// up to the formula's, times that of letters; the memory is one bit for each of both. Fails if out of memory.
+    /// Whether a lasso satisfies a formula at its first index, in time at most proportional to the number of nodes up
+    /// to the formula's, times that of letters; in memory, a bit for each of both. Fails if out of memory.
     pub fn holds(&self, root: u32, stem: &[u64], lap: &[u64]) -> Result<bool, AllocError>
         requires root { root < length self.now }
         requires some { 0 < length lap.now }
@@ -85,9 +85,9 @@ impl Formulas {
         Ok(rows.get(root, 0))
     }
 
-    /// The negation normal forms of a formula and of its negation, in a table of their own, which may have formulas
-    /// that neither needs. It has at most six times as many nodes as there are up to the formula's, however deep `<->`
-    /// is nested. Fails if out of memory.
+    /// The negation normal forms of a formula and of its negation, in a table of their own, which may have others. It
+    /// has at most six times as many nodes as there are up to the formula's, however deep `<->` is nested. Fails if out
+    /// of memory.
     pub fn normal_form(&self, root: u32) -> Result<NormalForm, AllocError>
         requires { root < length self.now }
         ensures formula { IfOk result (λ normal.

@@ -7,7 +7,7 @@ ghost use Rattle.ps_formula.specs.Formulas.{Formula, IsTable, and_of, formula_at
 ghost use Rattle.ps_formula.specs.Formulas.{release, until, weak_until};
 ghost use Rattle.ps_formula.specs.Satisfaction.{IsDecidedWord, Satisfies};
 
-/// A node's formula is its operator, applied to the operands' formulas. Formulas stay if a table grows.
+/// A node's formula is its operator, applied to the operands' formulas, and stays if a table grows.
 pub fn each_node_is_a_formula()
     ensures operator { (nodes : List Node) (k : ℕ) (node : Node) → IsTable nodes → slice_get nodes k ≡ Some node →
         formula_at nodes k ≡ formula_of (formulas_of nodes) node }
@@ -28,8 +28,7 @@ pub fn lasso_truths()
     ensures decided { (stem lap : List ℕ) → 0 < length lap → IsDecidedWord (lasso_word stem lap) }
 {}
 
-/// The expansion laws. Until holds where its right side does, or its left side does and until holds at the next index;
-/// release, where its right side does, and its left side does or release holds at the next index.
+/// The expansion laws: until and release by their truth at the next index.
 pub fn expansions()
     ensures until { (f g : Formula) (w : ℕ → ℕ) (i : ℕ) →
         (Satisfies (until f g) w i) ↔ (Satisfies (or_of g (and_of f (next (until f g)))) w i) }

@@ -1,7 +1,7 @@
 //! Formulas of linear temporal logic, and the lassos that satisfy them.
 //!
-//! Propositions are numbered; a letter is a number whose bit p is the truth of proposition p, so there are at most 64.
-//! A lasso is a word of a stem, and of a lap that repeats for ever.
+//! Bit p of a letter, which is a number, is the truth of proposition p, so there are at most 64. A lasso is a word of a
+//! stem, and of a lap that repeats for ever.
 //!
 //! | Call | What it gives |
 //! |---|---|
@@ -9,9 +9,9 @@
 //! | `Formulas::as_slice`, `len` | the nodes of a table, no two of which are equal, and their number |
 //! | `Formulas::holds(root, stem, lap)` | whether a lasso satisfies a formula |
 //! | `Formulas::normal_form(root)` | the negation normal forms of a formula and of its negation |
-//! | `NormalFormulas::as_slice`, `len` | the nodes of a table of formulas in negation normal form |
-//! | `laws::each_node_is_a_formula` | a law: a node's formula is its operator, applied to the operands' formulas |
-//! | `laws::rest_decides` | a law: whether a word satisfies a formula at an index depends on the letters from it on |
+//! | `NormalFormulas::as_slice`, `len` | the nodes of a table in negation normal form |
+//! | `laws::each_node_is_a_formula` | a law: a node's formula is its operator, applied to its operands' |
+//! | `laws::rest_decides` | a law: the letters from an index on decide whether a word satisfies a formula there |
 //! | `laws::lasso_truths` | a law: truths along a lasso repeat with the lap, and are decided at each index |
 //! | `laws::expansions` | a law: until and release by their truth at the next index |
 //! | `laws::weak_until_is_not_until` | a law: weak until may hold where its right side never does |

@@ -1,4 +1,4 @@
-//! The negation normal form of a formula, and of its negation.
+//! Negation normal forms.
 //!
 //! Each formula gets two nodes, one for its negation, so that no operator, not even `<->`, needs its operands more than
 //! once. An operator with a constant operand gets none if its formula is a constant too, or its other operand.
@@ -15,14 +15,11 @@ use crate::normal_formulas::NormalFormulas;
 use crate::normal_node::NormalNode;
 use std::alloc::{AllocError, Global};
 
-/// A formula and its negation, as formulas of one table.
+/// A formula and its negation in negation normal form, by their indices in one table.
 #[derive(Debug, Drop)]
 pub struct NormalForm {
-    /// The table.
     pub table: NormalFormulas,
-    /// The formula's index.
     pub formula: u32,
-    /// The index of its negation.
     pub negation: u32,
 }
 
@@ -89,7 +86,6 @@ fn forms_of(table: &mut NormalFormulas, known: &[Forms], node: Node) -> Result<F
     }
 }
 
-/// Adds a node and its negation.
 fn pair(
     table: &mut NormalFormulas,
     formula: NormalNode,
@@ -158,7 +154,6 @@ fn constant_side(table: &NormalFormulas, f: Forms, g: Forms) -> Option<Forms>
     }
 }
 
-/// `f || g`
 fn either(table: &mut NormalFormulas, f: Forms, g: Forms) -> Result<Forms, AllocError>
     requires f { AreWithin table.old f }
     requires g { AreWithin table.old g }
@@ -227,7 +222,6 @@ fn is_decided_now(table: &NormalFormulas, f: Forms, g: Forms) -> bool
     }
 }
 
-/// `f R g`
 fn release(table: &mut NormalFormulas, f: Forms, g: Forms) -> Result<Forms, AllocError>
     requires f { AreWithin table.old f }
     requires g { AreWithin table.old g }

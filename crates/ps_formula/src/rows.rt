@@ -4,14 +4,12 @@ ghost use Rattle.std.specs.Prelude.{◌≡◌, ◌+◌, ◌*◌, ◌^◌, ◌<�
 
 use std::alloc::{AllocError, Global};
 
-/// The bits of a word.
 const WORD: usize = 64;
 
-/// A row for each formula, with its truth at each index of a lasso. That at the index `at` is, in row r, the bit with
+/// A row for each formula, with its truth at each index of a lasso: in row r, that at the index `at` is the bit with
 /// the number `r * width + at`; bit b of word w has the number `64 * w + b`.
 #[derive(Drop)]
 pub(crate) struct Rows {
-    /// How many rows there are.
     pub count: usize,
     /// The length of the stem.
     pub stem: usize,

@@ -14,12 +14,12 @@ pub fn one_list_of_tokens()
         ((others : Stream Sign) → AreGameTokens text others → others ≡ tokens) }
 {}
 
-/// It has at most one answer: its game, or its first error with the offset.
+/// A text has at most one answer: its game, or its first error with the offset.
 pub fn one_answer()
     ensures { (text : List ℕ) (a b : Result NamedGameData (Found PgCause)) → Answer text a → Answer text b → a ≡ b }
 {}
 
-/// It has an answer. This is about texts: a call may also run out of memory.
+/// A text has an answer. This is about texts: a call may also run out of memory.
 pub fn some_answer()
     ensures { (text : List ℕ) → (answer : Result NamedGameData (Found PgCause)) × Answer text answer }
 {}

@@ -17,9 +17,7 @@ use std::marker::Model;
 pub struct Node {
     /// Its id, which no other node has.
     pub id: u64,
-    /// Its priority.
     pub priority: u64,
-    /// Its owner.
     pub owner: Player,
     /// Its name, without the quotes.
     pub name: Option<Vec<u8>>,
@@ -110,7 +108,7 @@ impl Nodes {
     }
 }
 
-/// Reserves memory for the next node's name, and gives those before it an empty one, if it has a name.
+/// If the next node has a name, reserves memory for it, after an empty one for each node before it without a name.
 fn make_room(
     names: &mut Vec<Option<Vec<u8>>>,
     count: usize,

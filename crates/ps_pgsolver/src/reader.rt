@@ -163,7 +163,6 @@ fn node(
     })
 }
 
-/// Parses an id that no earlier node has.
 #[inline(always)]
 fn new_id(tokens: &mut Tokens, nodes: &Nodes) -> Result<u64, PgFault>
     ensures part { ReadsAs (λ id. id) (parts.new_id (ids_of nodes.now)) tokens.old result tokens.new }
@@ -247,7 +246,6 @@ fn successor(tokens: &mut Tokens, known: Option<&Ids>) -> Result<u64, PgFault>
     if_known(id, start, known)
 }
 
-/// Parses a name, if one comes next.
 #[inline(always)]
 fn name(alloc: Global, tokens: &mut Tokens) -> Result<Option<Vec<u8>>, PgFault>
     ensures part { ReadsAs name_bytes parts.name tokens.old result tokens.new }
@@ -270,7 +268,6 @@ fn semicolon(tokens: &mut Tokens) -> Result<(), PgFault>
     semicolon_of(tokens.next())
 }
 
-/// Checks that no token is left.
 fn finish(tokens: &Tokens) -> Result<(), PgFault>
     ensures { result ≡ end_answer (next_of tokens.now) (offset_of tokens.now.pieces tokens.now.end) }
 {
@@ -281,7 +278,6 @@ fn finish(tokens: &Tokens) -> Result<(), PgFault>
     }
 }
 
-/// The number, if it is a new id.
 #[inline(always)]
 fn unless_twice(id: u64, start: usize, nodes: &Nodes) -> Result<u64, PgFault>
     ensures answer { result ≡ id_of_number (ids_of nodes.now) start id }
@@ -296,7 +292,6 @@ fn unless_twice(id: u64, start: usize, nodes: &Nodes) -> Result<u64, PgFault>
     Ok(id)
 }
 
-/// The number as an owner, if it is 0 or 1.
 #[inline(always)]
 fn one_of_two(owner: u64, start: usize) -> Result<Player, PgFault>
     ensures answer { result ≡ owner_of_number start owner }
@@ -359,7 +354,6 @@ fn semicolon_of(token: Token) -> Result<(), PgFault>
     }
 }
 
-/// The number that a token is, or its error.
 #[tactic(auto, using(crate::proofs::NumberTokens::number_small, crate::proofs::NumberTokens::number_large))]
 fn number_of(token: Token) -> Result<u64, PgFault>
     requires { IsPlain token.kind }

@@ -41,7 +41,6 @@ pub enum Kind<'a> {
 /// A token, and where it is.
 #[derive(Clone, Copy)]
 pub struct Token<'a> {
-    /// Its kind.
     pub kind: Kind<'a>,
     /// The offset of its first byte, from 0.
     pub start: usize,
@@ -224,7 +223,6 @@ fn token_from<'a>(text: &'a [u8], at: usize) -> (Token<'a>, usize)
     (Token { kind, start }, start + size)
 }
 
-/// The offset of the next token, or of the end.
 #[inline(always)]
 fn next_start(text: &[u8], at: usize) -> usize
     requires { at ≤ length text.now }
@@ -274,7 +272,7 @@ fn number_at<'a>(before: &[u8], rest: &'a [u8]) -> (Kind<'a>, usize)
     }
 }
 
-/// The same, whatever comes before or after it.
+/// The number of these digits.
 fn digits_at<'a>(rest: &'a [u8]) -> (Kind<'a>, usize)
     ensures { IsLexed result (Number (decimal_value (take_while is_digit rest.now))) (prefix_len is_digit rest.now)
         (length rest.now) }
@@ -288,7 +286,7 @@ fn digits_at<'a>(rest: &'a [u8]) -> (Kind<'a>, usize)
     }
 }
 
-/// The same for a run of letters.
+/// The token of a run of letters, and its length.
 #[inline(always)]
 fn word_at<'a>(before: &[u8], rest: &'a [u8]) -> (Kind<'a>, usize)
     ensures { IsLexed result (word_sign before.now rest.now) (prefix_len is_letter rest.now) (length rest.now) }
@@ -316,7 +314,6 @@ fn name_at<'a>(behind: &'a [u8]) -> (Kind<'a>, usize)
     }
 }
 
-/// A comma, a semicolon, or a byte that is never allowed.
 fn punctuation<'a>(byte: u8) -> Kind<'a>
     ensures sign { sign_of result ≡ Some (punctuation_sign byte) }
     ensures plain { IsPlain result }
@@ -328,7 +325,6 @@ fn punctuation<'a>(byte: u8) -> Kind<'a>
     }
 }
 
-/// Whether the first byte is in the class.
 fn begins_with(text: &[u8], class: Class) -> bool
     ensures { result ≡ begins_in (in_class class) text.now }
 {
@@ -338,7 +334,6 @@ fn begins_with(text: &[u8], class: Class) -> bool
     }
 }
 
-/// Whether the last byte is in the class.
 fn ends_in_class(text: &[u8], class: Class) -> bool
     ensures { result ≡ ends_in (in_class class) text.now }
 {

@@ -45,7 +45,6 @@ fn write_head(out: &mut Vec<u8>, id: u64) -> Result<(), AllocError>
     out.extend_from_slice(b";\n")
 }
 
-/// Writes a line for each vertex.
 fn write_vertices(out: &mut Vec<u8>, game: &NamedGame) -> Result<(), AllocError>
     ensures bytes { OnOk result (out.new.items ≡ out.old.items ++
         vertex_lines game.now.ids game.now.names 0 game.now.game) }
@@ -80,7 +79,6 @@ fn write_vertex(out: &mut Vec<u8>, named: &NamedGame, vertex: usize) -> Result<(
     Ok(())
 }
 
-/// Writes the successors' ids, with commas between them.
 fn write_successors(out: &mut Vec<u8>, named: &NamedGame, vertex: usize) -> Result<(), AllocError>
     requires { vertex < vertex_count named.now.game }
     ensures { OnOk result (out.new.items ≡ out.old.items ++ list_text named.now.ids
@@ -95,7 +93,6 @@ fn write_successors(out: &mut Vec<u8>, named: &NamedGame, vertex: usize) -> Resu
     Ok(())
 }
 
-/// Writes a name, if there is one, after a space.
 fn write_name(out: &mut Vec<u8>, name: Option<&[u8]>) -> Result<(), AllocError>
     ensures { OnOk result (out.new.items ≡ out.old.items ++ name_text (option_copied name.entry)) }
 {

@@ -15,12 +15,10 @@ use ps_simulate::Wire;
 use std::alloc::{AllocError, Global};
 use std::marker::Model;
 
-/// The outputs and next latches of a circuit at given latches.
+/// The outputs and the latches' next values, at given latches.
 #[derive(Drop)]
 pub struct Outcome {
-    /// Each output.
     pub outputs: Vec<Truth>,
-    /// The next value of each latch.
     pub nexts: Vec<Truth>,
 }
 

@@ -16,9 +16,7 @@ use std::alloc::{AllocError, Global};
 /// The propositions for which a circuit's inputs and outputs stand.
 #[derive(Drop)]
 pub struct Roles {
-    /// That of each input.
     pub inputs: Vec<u32>,
-    /// That of each output.
     pub outputs: Vec<u32>,
 }
 

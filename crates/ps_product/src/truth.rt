@@ -145,8 +145,7 @@ impl Truths {
             (λ letter. with_sign one_negated (is_some (leaf_of self.old one letter)) &&
             with_sign other_negated (is_some (leaf_of self.old other letter))) }
     {
-        // where `one` is false, so is the conjunction; a diagram that is negated as `other` is has the leaf of `rest`
-        // there
+        // where `one` is false, so is the conjunction: `rest` is false in a diagram that is negated as `other` is
         let rest = if other_negated { self.one } else { self.none };
         let (high, low) = if one_negated {
             (rest, other)

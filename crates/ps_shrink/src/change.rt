@@ -18,9 +18,7 @@ pub(crate) enum Site {
 #[derive(Clone, Copy)]
 pub(crate) struct Change {
     pub site: Site,
-    /// The first signal.
     pub first: Signal,
-    /// The second signal.
     pub second: Signal,
     /// Whether the conjunction is negated.
     pub is_negated: bool,

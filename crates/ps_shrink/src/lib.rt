@@ -9,7 +9,7 @@
 //!
 //! | Call | What it gives |
 //! |---|---|
-//! | `shrunk(circuit, automaton, order, role, steps)` | a `Reduction`: a circuit that wins, or a stimulus of a loss |
+//! | `shrunk(circuit, automaton, order, role, steps)` | a `Reduction`: a circuit that wins, or a losing stimulus |
 //!
 //! Which smaller circuit is found is not promised, but depends on the arguments alone; at most `steps` changes are
 //! tried. A changed circuit first runs on up to eight stimuli on which others lost, the latest first, for up to 256

@@ -12,26 +12,23 @@ use std::alloc::{AllocError, Global};
 /// The literals that a gate reads, whose variables are indices into the table of values.
 #[derive(Clone, Copy)]
 pub struct Operands {
-    /// The first literal.
     pub first: Literal,
-    /// The second literal.
     pub second: Literal,
 }
 
-/// What a step evaluates in 256 runs at once. The table has the gates' values in the order of evaluation, so that a
-/// gate takes only the eight bytes of its two literals, and a step writes the table from front to back: the table of a
-/// large circuit does not fit into the fastest caches, and what a step reads and writes there decides its time.
+/// What a step evaluates in 256 runs at once: the gates, the outputs and the latches' next values. The table has the
+/// gates' values in the order of evaluation, so that a gate is eight bytes for two literals, and a step writes from
+/// front to back: what it reads and writes decides its time, since the table of a large circuit does not fit into the
+/// fastest caches.
 #[derive(Drop)]
 pub struct LanePlan {
     /// The table's length: one entry for each variable, the constant 0 included.
     pub size: usize,
-    /// How many values stand before those of the gates: the constant 0, the inputs and the latches.
+    /// How many values come before the gates': the constant 0, the inputs and the latches.
     pub front: usize,
     /// The gates, in the order of evaluation.
     pub gates: Vec<Operands>,
-    /// The literals of the outputs.
     pub outputs: Vec<Literal>,
-    /// Those of the latches' next values.
     pub nexts: Vec<Literal>,
 }
 
@@ -58,8 +55,7 @@ impl LanePlan {
     }
 }
 
-/// The new index for each index of the table: the same below `front`; from there on, the gates in the order of their
-/// rows.
+/// The new indices: the same below `front`, and then the gates in the order of their rows.
 fn moved_places(
     alloc: Global,
     rows: &[Row],

@@ -71,7 +71,7 @@ impl<'a> LaneSimulator<'a> {
         read_words(&self.plan.nexts, &self.values, &mut self.latches);
     }
 
-    /// The value of a latch in a run.
+    /// A latch's value in a run.
     pub fn latch(&self, lane: usize, number: usize) -> bool
         requires lane { lane < 256 }
         requires number { number < length self.now.circuit.latches }
@@ -82,7 +82,6 @@ impl<'a> LaneSimulator<'a> {
     }
 }
 
-/// The latches' resets, the same in each run.
 fn first_words(alloc: Global, circuit: &Circuit) -> Result<Vec<[u64; 4]>, AllocError>
     ensures { IfOk result (λ words. (lane : ℕ) → lane < 256 → lane_of words.items lane ≡ resets circuit.now) }
 {
@@ -99,7 +98,6 @@ fn mask(is_set: bool) -> u64
     u64::from(is_set).wrapping_neg()
 }
 
-/// Copies words into a table, from an index on.
 fn put_words(values: &mut [[u64; 4]], start: usize, words: &[[u64; 4]])
     requires { start + length words.now ≤ length values.old }
     ensures put { (k : ℕ) → k < length words.now → slice_index_or values.new (start + k) [] ≡ slice_index_or
@@ -112,7 +110,6 @@ fn put_words(values: &mut [[u64; 4]], start: usize, words: &[[u64; 4]])
     }
 }
 
-/// A literal's values in all runs.
 fn bits(values: &[[u64; 4]], literal: Literal) -> u64x4
     requires { variable literal < length values.now }
     ensures { (lane : ℕ) → lane < 256 → lane_bit result lane ≡ read (lane_of values.now lane) (wire_in literal) }
@@ -134,7 +131,7 @@ fn work_words(gates: &[Operands], front: usize, values: &mut [[u64; 4]])
     }
 }
 
-/// Fills the table, which begins with the constant 0: the inputs, the latches and the gates.
+/// Fills the table after the constant 0: inputs, latches and gates.
 fn fill_words(
     gates: &[Operands],
     front: usize,
@@ -151,7 +148,6 @@ fn fill_words(
     work_words(gates, front, values);
 }
 
-/// Stores the values of literals.
 fn read_words(literals: &[Literal], values: &[[u64; 4]], words: &mut [[u64; 4]])
     requires within { All (λ literal. variable literal < length values.now) literals.now }
     requires fit { length words.old ≡ length literals.now }

@@ -1,4 +1,4 @@
-//! Runs of a circuit on a lasso: a stem once, and then a lap again and again, until the latch values repeat.
+//! Runs of a circuit on a lasso, until latch values repeat.
 
 ghost use Rattle.std.specs.Prelude.{◌≡◌, ◌+◌, ◌*◌, ◌<◌, ◌≤◌, Bool, List, [], false, length, map, All, IfOk, IfErr};
 ghost use Rattle.std.specs.Prelude.{IsTrue, OnOk, vec_len};
@@ -30,7 +30,6 @@ use thiserror::Error;
 /// Whether an automaton accepts a trace, and the lengths of its stem and lap.
 #[derive(Clone, Copy, Debug, PartialEq, Eq)]
 pub struct Verdict {
-    /// Whether it does.
     pub accepted: bool,
     /// The letters before the first of two readings of the lap that begin with the same latch values.
     pub stem: usize,
@@ -47,8 +46,7 @@ pub enum LassoFault {
     /// The lap has no letters.
     #[error("the lap is empty")]
     EmptyLap,
-    /// The names of the circuit's inputs or outputs are not what its role requires: each proposition that it reads or
-    /// sets, once, and no others.
+    /// Inputs or outputs do not have the names that the role requires: each proposition that it reads or sets, once.
     #[error("the symbols are not the names of the propositions")]
     Symbols,
     /// Out of memory.
@@ -119,10 +117,9 @@ pub fn lasso(
     })
 }
 
-/// The infinite word of a circuit that reads a stem and then the lap again and again: from the first of two readings of
-/// the lap that begin with the same latch values, it repeats for ever. The letters read have a bit for each input, in
-/// the circuit's order; those of the word, a bit for each proposition, which is the input or output of its name. Fails
-/// as `lasso`.
+/// The word of a circuit that reads a stem once and a lap again and again: from the first of two readings of the lap
+/// that begin with the same latch values, it repeats for ever. Letters that are read have a bit for each input, in the
+/// circuit's order; those of the word, a bit for each proposition, the input or output of its name. Fails as `lasso`.
 pub fn trace_word(
     alloc: Global,
     circuit: &Circuit,
@@ -207,8 +204,7 @@ impl<'a> Run<'a> {
         })
     }
 
-    /// Reads the stem, and then the lap until a reading begins with the latch values of an earlier one, whose number,
-    /// from 0, is returned.
+    /// Reads on until the lap begins with the latch values of an earlier reading, whose number, from 0, is returned.
     fn first_repetition(
         &mut self,
         alloc: Global,
@@ -246,7 +242,7 @@ impl<'a> Run<'a> {
     }
 }
 
-/// Adds latch values to those that were seen, in a search tree; returns their index if they were seen before.
+/// The index of latch values that were seen before; others are added, in a search tree.
 fn see(
     alloc: Global,
     seen: &mut BTreeMap<Vec<bool>, usize>,
@@ -264,7 +260,6 @@ fn see(
     Ok(None)
 }
 
-/// Runs through a word, and appends the letters of its steps.
 fn read_word(
     naming: &Naming,
     simulator: &mut Simulator,

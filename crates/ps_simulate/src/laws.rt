@@ -9,8 +9,8 @@ ghost use Rattle.ps_simulate.specs.Lassos.{HasOneVerdict, HasOneWord};
 ghost use Rattle.ps_simulate.specs.Symbols.{HasSymbols};
 ghost use Rattle.ps_simulate.specs.declared.role.Role.{Role};
 
-/// For given inputs and latches, a circuit has values, and any two lists of them agree at each literal whose variable
-/// is 0 or defined.
+/// A circuit has values for given inputs and latches, and any two lists of them agree at each literal whose variable is
+/// 0 or defined.
 pub fn circuit_has_one_values()
     ensures { (c : CircuitData) → IsCircuit c → HasOneValues c }
 {}
@@ -31,7 +31,7 @@ pub fn word_is_one()
     circuit_has_one_values();
 }
 
-/// It has at most one verdict there.
+/// A circuit with the inputs and outputs that its role requires has at most one verdict on a stem and a lap.
 pub fn verdict_is_one()
     ensures { (role : Role) (file : FileData) (c : CircuitData) (stem lap : List (List Bool)) → IsCircuit c →
         HasSymbols role file.names file.controllable c → HasOneVerdict file c stem lap }

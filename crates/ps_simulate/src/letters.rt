@@ -52,8 +52,7 @@ impl Letters {
     }
 }
 
-/// Parses a stimulus without a lap, a line of digits for each letter. Fails with the first error in the text and its
-/// offset, or if out of memory.
+/// As `parse_stimulus` without `split`, with the same faults.
 pub fn parse_letters(alloc: Global, text: &[u8], width: usize) -> Result<Letters, StimulusFault>
     ensures { IsLettersAnswer text.now width result }
 {

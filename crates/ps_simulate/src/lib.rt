@@ -11,7 +11,7 @@
 //! | `output_wires(places)`, `next_wires` | the wires of the outputs and of the latches' next literals |
 //! | `trace_word(circuit, names, controllable, role, stem, lap)` | the `TraceWord` until latch values repeat at a lap |
 //! | `lasso(circuit, automaton, role, stem, lap)` | the `Verdict` on this word, or a `LassoFault` |
-//! | `input_symbols(circuit)`, `output_symbols` | the optional names of the inputs and of the outputs |
+//! | `input_symbols(circuit)`, `output_symbols` | the optional names of inputs and outputs |
 //! | `proposition_of(names, controllable, wanted, symbol)` | what a symbol names, controllable or not as `wanted` |
 //! | `is_in_list(list, proposition)` | whether the list has it |
 //! | `Role::reads_controllable`, `sets_controllable` | whether inputs, or outputs, are the controllable propositions |
@@ -22,8 +22,8 @@
 //! | `word_is_one`, `verdict_is_one` | laws: if so, it has at most one word, and one verdict, on a lasso |
 //! | `stimulus_text_has_one_answer`, `stimulus_text_has_some_answer` | laws: a text has exactly one answer |
 //!
-//! A step allocates no memory, and takes time proportional to the number of inputs, latches, outputs and gates. A lasso
-//! may take as many laps as the latches have combinations of values; those that were seen are in a search tree.
+//! A step allocates no memory, in time proportional to inputs, latches, outputs and gates. A lasso may take as many
+//! laps as the latches have combinations of values; a search tree has those that were seen.
 #![tactic(auto)]
 
 mod fault;

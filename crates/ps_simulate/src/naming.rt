@@ -14,14 +14,11 @@ use crate::symbols::{input_symbols, is_in_list, output_symbols, proposition_of};
 use ps_circuit::Circuit;
 use std::alloc::{AllocError, Global};
 
-/// For each proposition, the input or output that has its name.
+/// For each proposition, the index of the input or output of its name.
 #[derive(Drop)]
 pub(crate) struct Naming<'a> {
-    /// The propositions' names.
     pub names: &'a [Vec<u8>],
-    /// For each, the index of the input of this name.
     pub inputs: Vec<Option<usize>>,
-    /// For each, the index of the output of this name.
     pub outputs: Vec<Option<usize>>,
 }
 
@@ -77,8 +74,8 @@ impl<'a> Naming<'a> {
     }
 }
 
-/// For each proposition, the index of its symbol; `None` unless the symbols name, once each, exactly those propositions
-/// that are controllable (or not, as `wanted` says).
+/// For each proposition, the index of its symbol; `None` unless the symbols name, once each, exactly the controllable
+/// propositions, or the others, as `wanted` says.
 fn places_of(
     alloc: Global,
     names: &[Vec<u8>],
@@ -123,7 +120,6 @@ fn put_places(
     Ok(Some(places))
 }
 
-/// Whether each proposition that is wanted has an index.
 fn is_full(controllable: &[u32], wanted: bool, places: &[Option<usize>]) -> bool
     ensures full { result ≡ true → (p : ℕ) → p < length places.now → is_among p controllable.now ≡ wanted →
         slice_index_or places.now p None ≢ None }

@@ -21,7 +21,6 @@ pub fn plan_of_needed(alloc: Global, circuit: &Circuit) -> Result<Plan, AllocErr
     Ok(plan)
 }
 
-/// Which values of the table a step needs.
 fn needed_places(alloc: Global, plan: &Plan) -> Result<Vec<bool>, AllocError>
     requires rows { All (IsRowInTable plan.now.size) plan.now.rows.items }
     requires outputs { All (λ w. w.place < plan.now.size) plan.now.outputs.items }
@@ -36,7 +35,6 @@ fn needed_places(alloc: Global, plan: &Plan) -> Result<Vec<bool>, AllocError>
     Ok(needed)
 }
 
-/// Records what the wires need.
 fn need_each(wires: &[Wire], needed: &mut [bool])
     requires within { All (λ w. w.place < length needed.old) wires.now }
     ensures { AddsNeeds NeedsWire needed.old needed.new wires.now }

@@ -71,7 +71,6 @@ impl<'a> Places<'a> {
     }
 }
 
-/// The variables in the order of their indices.
 fn variables_of(alloc: Global, circuit: &Circuit) -> Result<Vec<u32>, AllocError>
     ensures variables { IfOk result (λ all. all.items ≡ variables circuit.now) }
     ensures well_formed { IsCircuit circuit.now }
@@ -85,7 +84,6 @@ fn variables_of(alloc: Global, circuit: &Circuit) -> Result<Vec<u32>, AllocError
         .collect(alloc)
 }
 
-/// The same, with a search for their indices.
 fn ids_of(alloc: Global, variables: &[u32]) -> Result<Ids, AllocError>
     requires { AllPairs (λ v w. v ≢ w) variables.now }
     ensures { IfOk result (λ ids. ids ≡ variables.now) }

@@ -7,24 +7,19 @@ use crate::places::Places;
 use ps_circuit::Circuit;
 use std::alloc::{AllocError, Global};
 
-/// A literal whose variable is an index into the table of values. It has only 4 bytes, since a circuit has fewer than
-/// 2^31 variables, and a step reads three of them for each gate.
+/// A literal whose variable is an index into the table, of only 4 bytes: a circuit has fewer than 2^31 variables, and a
+/// step reads three of them for each gate.
 #[derive(Clone, Copy)]
 pub struct Wire {
-    /// The index.
     pub place: u32,
-    /// Whether the literal is negated.
     pub is_negated: bool,
 }
 
-/// A gate: the index of its value, and what it reads.
+/// A gate: the index of its value, and the literals that it reads.
 #[derive(Clone, Copy)]
 pub struct Row {
-    /// The index of its value.
     pub target: u32,
-    /// The first literal.
     pub first: Wire,
-    /// The second literal.
     pub second: Wire,
 }
 
@@ -32,13 +27,10 @@ pub struct Row {
 /// constant 0, the inputs, the latches and the gates.
 #[derive(Drop)]
 pub struct Plan {
-    /// The table's length.
     pub size: usize,
     /// The gates, each after those that it reads.
     pub rows: Vec<Row>,
-    /// The literals of the outputs.
     pub outputs: Vec<Wire>,
-    /// Those of the latches' next values.
     pub nexts: Vec<Wire>,
 }
 

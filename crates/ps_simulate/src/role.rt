@@ -5,7 +5,7 @@
 pub enum Role {
     /// Its outputs are the controllable propositions, its inputs the others.
     Controller,
-    /// The reverse.
+    /// Its inputs are the controllable propositions, its outputs the others.
     Environment,
 }
 

@@ -123,7 +123,7 @@ fn work(rows: &[Row], values: &mut [bool])
     }
 }
 
-/// Fills the table, which begins with the constant 0: the inputs, the latches and the gates.
+/// Fills the table after the constant 0: inputs, latches and gates.
 fn fill(rows: &[Row], inputs: &[bool], latches: &[bool], values: &mut [bool])
     requires { IsTableFor rows.now inputs.now latches.now values.old }
     ensures { IsWorkedOut rows.now inputs.now latches.now (length values.old) values.new }
@@ -133,7 +133,6 @@ fn fill(rows: &[Row], inputs: &[bool], latches: &[bool], values: &mut [bool])
     work(rows, values);
 }
 
-/// Stores the values of literals.
 fn read_all(wires: &[Wire], values: &[bool], bits: &mut [bool])
     requires within { All (λ w. w.place < length values.now) wires.now }
     requires fit { length bits.old ≡ length wires.now }

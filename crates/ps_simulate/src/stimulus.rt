@@ -28,8 +28,8 @@ impl Model for Stimulus {
     ghost view = { λ s. record { stem = letters_of s.stem.items; lap = letters_of s.lap.items } };
 }
 
-/// Parses a stimulus, a line of digits for each letter. With `split`, a line `-` separates the stem from the lap;
-/// without it, all letters are the stem's. Fails with the first error in the text and its offset, or if out of memory.
+/// Parses a stimulus, a line of digits for each letter. With `split`, a line `-` comes between stem and lap; else there
+/// is no lap. Fails with the first error in the text and its offset, or if out of memory.
 pub fn parse_stimulus(
     alloc: Global,
     text: &[u8],
@@ -68,12 +68,11 @@ pub fn stimulus_text_has_one_answer()
     ensures { (text : List ℕ) (width : ℕ) (split : Bool) → HasOneAnswer text width split }
 {}
 
-/// It has an answer. This is about texts: a call may also run out of memory.
+/// A text of a stimulus has an answer. This is about texts: a call may also run out of memory.
 pub fn stimulus_text_has_some_answer()
     ensures { (text : List ℕ) (width : ℕ) (split : Bool) → HasSomeAnswer text width split }
 {}
 
-/// The next newline's offset, or else the text's end.
 pub(crate) fn line_end(text: &[u8], start: usize) -> usize
     requires { start < length text.now }
     ensures { IsLineEnd text.now start result }
@@ -81,14 +80,12 @@ pub(crate) fn line_end(text: &[u8], start: usize) -> usize
     start + run_length(&text[start..], Class::Inner)
 }
 
-/// Whether a line is `-`.
 fn is_divider(line: &[u8]) -> bool
     ensures { IsTrue result ↔ (line.now ≡ divider) }
 {
     line.len() == 1 && line[0] == b'-'
 }
 
-/// The index of the first byte that is not a digit.
 fn first_wrong(line: &[u8]) -> Option<usize>
     ensures digits { IfNone result (All IsDigit line.now) }
     ensures wrong { IfSome result (λ j. (j < length line.now) × ¬ IsDigit (slice_index line.now j)) }

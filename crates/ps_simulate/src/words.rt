@@ -4,7 +4,7 @@ ghost use Rattle.std.specs.Prelude.{◌≡◌, ◌≤◌, length, take, drop};
 
 use std::marker::Model;
 
-/// The letters of a trace on a lasso: a stem, and a lap that repeats for ever. Bit p of a letter is proposition p.
+/// The letters of a trace on a lasso; bit p of a letter is proposition p.
 #[derive(Debug, Drop)]
 pub struct TraceWord {
     letters: Vec<u64>,
@@ -32,14 +32,14 @@ impl TraceWord {
         TraceWord { letters, start }
     }
 
-    /// The stem.
+    /// The letters of the stem.
     pub fn stem(&self) -> &[u64]
         ensures { result.now ≡ self.now.stem }
     {
         &self.letters[..self.start]
     }
 
-    /// The lap.
+    /// Those of the lap.
     pub fn lap(&self) -> &[u64]
         ensures { result.now ≡ self.now.lap }
     {

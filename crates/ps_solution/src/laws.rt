@@ -13,15 +13,14 @@ pub fn one_answer()
         ReadsSolution ids text a → ReadsSolution ids text b → a ≡ b }
 {}
 
-/// It has an answer. This is about texts: a call may also run out of memory.
+/// A text has an answer. This is about texts: a call may also run out of memory.
 pub fn some_answer()
     ensures { (ids text : List ℕ) → (answer : Result SolutionData (Found CertCause)) ×
         ReadsSolution ids text answer }
 {}
 
-/// After an optional line such as `paritysol 7;`, the entries are exactly the winners and moves of the solution: `n W
-/// m;` if player W wins the vertex with the id n, and the move there leads to that with the id m; `n W;` if there is no
-/// move.
+/// The entries are exactly the winners and moves of the solution: `n W m;` if player W wins the vertex with the id n,
+/// and moves from there to that with the id m; `n W;` if there is no move.
 pub fn solution_has_entries()
     ensures { (ids text : List ℕ) (solution : SolutionData) → ReadsSolution ids text (Ok solution) →
         HasEntries ids text solution }

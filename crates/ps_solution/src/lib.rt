@@ -8,8 +8,8 @@
 //! | `one_answer`, `some_answer` | laws: a text has exactly one answer for a game |
 //! | `solution_has_entries` | a law: the entries are exactly the winners and moves of the solution |
 //!
-//! `ps_referee` judges whether a solution is right. Parsing takes time proportional to the length of the text and the
-//! number of vertices, but ids much greater than the vertices' indices are looked up in a B-tree (see `ps_ids`).
+//! `ps_referee` judges whether it is right. Parsing takes time proportional to the text and the vertices, but ids much
+//! greater than the vertices' indices are looked up in a B-tree (see `ps_ids`).
 #![tactic(auto)]
 
 mod laws;

@@ -21,9 +21,8 @@ use ps_ids::Ids;
 use ps_pgsolver::{Kind, Token, Tokens};
 use std::alloc::Global;
 
-/// Parses a solution, whose text names vertices by ids, into indices. Fails with the first error of the text and the
-/// offset of its token; with `OtherGame` at the end of the text if there is no other error, but some vertex has no
-/// entry; or if out of memory.
+/// Parses a solution, with indices for ids. Fails with the first error of the text and the offset of its token; with
+/// `OtherGame` at the end of the text if there is no other error, but some vertex has no entry; or if out of memory.
 pub fn read(alloc: Global, text: &[u8], game: &NamedGame) -> Result<Solution, CertFault>
     ensures answer { IsSolutionAnswer game.now.ids text.now result }
     ensures won { IfOk result (λ solution. length solution.won ≡ vertex_count game.now.game) }
@@ -105,7 +104,7 @@ fn entry(tokens: &mut Tokens, ids: &Ids, solved: &mut Solved) -> Result<(), Cert
     Ok(())
 }
 
-/// Parses the id of a vertex that has no entry yet, and returns its index.
+/// Parses the id of a vertex that has no entry yet, for its index.
 fn vertex(tokens: &mut Tokens, ids: &Ids, solved: &Solved) -> Result<usize, CertFault>
     requires { length solved.now.named ≡ length ids.now }
     ensures part { ReadsAs (λ v. v) (parts.vertex ids.now solved.now) tokens.old result tokens.new }
@@ -136,7 +135,7 @@ fn choice(tokens: &mut Tokens, ids: &Ids) -> Result<Option<usize>, CertFault>
     Ok(Some(successor))
 }
 
-/// Parses the id of any vertex, and returns its index.
+/// Parses the id of any vertex, for its index.
 fn successor(tokens: &mut Tokens, ids: &Ids) -> Result<usize, CertFault>
     ensures part { ReadsAs (λ v. v) (parts.successor ids.now) tokens.old result tokens.new }
     ensures within { IfOk result (λ v. v < length ids.now) }
@@ -161,7 +160,7 @@ fn semicolon(tokens: &mut Tokens) -> Result<(), CertFault>
     semicolon_of(tokens.next())
 }
 
-/// Parses a number that fits in 64 bits.
+/// Parses a number that fits.
 fn any_number(tokens: &mut Tokens) -> Result<u64, CertFault>
     ensures answer { result ≡ value_answer any_of_number (next_of tokens.old)
         (offset_of tokens.old.pieces tokens.old.end) }
@@ -173,7 +172,6 @@ fn any_number(tokens: &mut Tokens) -> Result<u64, CertFault>
     }
 }
 
-/// Checks that no token is left.
 fn finish(tokens: &Tokens) -> Result<(), CertFault>
     ensures { result ≡ end_answer (next_of tokens.now) (offset_of tokens.now.pieces tokens.now.end) }
 {
@@ -196,7 +194,6 @@ fn unless_named(id: u64, start: usize, ids: &Ids, solved: &Solved) -> Result<usi
     }
 }
 
-/// The number as a winner, if it is 0 or 1.
 fn one_of_two(winner: u64, start: usize) -> Result<Player, CertFault>
     ensures { result ≡ winner_of_number start winner }
 {

@@ -15,7 +15,7 @@ use ps_machine::{SolveFault, Solver};
 use std::alloc::{AllocError, Global};
 
 /// The certificate that a solver returns, if it fits the game and is valid. Fails with the solver's fault, with
-/// `NotCertified`, or if out of memory, which is the only fault with a sure solver.
+/// `NotCertified`, or if out of memory: with a sure solver, the only fault.
 pub fn certified<S: Solver>(
     alloc: Global,
     game: &NamedGame,

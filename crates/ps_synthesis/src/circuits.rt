@@ -40,8 +40,8 @@ pub fn circuit_of_certificate(
 {
     one_game();
     let machine = machine_of_certificate(alloc, automaton, order, game, certificate)?;
-    // The law `certified_circuit_answers` needs `IsMachine`, which only the contract of `player` gives: so it is called
-    // before the machine is freed.
+    // The law `certified_circuit_answers` needs `IsMachine`, which only the contract of `player` gives: so `player` is
+    // called before the machine is freed.
     let _ = machine.player();
     let circuit = encode(alloc, &machine);
     drop(machine);

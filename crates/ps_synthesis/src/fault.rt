@@ -17,23 +17,21 @@ pub enum SynthFault {
     /// The HOA text has an error.
     #[error("{} at byte {offset}", .cause.name())]
     Text {
-        /// Its cause.
         cause: HoaCause,
-        /// Its offset in bytes, from 0.
+        /// The error's offset in bytes, from 0.
         offset: usize,
     },
     /// The HOA text has no error, but psyn does not accept its automaton.
     #[error("{0}")]
     Automaton(AutomatonFault),
-    /// The solver reported a cycle, here by ids, that its moves for a player allow, and that this player loses.
+    /// The solver's moves for a player allow this cycle of ids, which the player loses.
     #[error("a cycle that its player loses")]
     BadCycle(Vec<u64>),
     /// The text that the solver was fed is no certificate of the game.
     #[error("{} of the certificate at byte {offset}", .cause.name())]
     Certificate {
-        /// Its cause.
         cause: CertCause,
-        /// Its offset in bytes, from 0.
+        /// The error's offset in bytes, from 0.
         offset: usize,
     },
     /// The solver's certificate does not fit the game, or is not valid.

@@ -45,8 +45,8 @@ pub fn winners_circuit_is_there()
     ps_aiger::circuit_is_there();
 }
 
-/// The texts of a game, a certificate and a circuit parse to the same values, if the numbers in them fit in 64 bits, as
-/// those of `NamedGame`, `Certificate` and `Circuit` do, and if the game's text is no longer than the parser accepts.
+/// The texts of a game, a certificate and a circuit parse to the same values, if their numbers fit in 64 bits, as in
+/// `NamedGame`, `Certificate` and `Circuit`, and if the game's text is no longer than the parser accepts.
 pub fn written_texts_are_read()
     ensures game { (game : NamedGameData) → 0 < vertex_count game.game → IsNamedGame game → HasGameWords game →
         PrintsGame (game_text game) game }

@@ -29,7 +29,6 @@ use std::marker::Model;
 /// Who wins each vertex of a problem's game, by which moves, and the winner's circuit.
 #[derive(Drop)]
 pub struct Synthesis {
-    /// A valid certificate of the game.
     pub certificate: Certificate,
     /// The circuit of the player who wins vertex 0: a controller or an environment.
     pub circuit: Circuit,
@@ -92,8 +91,8 @@ impl Problem {
         drop(self);
     }
 
-    /// The report that a certificate gives. Fails with `NotCertified` if this does not fit the game or is not valid,
-    /// with `CircuitTooLarge` if the circuit would need too many variables, or if out of memory.
+    /// The report by a certificate. Fails with `NotCertified` if this does not fit the game or is not valid, with
+    /// `CircuitTooLarge` if the circuit needs too many variables, or if out of memory.
     pub fn report(
         &self,
         alloc: Global,
@@ -115,8 +114,8 @@ impl Problem {
         self.report_of_certified(alloc, certificate, compact)
     }
 
-    /// The report that a valid certificate gives, which is not checked again. Fails if the circuit would need more
-    /// variables than AIGER literals can number, or if out of memory.
+    /// The report by a valid certificate, which is not checked again. Fails with `CircuitTooLarge` likewise, or if out
+    /// of memory.
     pub fn report_of_certified(
         &self,
         alloc: Global,

@@ -11,16 +11,13 @@ use ps_certificate::Certificate;
 use ps_game::NamedGame;
 use std::alloc::{AllocError, Global};
 
-/// Who wins, and the texts that show it.
+/// Who wins, and the texts that show it: the winner's circuit, the automaton's game, and a certificate of it.
 #[derive(Debug, Drop)]
 pub struct Report {
     /// Whether the controller wins.
     pub realizable: bool,
-    /// The winner's circuit, a controller or an environment.
     pub circuit_text: Vec<u8>,
-    /// The game of the automaton.
     pub game_text: Vec<u8>,
-    /// A certificate of the game.
     pub certificate_text: Vec<u8>,
 }
 

@@ -15,8 +15,8 @@ use crate::report::{Report, report_of};
 use ps_machine::{Order, Solver};
 use std::alloc::Global;
 
-/// The report of an HOA text. Fails with the first of these that occurs: an error of the text, the reason why it has no
-/// automaton, the solver's fault, `NotCertified`, and `CircuitTooLarge`; or if out of memory.
+/// The report of an HOA text. Fails with the first of these: an error of the text, the reason why it has no automaton,
+/// the solver's fault, `NotCertified`, `CircuitTooLarge`; or if out of memory.
 pub fn synthesise_by<S: Solver>(
     alloc: Global,
     text: &[u8],

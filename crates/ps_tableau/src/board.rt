@@ -23,7 +23,6 @@ pub(crate) struct Board {
     pub needed: Vec<bool>,
     /// The untils that may be postponed.
     pub untils: Vec<u32>,
-    /// The set of the tableau's formula.
     pub initial: Set,
     pub sets: Sets,
     pub guards: Store,

@@ -10,7 +10,7 @@ ghost use Rattle.ps_tableau.specs.Operators.{postponing_cover};
 ghost use Rattle.ps_tableau.specs.Runs.{HasFairRun, HasRound, IsFair, IsFairRun, IsPartialTableau, IsTableau};
 ghost use Rattle.ps_tableau.specs.Runs.{Tableau};
 
-/// A word with a fair run satisfies the obligations of its first state, even if not each cover leads to a state.
+/// A word with a fair run satisfies the obligations of the run's first state, even if not each cover leads to a state.
 pub fn fair_run_satisfies()
     ensures { (t : Tableau) (w : ℕ → ℕ) (states : ℕ → ℕ) (run : ℕ → Cover) → IsPartialTableau t →
         IsFairRun t w states run → SatisfiesAll (t.obligations (states 0)) w 0 }
@@ -24,7 +24,7 @@ pub fn satisfied_has_fair_run()
 {}
 
 /// If the indices of a fair run have finitely many values, two with the same value have between them, for each until,
-/// one at which it is not postponed.
+/// an index at which it is not postponed.
 pub fn fair_run_has_round()
     ensures { (untils : List NormalFormula) (run : ℕ → Cover) (values : ℕ → ℕ) (count : ℕ) → IsFair untils run →
         ((i : ℕ) → values i < count) → HasRound untils run values }

@@ -1,8 +1,8 @@
 //! The tableau of formulas in negation normal form: how obligations are met at one index of a word, and what they leave
 //! for the next.
 //!
-//! An obligation is a formula that must hold at an index. A cover is one way to meet some obligations: it has a guard
-//! (the letters for which it serves), obligations for the next index, and untils that it postpones. A state is a set of
+//! An obligation is a formula that must hold at an index. A cover is one way to meet some of them: it has a guard (the
+//! letters for which it serves), obligations for the next index, and untils that it postpones. A state is a set of
 //! obligations; its covers are right if each is enough for all of them, and if each word that satisfies them can use
 //! one. A run is fair if it postpones no until for ever. A word on which each formula is true or false at each index
 //! satisfies a state's obligations exactly if it has a fair run from there.
@@ -21,16 +21,16 @@
 //! | `Set::number()` | the number of a set; equal sets of one tableau have one number |
 //! | `laws::fair_run_satisfies` | a law: a word with a fair run from a state satisfies its obligations |
 //! | `laws::satisfied_has_fair_run` | a law: such a word, if decided at each index, has a fair run from there |
-//! | `laws::fair_run_has_round` | a law: with finitely many values, a fair run has a round that postpones no until |
-//! | `laws::wrong_covers_are_none` | a law: covers of an until without postponing or without a second way are wrong |
+//! | `laws::fair_run_has_round` | a law: between some equal values of finitely many, no until is always postponed |
+//! | `laws::wrong_covers_are_none` | a law: covers of an until without postponing or a second way are wrong |
 //! | `laws::covers_of_each_operator` | a law: the covers of a formula, by those of its operands |
 //! | `laws::covers_of_more_obligations` | a law: the covers of several obligations are products |
 //! | `laws::pruned_covers_are_covers` | a law: covers stay covers if they are pruned letter by letter |
 //!
-//! The covers of a formula are made from those of its operands, and those of a state, as products, from those of its
-//! formulas. Then they are pruned: a cover loses the letters at which another asks for no more, covers that ask for the
-//! same become one, and an obligation that follows from others at the next index is dropped. Formulas that the
-//! tableau's formula does not need get no covers. A set with one more formula is found by a hash table.
+//! Covers of a formula are made from those of its operands, and those of a state, as products, from its formulas'. Then
+//! they are pruned: a cover loses the letters at which another asks for no more, covers that ask for the same become
+//! one, and an obligation that follows from others at the next index is dropped. Formulas that the tableau's formula
+//! does not need get none. A set with one more formula is found by a hash table.
 #![tactic(auto)]
 
 mod board;

@@ -30,7 +30,6 @@ pub(crate) fn needs_of(
     Ok(needed)
 }
 
-/// Notes a node's operands.
 fn need_operands(needed: &mut Vec<bool>, node: NormalNode)
     requires { IsNormalOver (length needed.old.items) node }
     ensures operands { NeedsOperands needed.new.items node }
@@ -49,7 +48,6 @@ fn need_operands(needed: &mut Vec<bool>, node: NormalNode)
     }
 }
 
-/// The untils that are needed.
 pub(crate) fn untils_of(
     alloc: Global,
     nodes: &[NormalNode],
@@ -66,7 +64,6 @@ pub(crate) fn untils_of(
     Ok(untils)
 }
 
-/// Adds the index of a node that is a needed until.
 fn add_until(
     untils: &mut Vec<u32>,
     index: u32,

@@ -98,7 +98,7 @@ impl Board {
         &known[index as usize]
     }
 
-    /// The covers of `true` or `false`.
+    /// Those of `true` or `false`.
     fn ways_of_constant(&mut self, value: bool) -> Result<Vec<Edge>, AllocError>
         requires { IsBoard self.old }
         ensures grows { Grows self.old self.new }
@@ -111,7 +111,7 @@ impl Board {
         self.appended(&[edge], &[])
     }
 
-    /// The covers of a proposition or of its negation.
+    /// Those of a proposition or its negation.
     fn ways_of_literal(&mut self, p: u32, negated: bool) -> Result<Vec<Edge>, AllocError>
         requires board { IsBoard self.old }
         requires p { p < 64 }
@@ -122,7 +122,7 @@ impl Board {
         self.appended(&[edge], &[])
     }
 
-    /// The covers of `X f`.
+    /// Those of `X f`.
     fn ways_of_next(&mut self, f: u32) -> Result<Vec<Edge>, AllocError>
         requires board { IsBoard self.old }
         requires needed { IsNeeded self.old.needed.items f }
@@ -134,7 +134,7 @@ impl Board {
         self.appended(&[edge], &[])
     }
 
-    /// The covers of an until, by those of its operands.
+    /// Those of an until.
     fn ways_of_until(
         &mut self,
         index: u32,
@@ -156,7 +156,7 @@ impl Board {
         self.either(second, &later)
     }
 
-    /// The covers of a release, by those of its operands.
+    /// Those of a release.
     fn ways_of_release(
         &mut self,
         index: u32,

@@ -10,7 +10,7 @@ use crate::edge::Edge;
 use std::alloc::AllocError;
 
 impl Board {
-    /// The covers without such letters.
+    /// The covers of a list, each without such letters.
     pub(crate) fn pruned(&mut self, edges: &[Edge]) -> Result<Vec<Edge>, AllocError>
         requires board { IsBoard self.old }
         requires edges { All (IsEdgeOf self.old) edges.now }

@@ -31,7 +31,6 @@ impl Board {
         Ok(kept)
     }
 
-    /// The same for one cover.
     fn reduced_edge(&mut self, edge: &Edge) -> Result<Edge, AllocError>
         requires board { IsBoard self.old }
         requires edge { IsEdgeOf self.old edge.now }
@@ -47,7 +46,6 @@ impl Board {
         })
     }
 
-    /// A set without the formulas that its others bring back.
     fn reduced_set(&mut self, set: Set) -> Result<Set, AllocError>
         requires board { IsBoard self.old }
         requires set { IsState self.old set }
@@ -96,7 +94,7 @@ impl Board {
         false
     }
 
-    /// Whether a formula keeps another, or its end.
+    /// Whether a formula brings another back: it keeps it, or its end.
     fn brings(&self, from: u32, to: u32) -> bool
         requires board { IsBoard self.now }
         requires from { from < length self.now.formulas }
@@ -115,7 +113,7 @@ impl Board {
         }
     }
 
-    /// Whether a formula is another, or a release whose right side keeps it.
+    /// Whether a formula keeps another: it is that, or a release whose right side keeps it.
     fn keeps(&self, from: u32, to: u32) -> bool
         requires board { IsBoard self.now }
         requires from { from < length self.now.formulas }

@@ -29,22 +29,18 @@ impl Model for Sets {
     ghost invariant = { λ s. AreSets s.pairs };
 }
 
-/// A set that is not empty.
+/// A set that is not empty: its greatest formula, and the set of the others.
 #[derive(Clone, Copy)]
 pub(crate) struct Parts {
-    /// The greatest formula.
     pub greatest: u32,
-    /// The set of the others.
     pub others: Set,
 }
 
-/// The greatest formula of two sets.
+/// The greatest formula of two sets, and both without it.
 #[derive(Clone, Copy)]
 pub(crate) struct Greatest {
     pub index: u32,
-    /// The first set without it.
     pub first: Set,
-    /// The second set without it.
     pub second: Set,
 }
 

@@ -60,7 +60,6 @@ impl Board {
         self.reduced(&edges)
     }
 
-    /// The covers of some formulas and of one more.
     fn joined_with(
         &mut self,
         edges: &[Edge],

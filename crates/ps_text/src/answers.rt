@@ -33,26 +33,23 @@ pub fn one_answer<M: Format>()
 
 /// A format that is given by a `Part`, a grammar with its errors.
 pub trait Grammar {
-    /// What texts consist of.
     type Sign;
 
-    /// What texts mean.
     type Value;
 
-    /// Why a text is rejected.
     type Cause;
 
     /// The grammar of a whole text.
     ghost part: { Part Self.Sign Self.Value Self.Cause };
 
-    /// The causes' numbers, the errors of symbols that are wrong wherever they occur, and the error of any other symbol
-    /// that the grammar does not allow.
+    /// The causes' numbers, the errors of symbols that are wrong everywhere, and the error of others that are not
+    /// allowed.
     ghost causes: { Causes Self.Sign Self.Cause };
 }
 
 /// A text has an answer if the grammar has an outcome (a text or a first fault) for each list of symbols, gives a text
-/// only one meaning, and satisfies `IsOrderly`: what stands before an error begins a text, and a symbol that is wrong
-/// wherever it occurs is in no text and has no other error.
+/// one meaning, and satisfies `IsOrderly`: what comes before an error begins a text, and a symbol that is wrong
+/// everywhere is in no text and has no other error.
 pub fn some_answer<G: Grammar>()
     ensures { HasOneMeaning G.part.IsText → IsOrderly G.causes G.part → HasOutcomes G.causes G.part →
         HasSomeAnswer G.part.IsText (IsWrong G.causes G.part) G.causes.number }

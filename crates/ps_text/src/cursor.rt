@@ -74,7 +74,7 @@ pub fn run_length(text: &[u8], class: Class) -> usize
     text.iter().take_while(|byte| class.has(**byte)).count()
 }
 
-/// The number of digits at the text's start, and the number that they denote, if it fits.
+/// How many digits the text begins with, and their number, if it fits.
 fn digits_of(text: &[u8]) -> (usize, Option<u64>)
     ensures length { result.0 ≡ prefix_len is_digit text.now }
     ensures within { result.0 ≤ length text.now }
@@ -131,7 +131,7 @@ impl<'a> Cursor<'a> {
         }
     }
 
-    /// A cursor at the start of a text of lines; a last line without a newline is read as if it had one.
+    /// The same for a text of lines; a last line without a newline is read as if it had one.
     pub fn of_lines(text: &'a [u8]) -> Self
         ensures stream { result ≡ stream_of text.now }
         ensures small { length result.pieces ≤ 2 ^ 63 }
@@ -153,14 +153,14 @@ impl<'a> Cursor<'a> {
         if self.unended { Some(b'\n') } else { None }
     }
 
-    /// Whether the next byte is the given byte.
+    /// Whether this byte is next.
     pub fn comes(&self, byte: u8) -> bool
         ensures { IsTrue result ↔ next_byte self.now ≡ Some byte }
     {
         self.peek() == Some(byte)
     }
 
-    /// Whether the cursor is at the end of the text.
+    /// Whether none is.
     pub fn is_at_end(&self) -> bool
         ensures { result ≡ (length self.now.pieces == 0) }
     {
@@ -174,7 +174,7 @@ impl<'a> Cursor<'a> {
         self.at
     }
 
-    /// The fault with the given cause at the next byte, or at the end.
+    /// The fault with this cause there.
     pub fn refusal<C>(&self, cause: C) -> Fault<C>
         ensures { result ≡ faults.Text cause (stream_offset self.now) }
     {
@@ -196,7 +196,7 @@ impl<'a> Cursor<'a> {
         }
     }
 
-    /// Moves past the given byte. Fails with the given cause if the next byte is another, or none is left.
+    /// Moves past this byte. Fails with the cause if another comes, or none.
     pub fn byte<C: Cause>(&mut self, byte: u8, cause: C) -> Result<(), Fault<C>>
         ensures { Meets found_of (byte_causes C.number cause) (λ u. u) (parts.byte byte) self.old result self.new }
     {
@@ -207,8 +207,7 @@ impl<'a> Cursor<'a> {
         Err(self.refusal(cause))
     }
 
-    /// Moves past the given bytes. Fails with the given cause at the first byte that differs, or at the end of the
-    /// text.
+    /// Moves past these bytes. Fails with the cause at the first that differs, or at the end.
     pub fn word<C: Cause>(&mut self, word: &[u8], cause: C) -> Result<(), Fault<C>>
         ensures { Meets found_of (byte_causes C.number cause) (λ u. u) (parts.word word.now) self.old result
             self.new }
@@ -219,7 +218,7 @@ impl<'a> Cursor<'a> {
         Ok(())
     }
 
-    /// Moves past the longest run of bytes of the class, which must not contain the newline, and returns it.
+    /// Moves past the longest run of the class, which must not contain the newline, and returns it.
     pub fn run(&mut self, class: Class) -> &'a [u8]
         requires { in_class class 10 ≡ false }
         ensures { Passes (in_class class) self.old self.new result.now }

@@ -9,10 +9,8 @@ use thiserror::Error;
 
 /// Why a text is rejected.
 pub trait Cause: Copy + Drop + fmt::Debug {
-    /// Its number.
     ghost number: { Self → ℕ };
 
-    /// Its name.
     ghost name: { Self → List ℕ };
 
     /// Its number in psyn's list of faults.
@@ -31,7 +29,6 @@ pub enum Fault<C> {
     /// The text is rejected.
     #[error("{} at byte {offset}", .cause.name())]
     Text {
-        /// Why.
         cause: C,
         /// The offset of the byte with the error, from 0; at the end of the text, the text's length.
         offset: usize,

@@ -1,18 +1,17 @@
 //! What the parsers of all formats share: what the answer to a text is (its meaning or its first error), combinators of
-//! grammars, the bytes that are digits or blanks, and a cursor over bytes. The crate also writes numbers.
+//! grammars, the bytes that are digits or blanks, and a cursor over bytes; and decimal numbers.
 //!
 //! | Call | What it gives |
 //! |---|---|
 //! | `numbers::write_number(out, number)` | appends a number in decimal |
-//! | `numbers::leading_number(text)` | the number at the start of a text, if it fits 64 bits |
-//! | `numbers::few_digits(text)` | the number at the start of a text, if it has fewer than 18 digits |
+//! | `numbers::leading_number(text)`, `few_digits` | the number that a text begins with, if it fits, or is short |
 //! | `cursor::Cursor::new(text)`, `of_lines(text)` | a cursor over the bytes of a text, or of a text of lines |
 //! | `Cursor::peek`, `offset`, `refusal` | the next byte, its offset, and a fault there |
 //! | `Cursor::comes(byte)`, `is_at_end` | whether this byte is next, or none |
 //! | `Cursor::step`, `byte`, `word`, `run`, `digits`, `finish` | moves past a byte, a word, a run, digits, or all |
-//! | `cursor::run_length(text, class)` | the number of bytes of a class at the start of a text |
+//! | `cursor::run_length(text, class)` | how many bytes of a class a text begins with |
 //! | `faults::Cause::number`, `name` | the number and name of a cause in psyn's list of faults |
-//! | `faults::Fault::number`, `name` | those of a fault: its cause's, or 24 and `OutOfMemory` |
+//! | `faults::Fault::number`, `name` | its cause's, or 24 and `OutOfMemory` |
 //! | `answers::one_answer` | a law: a text of a `Format` has at most one answer |
 //! | `answers::some_answer` | a law: a text of a `Grammar` has an answer, if its part always has an outcome |
 //! | `tokens::one_tokenisation` | a law: a text of a `Lexicon` has at most one list of tokens |

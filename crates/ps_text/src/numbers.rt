@@ -26,11 +26,10 @@ pub fn write_number(out: &mut Vec<u8>, number: u64) -> Result<(), AllocError>
 pub struct LeadingNumber {
     /// The number; 0 without digits.
     pub value: u64,
-    /// How many digits.
     pub digits: usize,
 }
 
-/// Fewer digits than this denote a number less than 10^17, and no step of its computation wraps.
+/// Fewer digits than this denote a number less than 10^17, so that no step wraps.
 const FEW: usize = 18;
 
 /// The number that the leading digits denote, zeros among them, if it fits.
@@ -47,7 +46,7 @@ pub fn leading_number(text: &[u8]) -> Option<LeadingNumber>
     many_digits(text)
 }
 
-/// The same, if there are fewer than 18; with more, the computation may wrap, and its value is not used.
+/// The same, if there are fewer than 18; with more, the computation may wrap, and is not used.
 #[inline(always)]
 pub fn few_digits(text: &[u8]) -> Option<LeadingNumber>
     ensures few { IsSome result ↔ (prefix_len is_ascii_digit text.now < 18) }

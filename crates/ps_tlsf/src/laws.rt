@@ -42,8 +42,8 @@ pub fn texts_have_the_outline()
         Matches specification (signs_of (lex 0 text)) }
 {}
 
-/// Outside formulas, a token is a syntax error only where no text of the grammar goes on with it, and so is the end of
-/// a text only where none ends.
+/// Outside formulas, a token is refused as a syntax error only where no text of the grammar goes on with it; a text
+/// ends too early only where no such text ends.
 pub fn refused_texts_lack_the_outline()
     ensures refused { (before rest : List Token) (t : Token) (s : State) → run fresh before ≡ Ok s →
         is_in_formula s.phase ≡ false → step s t ≡ Err causes.Syntax →

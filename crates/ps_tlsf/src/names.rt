@@ -21,7 +21,7 @@ pub struct Proposition {
     pub side: Side,
 }
 
-/// In the order of their declarations.
+/// The declared names, in their order.
 #[derive(Debug, Drop)]
 pub(crate) struct Names {
     list: Vec<Proposition>,

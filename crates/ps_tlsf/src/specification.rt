@@ -18,7 +18,6 @@ use std::alloc::{AllocError, Global};
 /// A formula of a section.
 #[derive(Clone, Copy, Debug)]
 pub struct SectionFormula {
-    /// The section's kind.
     pub section: Section,
     /// Its part of the text.
     pub span: Span,

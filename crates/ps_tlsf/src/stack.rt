@@ -43,7 +43,7 @@ pub(crate) enum Sweep {
     Row,
 }
 
-/// The last first.
+/// Frames, the last first.
 #[derive(Debug, Drop)]
 pub(crate) struct Stack {
     frames: Vec<Frame>,

@@ -25,7 +25,7 @@ fn same_section(one: Section, other: Section) -> bool
     }
 }
 
-/// Appends a formula, and the conjunction if one is before it.
+/// Appends a formula, and its conjunction with the one before it, if any.
 fn append(out: &mut Vec<Op>, ops: &[Op], any: bool) -> Result<(), AllocError>
     ensures { OnOk result (out.new.items ≡ out.old.items ++ ops.now ++ and_ops any) }
 {

@@ -25,9 +25,9 @@ const NESTING_LIMIT: usize = 256;
 #[derive(Debug, Drop)]
 pub(crate) struct Work {
     pub(crate) stack: Stack,
-    /// The operands, and the operators with complete operands, after these.
+    /// Operands, and operators after their operands.
     pub(crate) ops: Vec<Op>,
-    /// The operators and operands so far, in all formulas.
+    /// How many operators and operands there are, in all formulas.
     pub(crate) used: usize,
     /// The offset of the formula's first byte.
     pub(crate) start: usize,

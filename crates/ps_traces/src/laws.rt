@@ -38,8 +38,8 @@ use ps_automaton::automaton_is_there;
 use ps_machine::lassos_won;
 use ps_simulate::circuit_has_one_values;
 
-/// Each stem and each non-empty lap of letters, with a bit for each input, extend to a lasso trace, which reads the
-/// stem and one or more laps, and repeats one or more.
+/// Each stem and each non-empty lap of letters, with a bit for each input, extend to a lasso trace: it reads the stem
+/// and one or more laps, and repeats one or more.
 pub fn every_input_goes_on()
     ensures { (c : CircuitData) → IsCircuit c → EachInputGoesOn c }
 {
@@ -61,7 +61,8 @@ pub fn word_is_there()
     circuit_has_one_values();
 }
 
-/// A parsed file that psyn admits has a verdict on such a circuit and each stimulus: a stem, and a non-empty lap.
+/// An admitted file and a circuit with its role's inputs and outputs have a verdict on each stimulus: a stem, and a
+/// non-empty lap.
 pub fn verdict_is_there()
     ensures { (role : Role) (file : FileData) (c : CircuitData) (stem lap : List (List Bool)) → IsSoundFile file →
         IsAdmitted file → IsCircuit c →
@@ -72,8 +73,8 @@ pub fn verdict_is_there()
     circuit_has_one_values();
 }
 
-/// Outputs that depend on no input, at all latch values if their player moves first (`IsInTime`), depend on none at
-/// those that traces reach: joint traces need no more.
+/// Outputs that depend on no input at any latch values (`IsInTime`) depend on none where traces lead, as joint traces
+/// need.
 pub fn in_time_where_reached()
     ensures { (order : Order) (role : Role) (c : CircuitData) → IsInTime order role c →
         IsInTimeWhereReached order role c }
@@ -87,7 +88,7 @@ pub fn meeting_is_one()
     circuit_has_one_values();
 }
 
-/// It extends to a lasso trace, which also returns to the same memory state of the controller.
+/// Each joint trace of both extends to a lasso trace, which also returns to the same memory state of the controller.
 pub fn every_meeting_goes_on()
     ensures { (order : Order) (c : CircuitData) (k : FiniteController) → IsCircuit c →
         IsInTimeWhereReached order Environment c → IsController order c k → MeetsInLasso c k }
@@ -95,8 +96,8 @@ pub fn every_meeting_goes_on()
     circuit_has_one_values();
 }
 
-/// If the automaton accepts no lasso trace of an environment's circuit, it rejects the joint trace with each
-/// finite-state controller.
+/// An automaton that accepts no lasso trace of an environment's circuit rejects its joint trace with each finite-state
+/// controller.
 pub fn every_meeting_is_rejected()
     ensures { (order : Order) (file : FileData) (c : CircuitData) (k : FiniteController) → AreNames file.names →
         IsCircuit c → HasSymbols Environment file.names file.controllable c → IsInTimeWhereReached order Environment c →
@@ -111,8 +112,8 @@ pub fn circuit_has_machine_words()
         IsLassoWord m.names c stem lap → IsLasso m stem lap }
 {}
 
-/// If all words of lassos of player 0's machine are accepted, so are those of its circuit; if those of player 1's
-/// machine are rejected, so are those of its circuit.
+/// If a machine wins all its lassos, its circuit wins all its lasso traces: all are accepted for player 0, and none for
+/// player 1.
 pub fn circuit_is_won()
     ensures accepted { (file : FileData) (m : Behaviour) (c : CircuitData) → IsMachine m → m.names ≡ file.names →
         Encodes m c → LassosWon file m → m.player ≡ 0 → AllAccepted file c }
@@ -120,13 +121,13 @@ pub fn circuit_is_won()
         Encodes m c → LassosWon file m → m.player ≢ 0 → NoneAccepted file c }
 {}
 
-/// A machine's circuit has the inputs, the outputs and the order of moves of its role (`HasShape`).
+/// A machine's circuit has its role's inputs, outputs and order of moves (`HasShape`).
 pub fn circuit_has_shape()
     ensures { (order : Order) (role : Role) (file : FileData) (m : Behaviour) (c : CircuitData) → IsMachine m →
         IsMachineFor order role file m → Encodes m c → HasShape order role file c }
 {}
 
-/// The circuit of a machine whose player wins all its lassos is a witness (`IsWitness`).
+/// The circuit of a machine that wins all its lassos is a witness (`IsWitness`).
 pub fn circuit_answers()
     ensures { (order : Order) (file : FileData) (m : Behaviour) (c : CircuitData) → IsMachine m →
         IsMachineFor order (role_of m.player) file m → Encodes m c → LassosWon file m →
@@ -135,8 +136,8 @@ pub fn circuit_answers()
     circuit_has_one_values();
 }
 
-/// The circuit by a valid certificate of an automaton's game is a witness: a controller, all of whose lasso traces are
-/// accepted, if player 0 wins vertex 0, and else an environment, none of whose are.
+/// The circuit by a valid certificate of an automaton's game is a witness: a controller if player 0 wins vertex 0, and
+/// else an environment.
 pub fn certified_circuit_answers()
     ensures { (file : FileData) (chain : Chain) (a : AutomatonData) (order : Order) (keys : List Key)
         (game : ParityGame) (certificate : CertificateData) (m : Behaviour) (c : CircuitData) →
