@@ -46,8 +46,8 @@ class Page(unittest.TestCase):
 
     def test_a_definition_may_be_a_root_too(self):
         more = promise.page(roots=[*promise.ROOTS, ("ps_verify/specs/Judgements.antt", "IsWinning")])
-        self.assertIn("## ps_synthesis, ps_verify", more)
-        self.assertIn("those of ps_synthesis and ps_verify, which come first", " ".join(more))
+        self.assertIn("## ps_specification, ps_synthesis, ps_verify", more)
+        self.assertIn("those of ps_specification and ps_synthesis and ps_verify, which come first", " ".join(more))
         self.assertTrue(any(line.startswith("pub record IsWinning ") for line in more))
 
     def test_each_name_of_std_is_explained_once(self):

@@ -17,8 +17,15 @@ from upkeep.sweeps import TOP
 DOCUMENT = "docs/PROMISE.md"
 MOST_LINES = 1500
 FILES = 4  # a chapter of fewer files takes the next crate too
-ROOTS = [("crates/psyn/src/synthesis.rt", "synthesise")]
+ROOTS = [("crates/ps_specification/src/synthesis.rt", "synthesise_specification"), ("crates/psyn/src/synthesis.rt", "synthesise")]
 ENDS = {
+    "ps_specification/specs/Requirements.antt: order_stated": "the order of moves that a specification states, as ps_machine names it",
+    "ps_synthesis/specs/SynthFaults.antt: IsSynthFault": "the reason for which a text gets this fault in place of a report",
+    "ps_synthesis/specs/SynthFaults.antt: IsReportOrFault": "a right report, or too many variables for AIGER, or out of memory",
+    "ps_automaton/specs/Autos.antt: IsAutoOf": "the automaton steps as the file's edges do, with the priorities of its chain",
+    "ps_tlsf/specs/Reading.antt: answer_of": "the specification that a TLSF text means, or its first error: the grammar of the format",
+    "ps_specification/specs/Faults.antt: IsSpecificationFault": "the reason for which a text gets this fault in place of a circuit: 75 and 76 among them",
+    "ps_specification/specs/Faults.antt: IsSureSpecificationFault": "a fault that is possible with a solver that never errs",
     "ps_hoa/specs/Texts.antt: ReadsFile": "what an HOA text means, or its first error: the grammar of the format",
     "ps_pgsolver/specs/Reading.antt: Answer": "what a game text means, or its first error",
     "ps_pgsolver/specs/Reading.antt: text_limit": "the length of the longest game text that is read, 16,777,216 bytes",
@@ -30,11 +37,8 @@ ENDS = {
     "ps_automaton/specs/Chains.antt: chain_of": "the chain that an acceptance condition is, if it is one: its links in order, and its base",
     "ps_automaton/specs/Chains.antt: has_complement": "whether an acceptance condition names a complemented set",
     "ps_synthesis/specs/Reports.antt: IsWinnersCircuit": "the circuit is that of the winner's machine, gate by gate",
-    "ps_synthesis/specs/SynthFaults.antt: IsTooLarge": "the winner's machine needs more variables than AIGER numbers",
     "ps_machine/specs/KeyNames.antt: AreNamed": "vertex v has the id v, and a name that tells its state and its letter or priority",
     "ps_machine/specs/Solving.antt: IsCertified": "the certificate fits the game and is valid ([CERTIFICATES.md](CERTIFICATES.md))",
-    "ps_synthesis/specs/SynthFaults.antt: IsLost": "the solver answered with a cycle of vertices, which have these ids",
-    "ps_automaton/specs/Answers.antt: IsRefused": "why a file has no automaton: 18, 17 or 21, the first that holds",
 }
 STD = [
     ("ℕ Bool List", "the natural numbers, the truth values, lists"),
@@ -50,7 +54,7 @@ STD = [
     ("if◌then◌else◌ cond", "a choice by a truth value"),
     ("Option Some None", "a value, or none"),
     ("IsSomeAnd", "there is a value, and the property holds of it"),
-    ("Result Ok Err IfOk IfErr", "a value or an error; if there is a value (an error), the property holds of it"),
+    ("Result Ok IfOk IfErr", "a value or an error; if there is a value (an error), the property holds of it"),
     ("◌∷◌ ◌++◌", "an element before a list (`[]`: the empty list); two lists joined"),
     ("length map filter fold", "the length; each element changed; those that pass a test; a function over all, from the first on"),
     ("take slice_range", "the first elements; those from one index up to, not including, another"),
