@@ -1,41 +1,48 @@
 -- Each certificate of a pruned game has a guide: it is decidable whether a vertex serves another, so the guide gives
--- the first vertex that does.
-use Rattle.std.specs.Prelude.{◌≡◌, ℕ, ◌<◌, ◌⊎◌, length, Option, None, Some, slice_get}
+-- the first candidate that does.
+use Rattle.std.specs.Prelude.{◌≡◌, ℕ, ◌<◌, ◌⊎◌, List, length, Option, None, Some, slice_get, slice_index}
+use Rattle.std.specs.List.{Contains}
 use Rattle.std.proofs.Common.{sym, ◌∙◌, subst, ap, refl, inl, inr, arith}
 use Rattle.std.proofs.lemmas.Bool.{cases_eq, cases_lt}
-use Rattle.std.proofs.lemmas.Option.{slice_get_within}
+use Rattle.std.proofs.lemmas.Option.{get_or_from_slice_get, slice_get-get_or, slice_get_within}
 use Rattle.ps_game.specs.Games.{vertex_count, owner_of, priority_of, successors_of, HasEdge}
 use Rattle.ps_text.proofs.Decisions.{Decided, decide_not, decide_as, decide_both, decide_one, decide_in}
 use Rattle.ps_certificate.specs.Certificates.{CertificateData, winner_of, choice_of}
 use Rattle.ps_certificate.proofs.SomeFlaw.{IsFirstPlace, first_place}
-use Rattle.ps_pruning.specs.Lifting.{Pruning, IsKeptAs, MayReplace, Guides, Serves, IsGuide}
+use Rattle.ps_certificate.proofs.SuccessorEdges.{place_of}
+use Rattle.ps_pruning.specs.Lifting.{Pruning, IsKeptAs, MayReplace, Guides, Serves, IsFirstIn, AreCandidates, IsGuideBy}
 
--- the first number below n that has the property P, if there is one
-abbrev first_with : (P : ℕ → Type 0) (n : ℕ) →
-    ((k : ℕ) → k < n → ¬ P k) ⊎ ((k : ℕ) × IsFirstPlace (λ j. ¬ P j) P n k) → Option ℕ
-first_with P n (inl none) = None
-first_with P n (inr (k, first)) = Some k
+-- no entry of the list has the property P, or there is a first one that has it
+abbrev Tried : List ℕ → (ℕ → Type 0) → Type 0
+Tried xs P = ((k : ℕ) → k < length xs → ¬ P (slice_index xs k)) ⊎
+    ((k : ℕ) × IsFirstPlace (λ j. ¬ P (slice_index xs j)) (λ j. P (slice_index xs j)) (length xs) k)
 
-first_holds : (P : ℕ → Type 0) (n : ℕ)
-    (o : ((k : ℕ) → k < n → ¬ P k) ⊎ ((k : ℕ) × IsFirstPlace (λ j. ¬ P j) P n k)) (k : ℕ) →
-    first_with P n o ≡ Some k → P k
-first_holds P n (inl none) k is = absurd (cc is)
-first_holds P n (inr (j, first)) k is =
-    let same : j ≡ k = grind (arith, is) in subst P same first.there
+abbrev first_of : (xs : List ℕ) (P : ℕ → Type 0) → Tried xs P → Option ℕ
+first_of xs P (inl none) = None
+first_of xs P (inr (k, first)) = Some (slice_index xs k)
 
-none_holds : (P : ℕ → Type 0) (n : ℕ)
-    (o : ((k : ℕ) → k < n → ¬ P k) ⊎ ((k : ℕ) × IsFirstPlace (λ j. ¬ P j) P n k)) →
-    first_with P n o ≡ None → (k : ℕ) → k < n → ¬ P k
-none_holds P n (inl none) is = none
-none_holds P n (inr (j, first)) is = absurd (cc is)
+first_holds : (xs : List ℕ) (P : ℕ → Type 0) (o : Tried xs P) (x : ℕ) → first_of xs P o ≡ Some x → IsFirstIn xs P x
+first_holds xs P (inl none) x is = absurd (cc is)
+first_holds xs P (inr (k, first)) x is =
+    let same : slice_index xs k ≡ x = grind (arith, is) in record {
+      place = k;
+      stands = slice_get-get_or xs k 0 first.within ∙ is;
+      here = subst P same first.there;
+      none_before = λ j y less at. subst (λ (z : ℕ). ¬ P z) (get_or_from_slice_get xs j y 0 at) (first.before j less);
+    }
 
-first_or_none : (P : ℕ → Type 0) (n : ℕ) → ((k : ℕ) → Decided (P k)) →
-    ((k : ℕ) → k < n → ¬ P k) ⊎ ((k : ℕ) × IsFirstPlace (λ j. ¬ P j) P n k)
-first_or_none P n decide = first_place (λ j. ¬ P j) P n (λ k _. turned k (decide k))
+none_holds : (xs : List ℕ) (P : ℕ → Type 0) (o : Tried xs P) → first_of xs P o ≡ None → (x : ℕ) → Contains xs x → ¬ P x
+none_holds xs P (inl none) is x inside =
+    let (k, within, same) = place_of xs inside in subst (λ (z : ℕ). ¬ P z) same (none k within)
+none_holds xs P (inr (k, first)) is x inside = absurd (cc is)
+
+tried : (xs : List ℕ) (P : ℕ → Type 0) → ((x : ℕ) → Decided (P x)) → Tried xs P
+tried xs P decide = first_place (λ j. ¬ P (slice_index xs j)) (λ j. P (slice_index xs j)) (length xs)
+    (λ k _. turned k (decide (slice_index xs k)))
   where
-    turned : (k : ℕ) → Decided (P k) → (¬ P k) ⊎ P k
-    turned k (inl yes_it_is) = inr yes_it_is
-    turned k (inr no_it_is_not) = inl no_it_is_not
+    turned : (k : ℕ) → Decided (P (slice_index xs k)) → (¬ P (slice_index xs k)) ⊎ P (slice_index xs k)
+    turned k (inl holds) = inr holds
+    turned k (inr fails) = inl fails
 
 decide_all : (P : ℕ → Type 0) (n : ℕ) → ((k : ℕ) → Decided (P k)) → Decided ((k : ℕ) → k < n → P k)
 decide_all P n decide = elim (first_place P (λ k. ¬ P k) n (λ k _. decide k)) [
@@ -150,20 +157,25 @@ module _ (p : Pruning) (c : CertificateData) where
   decide_serves : (v u : ℕ) → Decided (Serves p c v u)
   decide_serves v u = decide_one (decide_is (slice_get p.kept u) v) (decide_guides v u)
 
-  first_server_or : (v : ℕ) → ((k : ℕ) → k < length p.kept → ¬ Serves p c v k) ⊎
-      ((k : ℕ) × IsFirstPlace (λ j. ¬ Serves p c v j) (Serves p c v) (length p.kept) k)
-  first_server_or v = first_or_none (Serves p c v) (length p.kept) (decide_serves v)
+  outcome : (order : ℕ → List ℕ) (v : ℕ) → Tried (order v) (Serves p c v)
+  outcome order v = tried (order v) (Serves p c v) (decide_serves v)
 
-  serves_within : (v u : ℕ) → Serves p c v u → u < length p.kept
-  serves_within v u (inl at) = slice_get_within p.kept u v at
-  serves_within v u (inr guides) = slice_get_within p.kept u guides.vertex guides.is_kept
+  abbrev guide_by : (order : ℕ → List ℕ) → ℕ → Option ℕ
+  guide_by order v = first_of (order v) (Serves p c v) (outcome order v)
 
-  pub guide_there : (guide : ℕ → Option ℕ) × IsGuide p c guide
-  guide_there = (
-    λ v. first_with (Serves p c v) (length p.kept) (first_server_or v),
+  guide_first : (order : ℕ → List ℕ) (v u : ℕ) → guide_by order v ≡ Some u → IsFirstIn (order v) (Serves p c v) u
+  guide_first order v u given = first_holds (order v) (Serves p c v) (outcome order v) u given
+
+  pub guide_there : (order : ℕ → List ℕ) → AreCandidates p c order →
+      (guide : ℕ → Option ℕ) × IsGuideBy p c order guide
+  guide_there order candidates = (
+    guide_by order,
     record {
-      serves = λ v u below given. first_holds (Serves p c v) (length p.kept) (first_server_or v) u given;
-      complete = λ v u below none serves.
-          none_holds (Serves p c v) (length p.kept) (first_server_or v) none u (serves_within v u serves) serves;
+      is_guide = record {
+        serves = λ v u below given. (guide_first order v u given).here;
+        complete = λ v u below none serves.
+            none_holds (order v) (Serves p c v) (outcome order v) none u (candidates v u below serves) serves;
+      };
+      first = guide_first order;
     },
   )

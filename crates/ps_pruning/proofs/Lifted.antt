@@ -142,7 +142,7 @@ module _ (p : Pruning) (c lifted : CertificateData) (guide : ℕ → Option ℕ)
 
   -- ## The certificate is closed
 
-  move_kept : (v u x : ℕ) → v < vertex_count p.game → Serves p c v u → Moves p c u x →
+  pub move_kept : (v u x : ℕ) → v < vertex_count p.game → Serves p c v u → Moves p c u x →
       HasEdge p.game v (slice_index p.kept x)
   move_kept v u x below (inl at) moves =
       edge_out p is u v x (slice_index p.kept x) at (kept_there p is x moves.below) moves.edge
@@ -182,7 +182,7 @@ module _ (p : Pruning) (c lifted : CertificateData) (guide : ℕ → Option ℕ)
   ]
 
   -- an edge that remains at a served vertex stands for an edge of the pruned game
-  served_edge : (v u w : ℕ) → Served p c lifted guide v u → Remains p.game lifted v w →
+  pub served_edge : (v u w : ℕ) → Served p c lifted guide v u → Remains p.game lifted v w →
       (y : ℕ) × Follows p c guide u w y
   served_edge v u w served remains = edge_served p c guide is fits valid guides covered v u w served.serves (record {
     edge = remains.edge;

@@ -94,7 +94,7 @@ module _ (p : Pruning) (c : CertificateData) (is : IsPruning p) (fits : Fits p.p
     ]
 
     -- a move whose place in the game is w is the vertex that is kept as w
-    choice_back : (u w y : ℕ) → u < vertex_count p.pruned → IsKeptAs p y w →
+    pub choice_back : (u w y : ℕ) → u < vertex_count p.pruned → IsKeptAs p y w →
         option_map (λ x. slice_index p.kept x) (choice_of c u) ≡ Some w → choice_of c u ≡ Some y
     choice_back u w y below at mapped = at_choice (choice_of c u) refl
       where

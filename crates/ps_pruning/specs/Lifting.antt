@@ -4,6 +4,7 @@
 --   has the edges between the kept vertices
 -- - `IsCovered p`: each vertex of the second mover may be replaced by a kept one with no other successors
 -- - `Serves p certificate v u`: the game's vertex v is won like the vertex u of the pruned game
+-- - `IsGuideBy p certificate order guide`: the guide gives each vertex the first in a list of candidates that serves it
 -- - `IsLift p certificate guide lifted`: `lifted` extends a certificate of the pruned game to the whole game
 --
 -- The vertices of the pruned game have numbers of their own: its vertex u is the vertex of the game that the list of
@@ -75,6 +76,24 @@ Serves p certificate v u = IsKeptAs p u v ⊎ Guides p certificate v u
 pub record IsGuide (p : Pruning) (certificate : CertificateData) (guide : ℕ → Option ℕ) : Type 0 where
   pub serves : (v u : ℕ) → v < vertex_count p.game → guide v ≡ Some u → Serves p certificate v u
   pub complete : (v u : ℕ) → v < vertex_count p.game → guide v ≡ None → ¬ Serves p certificate v u
+
+-- x is the first number of the list that has the property P
+pub record IsFirstIn (list : List ℕ) (P : ℕ → Type 0) (x : ℕ) : Type 0 where
+  pub place : ℕ
+  pub stands : slice_get list place ≡ Some x
+  pub here : P x
+  pub none_before : (k y : ℕ) → k < place → slice_get list k ≡ Some y → ¬ P y
+
+-- `order` lists, for each vertex of the game, at least the vertices that serve it
+abbrev pub AreCandidates : Pruning → CertificateData → (order : ℕ → List ℕ) → Type 0
+AreCandidates p certificate order =
+    (v u : ℕ) → v < vertex_count p.game → Serves p certificate v u → Contains (order v) u
+
+-- a guide that gives the first of the candidates that serves a vertex
+pub record IsGuideBy (p : Pruning) (certificate : CertificateData) (order : ℕ → List ℕ) (guide : ℕ → Option ℕ) :
+    Type 0 where
+  pub is_guide : IsGuide p certificate guide
+  pub first : (v u : ℕ) → guide v ≡ Some u → IsFirstIn (order v) (Serves p certificate v) u
 
 -- the vertex v has the winner, the move and the counts of the vertex u of the pruned game
 pub record HasEntryOf (p : Pruning) (certificate lifted : CertificateData) (v u : ℕ) : Type 0 where

@@ -1,9 +1,10 @@
 //! Laws about pruned games and their certificates: each law is the contract of a function with an empty body.
 
-ghost use Rattle.std.specs.Prelude.{◌≡◌, ℕ, Option};
+ghost use Rattle.std.specs.Prelude.{◌≡◌, ℕ, List, Option};
 ghost use Rattle.ps_game.specs.Games.{owner_of};
 ghost use Rattle.ps_certificate.specs.Certificates.{CertificateData, Fits, IsValid, winner_of};
 ghost use Rattle.ps_pruning.specs.Lifting.{Pruning, IsPruning, IsCovered, IsKeptAs, IsGuide, IsLift, HasEntryOf};
+ghost use Rattle.ps_pruning.specs.Lifting.{AreCandidates, IsGuideBy};
 
 /// If each vertex of the second mover may be replaced by a kept one with no other successors, each lift of a valid
 /// certificate of the pruned game is a valid certificate of the whole game.
@@ -32,7 +33,8 @@ pub fn lift_is_there()
         (lifted : CertificateData) × IsLift p certificate guide lifted }
 {}
 
-/// Each certificate of a pruned game has a guide.
+/// Each certificate of a pruned game has a guide for each order in which a vertex's candidates are tried.
 pub fn guide_is_there()
-    ensures { (p : Pruning) (certificate : CertificateData) → (guide : ℕ → Option ℕ) × IsGuide p certificate guide }
+    ensures { (p : Pruning) (certificate : CertificateData) (order : ℕ → List ℕ) → AreCandidates p certificate order →
+        (guide : ℕ → Option ℕ) × IsGuideBy p certificate order guide }
 {}

@@ -6,7 +6,7 @@
 //! | `lift_is_certificate` | a lift of a valid certificate of the pruned game is a valid certificate of the game |
 //! | `lift_keeps_winners` | a lift keeps the winners of kept vertices, and the entries of the first mover's vertices |
 //! | `lift_is_there` | each valid certificate of a pruned game has a lift for each guide |
-//! | `guide_is_there` | each certificate of a pruned game has a guide |
+//! | `guide_is_there` | each certificate of a pruned game has a guide, which tries candidates in a given order |
 #![tactic(auto)]
 
 mod laws;
