@@ -3,9 +3,9 @@ mod BoardMoves
 mod BoardSteps
 mod ByLetters
 mod CertificateThere
-mod DecidedMoves
+pub mod DecidedMoves
 mod FileBoards
-mod LeastLetters
+pub mod LeastLetters
 mod LetterLists
 mod LeafRows
 pub mod Movers

@@ -53,7 +53,7 @@ small_owner : (mover : ℕ) (key : Key) → mover < 2 → owner_of_key mover key
 small_owner mover (First q p) small = small
 small_owner mover (Second q x) small = omega arith
 
-board_game_is_game : (board : Board) (mover : ℕ) (keys : List Key) (game : ParityGame) → mover < 2 →
+pub board_game_is_game : (board : Board) (mover : ℕ) (keys : List Key) (game : ParityGame) → mover < 2 →
     IsGameOf board mover keys game → IsGame game
 board_game_is_game board mover keys game small is = record {
   owners = λ v inside. let at = is.by_keys.vertices v inside in

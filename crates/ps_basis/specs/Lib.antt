@@ -1,0 +1,3 @@
+pub mod ArenaMoves
+pub mod Arenas
+pub mod Bases

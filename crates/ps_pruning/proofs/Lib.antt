@@ -1,0 +1,5 @@
+pub mod KeptVertices
+pub mod Servers
+pub mod Lifted
+pub mod LiftEntries
+pub mod Guiding
