@@ -48,9 +48,9 @@ pub struct Winner {
 ///
 /// # Errors
 ///
-/// Fails, in this order, with the first error of the text; with `NotTranslated`, if the translator gives no automaton or
-/// the text of the automaton exceeds a limit; with `NotJudged`, if the text is not accepted otherwise; with the solver's
-/// fault, with `NotCertified` or with `CircuitTooLarge`; with `NotJudged`, if the circuit does not win for the
+/// Fails, in this order, with the first error of the text; with `NotTranslated`, if the translator gives no automaton
+/// or the text of the automaton exceeds a limit; with `NotJudged`, if the text is not accepted otherwise; with the
+/// solver's fault, with `NotCertified` or with `CircuitTooLarge`; with `NotJudged`, if the circuit does not win for the
 /// specification. Fails at any time if memory runs out.
 pub fn synthesise_specification<T: Translator, S: Solver>(
     alloc: Global,
@@ -58,8 +58,8 @@ pub fn synthesise_specification<T: Translator, S: Solver>(
     translator: &T,
     solver: &mut S,
 ) -> Result<Winner, SpecificationFault>
-    // Whatever the translator and the solver give, a circuit wins for the specification, and a fault occurs only for the
-    // reason that `IsSpecificationFault` states.
+    // Whatever the translator and the solver give, a circuit wins for the specification, and a fault occurs only for
+    // the reason that `IsSpecificationFault` states.
     ensures promise { IfOk result (λ winner. KeepsSpecification text.now winner.role winner.circuit) }
     ensures refused { IfErr result (IsSpecificationFault (T.may_give translator.now)
         (Answered (S.known solver.old) (S.known solver.new)) text.now) }
