@@ -11,10 +11,7 @@ use thiserror::Error;
 pub enum OverlayError {
     /// At some letter, the first and the second have these different leaves.
     #[error("two different leaves, {first} and {second}, at one letter")]
-    Clash {
-        first: u64,
-        second: u64,
-    },
+    Clash { first: u64, second: u64 },
     /// Memory ran out.
     #[error("out of memory")]
     OutOfMemory,
