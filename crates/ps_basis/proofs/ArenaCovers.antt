@@ -4,15 +4,14 @@
 --   letter leads nowhere but where the vertex of the other leads
 -- - `arena_covered`: the condition `IsCovered`
 -- - `arena_there`, `lift_of_arena`: the laws
-use Rattle.std.specs.Prelude.{◌≡◌, ◌≢◌, ℕ, zero, suc, ◌+◌, ◌<◌, List, length, map, Some, slice_get}
+use Rattle.std.specs.Prelude.{◌≡◌, ◌≢◌, ℕ, zero, suc, ◌+◌, ◌<◌, List, length, map}
 use Rattle.std.specs.List.{Contains, range_with_len}
-use Rattle.std.proofs.Common.{sym, ◌∙◌, subst, ap, ap₂, refl, inl, inr, arith, rules, get_or}
+use Rattle.std.proofs.Common.{sym, ◌∙◌, subst, ap₂, refl, inl, inr, arith}
 use Rattle.std.proofs.lemmas.List.FromFn.{get_or-range_with_len, length-range_with_len}
 use Rattle.std.proofs.lemmas.Option.{get_or_from_slice_get, slice_get_within}
 use Rattle.ps_game.specs.Games.{ParityGame, IsGame, vertex_count, owner_of, successors_of, HasEdge}
-use Rattle.ps_machine.specs.Boards.{Board, IsClassLetter, IsFirstLetter, IsSecondLetter, IsMove, IsListOf, IsGameOf}
-use Rattle.ps_machine.specs.Boards.{LeadsTo, SameStep}
-use Rattle.ps_machine.specs.Keys.{owner_of_key, priority_of_key}
+use Rattle.ps_machine.specs.Boards.{Board, IsClassLetter, IsSecondLetter, IsGameOf}
+use Rattle.ps_machine.specs.Boards.{LeadsTo}
 use Rattle.ps_machine.specs.Numbering.{StandsAt}
 use Rattle.ps_machine.specs.declared.key.Key.{Key}
 use Rattle.ps_machine.specs.declared.key.Key.TheVariants.{First, Second}
@@ -20,7 +19,7 @@ use Rattle.ps_machine.proofs.DecidedMoves.{move_there}
 use Rattle.ps_machine.proofs.GameKeys.GameSound.{board_game_is_game}
 use Rattle.ps_machine.proofs.GameKeys.Standing.{same_some}
 use Rattle.ps_certificate.specs.Certificates.{CertificateData, Fits, IsValid}
-use Rattle.ps_pruning.specs.Lifting.{Pruning, IsPruning, IsCovered, IsKeptAs, IsGuide, MayReplace, CoversVertex}
+use Rattle.ps_pruning.specs.Lifting.{Pruning, IsCovered, IsKeptAs, IsGuide, MayReplace, CoversVertex}
 use Rattle.ps_pruning.specs.Lifting.{AreCandidates, Serves}
 use Rattle.ps_pruning.proofs.Guiding.{guide_there}
 use Rattle.ps_pruning.proofs.LiftEntries.{lift_there}
@@ -30,7 +29,7 @@ use Rattle.ps_basis.specs.Arenas.{AreOrders, candidates_at, candidates_of}
 use Rattle.ps_basis.specs.Bases.{IsBasis, IsBelowLetter, CanGoTo, ReachesNoMore}
 use Rattle.ps_basis.proofs.ArenaKeys.{Vertex, key_at, edge_key, key_edge, next_vertex, stands_in, stands_there, in_map}
 use Rattle.ps_basis.proofs.ArenaKeys.{from_map, entered_from}
-use Rattle.ps_basis.proofs.ArenaEdges.{Behind, in_game, in_arena, game_key_once, first_leads, first_letter}
+use Rattle.ps_basis.proofs.ArenaEdges.{Behind, in_game, in_arena, first_leads, first_letter}
 use Rattle.ps_basis.proofs.ArenaEdges.{behind_first, behind_second}
 use Rattle.ps_basis.proofs.ArenaEdges.{first_not_second, kept_there, kept_by_key, arena_pruning}
 
@@ -287,13 +286,15 @@ module _ (board : Board) (bases : ℕ → List ℕ) (mover : ℕ) (keys others :
               is_guide = by_order;
               is_lift = lift;
               fits =
-                  lift_fits p certificate lifted guide pruning_is.is_pruning pruning_is.is_covered fits valid guides lift;
+                  lift_fits p certificate lifted guide pruning_is.is_pruning pruning_is.is_covered fits valid guides
+                  lift;
               valid =
                   lift_is_valid p certificate lifted guide pruning_is.is_pruning pruning_is.is_covered fits valid guides
                   lift;
               start = kept_winner p certificate lifted guide pruning_is.is_pruning fits valid guides lift 0 0
                   (by_key 0 0 (First board.auto.start 0) of.by_keys.begins is.by_keys.begins);
-              firsts = λ u v q r at_u at_v. first_entry p certificate lifted guide pruning_is.is_pruning fits valid guides
+              firsts =
+                  λ u v q r at_u at_v. first_entry p certificate lifted guide pruning_is.is_pruning fits valid guides
                   lift u v (by_key u v (First q r) at_u at_v)
                   ((in_game board bases mover keys others game arena is of v (First q r) at_v).owner);
             },

@@ -5,10 +5,10 @@
 use Rattle.std.specs.Prelude.{◌≡◌, ◌≢◌, ℕ, zero, suc, ◌+◌, ◌-◌, ◌<◌, List, [], ◌∷◌, length, map, Option, Some, None}
 use Rattle.std.specs.Prelude.{slice_get}
 use Rattle.std.specs.List.{AllPairs, Contains}
-use Rattle.std.proofs.Common.{sym, ◌∙◌, subst, ap, refl, inl, inr, arith, rules, get_or}
+use Rattle.std.proofs.Common.{sym, ◌∙◌, subst, ap, refl, arith, get_or}
 use Rattle.std.proofs.lemmas.List.Elements.{Contains-get_or}
 use Rattle.std.proofs.lemmas.Option.{slice_get-get_or, slice_get_within}
-use Rattle.ps_game.specs.Games.{ParityGame, IsGame, vertex_count, owner_of, priority_of, HasEdge}
+use Rattle.ps_game.specs.Games.{ParityGame, IsGame, owner_of, HasEdge}
 use Rattle.ps_machine.specs.Boards.{Board, IsClassLetter, IsMove, IsListOf, IsGameOf, LeadsTo}
 use Rattle.ps_machine.specs.Keys.{owner_of_key}
 use Rattle.ps_machine.specs.Numbering.{StandsAt}
@@ -17,40 +17,34 @@ use Rattle.ps_machine.specs.declared.key.Key.TheVariants.{First, Second}
 use Rattle.ps_machine.proofs.GameKeys.Standing.{same_some}
 use Rattle.ps_pruning.specs.Lifting.{Pruning, IsPruning, IsKeptAs}
 use Rattle.ps_basis.specs.Arenas.{IsArenaOf, LeadsWithin, HaveSameKey, AreSameKeys}
-use Rattle.ps_basis.specs.Bases.{IsBasis}
 use Rattle.ps_basis.proofs.ArenaKeys.{Vertex, below_keys, vertex_at, key_at, key_once, edge_key, key_edge, stands_in}
-use Rattle.ps_basis.proofs.ArenaKeys.{stands_there, in_map, from_map, index_once}
+use Rattle.ps_basis.proofs.ArenaKeys.{stands_there, in_map, from_map}
 
 -- ## Lists with a property at each place
 
-pub record IsMade (P : ℕ → ℕ → Type 0) (n : ℕ) (xs : List ℕ) : Type 0 where
+pub record IsMade {X : Type 0} (P : ℕ → X → Type 0) (n : ℕ) (xs : List X) : Type 0 where
   pub count : length xs ≡ n
-  pub each : (u v : ℕ) → slice_get xs u ≡ Some v → P u v
+  pub each : (u : ℕ) (x : X) → slice_get xs u ≡ Some x → P u x
 
-pub list_made : (n : ℕ) (P : ℕ → ℕ → Type 0) → ((u : ℕ) → u < n → (v : ℕ) × P u v) → (xs : List ℕ) × IsMade P n xs
-list_made zero P there = (
-  [],
-  record {
-    count = refl;
-    each = λ u v none. let none_is : None ≡ Some v = none in
-        absurd (cc none_is);
-  },
-)
-list_made (suc n) P there = with_first (there 0 (omega arith))
-    (list_made n (λ u v. P (suc u) v) (λ u below. there (suc u) (omega (arith, below))))
+pub list_made : {X : Type 0} (n : ℕ) (P : ℕ → X → Type 0) → ((u : ℕ) → u < n → (x : X) × P u x) →
+    (xs : List X) × IsMade P n xs
+list_made {X} zero P there =
+    ([], record { count = refl; each = λ u x none. let none_is : None ≡ Some x = none in absurd (cc none_is) })
+list_made {X} (suc n) P there = with_first (there 0 (omega arith))
+    (list_made n (λ u x. P (suc u) x) (λ u below. there (suc u) (omega (arith, below))))
   where
-    with_first : (v : ℕ) × P 0 v → (xs : List ℕ) × IsMade (λ u v. P (suc u) v) n xs →
-        (xs : List ℕ) × IsMade P (suc n) xs
+    with_first : (x : X) × P 0 x → (xs : List X) × IsMade (λ u y. P (suc u) y) n xs →
+        (xs : List X) × IsMade P (suc n) xs
     with_first (x, here) (xs, made) = (x ∷ xs, record { count = omega (arith, made.count); each = each })
       where
-        each : (u v : ℕ) → slice_get (x ∷ xs) u ≡ Some v → P u v
-        each zero v is = let same : x ≡ v = grind (arith, is) in subst (λ (y : ℕ). P 0 y) same here
-        each (suc u) v is = made.each u v is
+        each : (u : ℕ) (y : X) → slice_get (x ∷ xs) u ≡ Some y → P u y
+        each zero y is = let same : x ≡ y = cc is in subst (λ (z : X). P 0 z) same here
+        each (suc u) y is = made.each u y is
 
-second_letter_same : {q x r y : ℕ} → Second q x ≡ Second r y → x ≡ y
+pub second_letter_same : {q x r y : ℕ} → Second q x ≡ Second r y → x ≡ y
 second_letter_same e = cc
 
-second_state_same : {q x r y : ℕ} → Second q x ≡ Second r y → q ≡ r
+pub second_state_same : {q x r y : ℕ} → Second q x ≡ Second r y → q ≡ r
 second_state_same e = cc
 
 pub first_not_second : {q p r x : ℕ} → First q p ≡ Second r x → ⊥
@@ -73,6 +67,32 @@ second_leads board q x one other (letters, list, is) (others, also, is_other) ke
     at_place : (letters : List ℕ) → IsListOf (IsMove board q x) letters → (y : ℕ) → Contains letters y →
         IsMove board q x y
     at_place letters list y (k, within, same) = subst (λ (z : ℕ). IsMove board q x z) same (list.each k y within)
+
+-- a key of the first player leads to those of all class letters
+pub class_leads : (board : Board) (q p x : ℕ) (next : List Key) → LeadsTo board (First q p) next →
+    IsClassLetter board q x → Contains next (Second q x)
+class_leads board q p x next (letters, list, same) letter =
+    subst (λ (ks : List Key). Contains ks (Second q x)) (sym same)
+    (in_map (λ z. Second q z) letters x (list.complete x letter))
+
+-- a key of the first player leads only to those of class letters
+pub class_behind : (board : Board) (q p : ℕ) (next : List Key) (key : Key) → LeadsTo board (First q p) next →
+    Contains next key → (x : ℕ) × (key ≡ Second q x) × IsClassLetter board q x
+class_behind board q p next key (letters, list, same) inside =
+    let mapped : Contains (map (λ z. Second q z) letters) key =
+    subst (λ (ks : List Key). Contains ks key) same inside in
+    let (y, listed, is_y) = from_map (λ z. Second q z) letters 0 key mapped in
+    let (k, within, at) = listed in
+    (y, is_y, subst (λ (z : ℕ). IsClassLetter board q z) at (list.each k y within))
+
+-- a key of the second player leads to keys of the first player
+pub second_leads_first : (board : Board) (q x : ℕ) (next : List Key) (key : Key) → LeadsTo board (Second q x) next →
+    Contains next key → (r : ℕ) × (s : ℕ) × (key ≡ First r s)
+second_leads_first board q x next key (letters, list, same) inside =
+    let goes : ℕ → Key = λ y. First (board.auto.next q (x + y)) (board.auto.priority q (x + y)) in
+    let mapped : Contains (map goes letters) key = subst (λ (ks : List Key). Contains ks key) same inside in
+    let (y, listed, is_y) = from_map goes letters 0 key mapped in
+    (board.auto.next q (x + y), board.auto.priority q (x + y), is_y)
 
 module _ (board : Board) (bases : ℕ → List ℕ) (mover : ℕ) (keys others : List Key) (game arena : ParityGame)
     (is : IsGameOf board mover keys game) (of : IsArenaOf board bases mover keys others arena) where
@@ -117,26 +137,15 @@ module _ (board : Board) (bases : ℕ → List ℕ) (mover : ℕ) (keys others :
 
   pub first_letter : (v q p : ℕ) (here : GameVertex v (First q p)) (r x : ℕ) → Contains here.next (Second r x) →
       (q ≡ r) × IsClassLetter board q x
-  first_letter v q p here r x inside = by_list here.leads_to
-    where
-      by_list : LeadsTo board (First q p) here.next → (q ≡ r) × IsClassLetter board q x
-      by_list (letters, list, same) =
-          let mapped : Contains (map (λ z. Second q z) letters) (Second r x) =
-          subst (λ (ks : List Key). Contains ks (Second r x)) same inside in
-          let (y, listed, is_y) = from_map (λ z. Second q z) letters 0 (Second r x) mapped in
-          let (k, within, at) = listed in
-          let letter : IsClassLetter board q y = subst (λ (z : ℕ). IsClassLetter board q z) at (list.each k y within) in (
-            sym (second_state_same is_y),
-            subst (λ (z : ℕ). IsClassLetter board q z) (sym (second_letter_same is_y)) letter,
-          )
+  first_letter v q p here r x inside =
+      let (y, is_y, letter) = class_behind board q p here.next (Second r x) here.leads_to inside in (
+        sym (second_state_same is_y),
+        subst (λ (z : ℕ). IsClassLetter board q z) (sym (second_letter_same is_y)) letter,
+      )
 
   pub first_leads : (v q p : ℕ) (here : GameVertex v (First q p)) (x : ℕ) → IsClassLetter board q x →
       Contains here.next (Second q x)
-  first_leads v q p here x letter = by_list here.leads_to
-    where
-      by_list : LeadsTo board (First q p) here.next → Contains here.next (Second q x)
-      by_list (letters, list, same) = subst (λ (ks : List Key). Contains ks (Second q x)) (sym same)
-          (in_map (λ z. Second q z) letters x (list.complete x letter))
+  first_leads v q p here x letter = class_leads board q p x here.next here.leads_to letter
 
   -- what follows a vertex of the first player
   pub record Behind (key : Key) (q p : ℕ) : Type 0 where
@@ -145,30 +154,13 @@ module _ (board : Board) (bases : ℕ → List ℕ) (mover : ℕ) (keys others :
     pub is_class : IsClassLetter board q letter
 
   pub behind_first : (v q p : ℕ) (here : GameVertex v (First q p)) (key : Key) → Contains here.next key → Behind key q p
-  behind_first v q p here key inside = by_list here.leads_to
-    where
-      by_list : LeadsTo board (First q p) here.next → Behind key q p
-      by_list (letters, list, same) =
-          let mapped : Contains (map (λ z. Second q z) letters) key =
-          subst (λ (ks : List Key). Contains ks key) same inside in
-          let (y, listed, is_y) = from_map (λ z. Second q z) letters 0 key mapped in
-          let (k, within, at) = listed in
-          record {
-            letter = y;
-            is_key = is_y;
-            is_class = subst (λ (z : ℕ). IsClassLetter board q z) at (list.each k y within);
-          }
+  behind_first v q p here key inside =
+      let (y, is_y, is_class) = class_behind board q p here.next key here.leads_to inside in
+      record { letter = y; is_key = is_y; is_class = is_class }
 
   pub behind_second : (v q x : ℕ) (here : GameVertex v (Second q x)) (key : Key) → Contains here.next key →
       (r : ℕ) × (s : ℕ) × (key ≡ First r s)
-  behind_second v q x here key inside = by_list here.leads_to
-    where
-      by_list : LeadsTo board (Second q x) here.next → (r : ℕ) × (s : ℕ) × (key ≡ First r s)
-      by_list (letters, list, same) =
-          let goes : ℕ → Key = λ y. First (board.auto.next q (x + y)) (board.auto.priority q (x + y)) in
-          let mapped : Contains (map goes letters) key = subst (λ (ks : List Key). Contains ks key) same inside in
-          let (y, listed, is_y) = from_map goes letters 0 key mapped in
-          (board.auto.next q (x + y), board.auto.priority q (x + y), is_y)
+  behind_second v q x here key inside = second_leads_first board q x here.next key here.leads_to inside
 
   -- an edge of the game from the vertex of a key to that of another is an edge of the arena between their vertices
   edge_in_keys : (u v x w : ℕ) (from to : Key) → StandsAt others u from → StandsAt keys v from → StandsAt others x to →

@@ -2,12 +2,12 @@
 -- lead.
 -- - `used_by`: what holds at the start, and is passed on along the edges of the play, holds at each vertex of the play
 -- - `first_used`, `second_used`: the two cases of the law `used_of_lift`
-use Rattle.std.specs.Prelude.{◌≡◌, ◌≢◌, ◌↔◌, ℕ, zero, suc, ◌+◌, ◌-◌, ◌<◌, List, length, Option, None, Some, IfSome}
+use Rattle.std.specs.Prelude.{◌≡◌, ◌≢◌, ◌↔◌, ℕ, zero, suc, ◌+◌, ◌-◌, ◌<◌, List, length, Option, None, Some}
 use Rattle.std.specs.Prelude.{slice_index}
 use Rattle.std.specs.List.{Contains}
 use Rattle.std.specs.Option.{option_map}
-use Rattle.std.proofs.Common.{sym, ◌∙◌, subst, ap, ap₂, refl, inl, inr, arith, rules}
-use Rattle.ps_game.specs.Games.{ParityGame, IsGame, vertex_count, owner_of, HasEdge}
+use Rattle.std.proofs.Common.{sym, ◌∙◌, subst, ap, ap₂, refl, arith}
+use Rattle.ps_game.specs.Games.{ParityGame, vertex_count, owner_of, HasEdge}
 use Rattle.ps_certificate.specs.Certificates.{CertificateData, Fits, IsValid, winner_of, choice_of}
 use Rattle.ps_certificate.proofs.SuccessorEdges.{IsSomeAnd-at}
 use Rattle.ps_machine.specs.Boards.{Board, IsClassLetter, IsGameOf, LeadsTo}
@@ -17,7 +17,7 @@ use Rattle.ps_machine.specs.Numbering.{StandsAt}
 use Rattle.ps_machine.specs.Solving.{winner_at_start}
 use Rattle.ps_machine.specs.declared.key.Key.{Key}
 use Rattle.ps_machine.specs.declared.key.Key.TheVariants.{First, Second}
-use Rattle.ps_machine.proofs.DecidedMoves.{class_there, same_states, same_priorities}
+use Rattle.ps_machine.proofs.DecidedMoves.{class_there}
 use Rattle.ps_machine.proofs.Diagrams.DrawingLemmas.{used_more, used_won}
 use Rattle.ps_machine.proofs.GameKeys.Standing.{same_some}
 use Rattle.ps_machine.proofs.Machines.UsedVertices.{used_first}
@@ -119,21 +119,25 @@ module _ (board : Board) (bases : ℕ → List ℕ) (mover : ℕ) (keys others :
     FirstCame v (First q o) = FirstRounds q o
     FirstCame v (Second q x) = FromFirst v q
 
-    first_from : (v w q o : ℕ) (to : Key) → StandsAt keys v (First q o) → StandsAt keys w to →
-        FirstRounds q o → GoesOn game lifted v w → FirstCame w to
-    first_from v w q o to at_v at_w came goes =
-        let here : GameVertex v (First q o) = vertex_of v (First q o) at_v in
-        let behind : Behind board bases mover keys others game arena is of to q o =
-        behind_first board bases mover keys others game arena is of v q o here to
-        (key_to v w (First q o) to here at_w goes.edge) in
+    first_to : (v w q o : ℕ) (to : Key) → StandsAt keys v (First q o) → FirstRounds q o → choice_of lifted v ≡ Some w →
+        Behind board bases mover keys others game arena is of to q o → FirstCame w to
+    first_to v w q o to at_v came chosen behind =
         let came_to : FirstCame w (Second q behind.letter) = record {
           priority = o;
           comes = came;
           from = v;
           at = at_v;
-          choice = goes.chosen (here.owner ∙ sym lifted_start);
+          choice = chosen;
         } in
         subst (λ (k : Key). FirstCame w k) (sym behind.is_key) came_to
+
+    first_from : (v w q o : ℕ) (to : Key) → StandsAt keys v (First q o) → StandsAt keys w to →
+        FirstRounds q o → GoesOn game lifted v w → FirstCame w to
+    first_from v w q o to at_v at_w came goes =
+        let here : GameVertex v (First q o) = vertex_of v (First q o) at_v in
+        first_to v w q o to at_v came (goes.chosen (here.owner ∙ sym lifted_start))
+        (behind_first board bases mover keys others game arena is of v q o here to
+        (key_to v w (First q o) to here at_w goes.edge))
 
     first_round : (v q x r s : ℕ) → StandsAt keys v (Second q x) → FromFirst v q → CanGoTo board q x r s →
         FirstRounds r s
@@ -156,15 +160,18 @@ module _ (board : Board) (bases : ℕ → List ℕ) (mover : ℕ) (keys others :
           reached = reached;
         })
 
+    first_over : (v w q x : ℕ) (to : Key) → StandsAt keys v (Second q x) → FromFirst v q → ReachedAt board q x to →
+        FirstCame w to
+    first_over v w q x to at_v came reached = subst (λ (k : Key). FirstCame w k) (sym reached.is_key)
+        (first_round v q x reached.state reached.priority at_v came reached.reached)
+
     first_next : (v w : ℕ) (from to : Key) → StandsAt keys v from → StandsAt keys w to → FirstCame v from →
         GoesOn game lifted v w → FirstCame w to
     first_next v w (First q o) to at_v at_w came goes = first_from v w q o to at_v at_w came goes
     first_next v w (Second q x) to at_v at_w came goes =
         let here : GameVertex v (Second q x) = vertex_of v (Second q x) at_v in
-        let reached : ReachedAt board q x to = key_reached board q x here.next to here.leads_to
-        (key_to v w (Second q x) to here at_w goes.edge) in
-        subst (λ (k : Key). FirstCame w k) (sym reached.is_key)
-        (first_round v q x reached.state reached.priority at_v came reached.reached)
+        first_over v w q x to at_v came (key_reached board q x here.next to here.leads_to
+        (key_to v w (Second q x) to here at_w goes.edge))
 
     first_came : (v : ℕ) → IsUsed game lifted v → (key : Key) → StandsAt keys v key → FirstCame v key
     first_came v used = used_by game lifted (λ v. (key : Key) → StandsAt keys v key → FirstCame v key)
@@ -217,7 +224,7 @@ module _ (board : Board) (bases : ℕ → List ℕ) (mover : ℕ) (keys others :
     abbrev SecondRounds : ℕ → ℕ → Type 0
     SecondRounds q o = ComesTo (IsSecondRound board mover others c order) board.auto.start q o
 
-    second_start : winner_at_start lifted ≡ 1 - mover
+    pub second_start : winner_at_start lifted ≡ 1 - mover
     second_start = lift.start ∙ other (winner_at_start c) mover
         (fits.winners 0 (kept_below p pruning_is 0 0 (kept_as board bases mover keys others order game arena c lifted
         small is of fits valid lift 0 0 start of.by_keys.begins is.by_keys.begins))) small lost
@@ -241,13 +248,9 @@ module _ (board : Board) (bases : ℕ → List ℕ) (mover : ℕ) (keys others :
     SecondCame v (First q o) = AtFirst v q o
     SecondCame v (Second q x) = FromSecond q x
 
-    second_from : (v w q o : ℕ) (to : Key) → StandsAt keys v (First q o) → StandsAt keys w to →
-        AtFirst v q o → GoesOn game lifted v w → SecondCame w to
-    second_from v w q o to at_v at_w came goes =
-        let here : GameVertex v (First q o) = vertex_of v (First q o) at_v in
-        let behind : Behind board bases mover keys others game arena is of to q o =
-        behind_first board bases mover keys others game arena is of v q o here to
-        (key_to v w (First q o) to here at_w goes.edge) in
+    second_to : (v w q o : ℕ) (to : Key) → StandsAt keys v (First q o) → AtFirst v q o →
+        Behind board bases mover keys others game arena is of to q o → SecondCame w to
+    second_to v w q o to at_v came behind =
         let came_to : SecondCame w (Second q behind.letter) = record {
           priority = o;
           comes = came.comes;
@@ -257,6 +260,13 @@ module _ (board : Board) (bases : ℕ → List ℕ) (mover : ℕ) (keys others :
           is_class = behind.is_class;
         } in
         subst (λ (k : Key). SecondCame w k) (sym behind.is_key) came_to
+
+    second_from : (v w q o : ℕ) (to : Key) → StandsAt keys v (First q o) → StandsAt keys w to →
+        AtFirst v q o → GoesOn game lifted v w → SecondCame w to
+    second_from v w q o to at_v at_w came goes =
+        let here : GameVertex v (First q o) = vertex_of v (First q o) at_v in
+        second_to v w q o to at_v came (behind_first board bases mover keys others game arena is of v q o here to
+        (key_to v w (First q o) to here at_w goes.edge))
 
     second_round : (v w q x : ℕ) (to : Key) → StandsAt keys v (Second q x) → StandsAt keys w to → FromSecond q x →
         GoesOn game lifted v w → SecondCame w to

@@ -3,36 +3,35 @@
 --   those whose moves can be made behind its letter
 -- - `steps_behind`, `steps_back`: the two halves of the law `second_steps_of_lift`
 use Rattle.std.specs.Prelude.{◌↔◌}
-use Rattle.std.specs.Prelude.{◌≡◌, ◌≢◌, ℕ, ◌+◌, ◌-◌, ◌<◌, ◌⊎◌, List, length, map, Option, None, Some, slice_get}
+use Rattle.std.specs.Prelude.{◌≡◌, ◌≢◌, ℕ, ◌+◌, ◌-◌, ◌<◌, ◌⊎◌, List, length, map, Option, Some, slice_get}
 use Rattle.std.specs.Prelude.{slice_index}
 use Rattle.std.specs.List.{Contains}
 use Rattle.std.specs.Option.{option_map}
-use Rattle.std.proofs.Common.{sym, ◌∙◌, subst, ap, ap₂, refl, inl, inr, arith, rules, get_or}
+use Rattle.std.proofs.Common.{sym, ◌∙◌, subst, ap, ap₂, refl, inl, inr, arith}
 use Rattle.std.proofs.lemmas.Option.{get_or_from_slice_get}
-use Rattle.ps_game.specs.Games.{ParityGame, IsGame, vertex_count, owner_of, HasEdge}
+use Rattle.ps_game.specs.Games.{ParityGame, IsGame, owner_of, HasEdge}
 use Rattle.ps_certificate.specs.Certificates.{CertificateData, Fits, IsValid, Remains, winner_of, choice_of}
 use Rattle.ps_diagram.specs.Letters.{IsLeastLetter}
-use Rattle.ps_machine.specs.Boards.{Board, IsClassLetter, IsFirstLetter, IsSecondLetter, IsMove, IsListOf, IsGameOf}
+use Rattle.ps_machine.specs.Boards.{Board, IsClassLetter, IsFirstLetter, IsSecondLetter, IsGameOf}
 use Rattle.ps_machine.specs.Boards.{LeadsTo, SameSteps}
 use Rattle.ps_machine.specs.Extracting.{GoesTo, StepsSecond}
 use Rattle.ps_machine.specs.Numbering.{StandsAt}
 use Rattle.ps_machine.specs.declared.key.Key.{Key}
 use Rattle.ps_machine.specs.declared.key.Key.TheVariants.{First, Second}
 use Rattle.ps_machine.proofs.DecidedMoves.{class_there, move_there, same_states, same_priorities, steps_sym}
-use Rattle.ps_machine.proofs.GameKeys.GameSound.{board_game_is_game}
 use Rattle.ps_machine.proofs.GameKeys.Standing.{same_some}
-use Rattle.ps_pruning.specs.Lifting.{Pruning, IsPruning, IsCovered, IsKeptAs, Guides, Serves, IsGuide, IsFirstIn}
+use Rattle.ps_pruning.specs.Lifting.{Pruning, IsPruning, IsKeptAs, Serves, IsGuide, IsFirstIn}
 use Rattle.ps_pruning.specs.Lifting.{HasEntryOf}
 use Rattle.ps_pruning.proofs.KeptVertices.{kept_is, kept_there}
-use Rattle.ps_pruning.proofs.Lifted.{Served, kept_winner, move_kept, served_edge, lift_is_closed}
-use Rattle.ps_pruning.proofs.Servers.{Moves, Follows, move_of, server_owner, server_below, choice_back, given_there}
+use Rattle.ps_pruning.proofs.Lifted.{kept_winner, move_kept, served_edge, lift_is_closed}
+use Rattle.ps_pruning.proofs.Servers.{move_of, server_owner, server_below, given_there}
 use Rattle.ps_basis.specs.ArenaMoves.{MovesBehind, GoesThere, StepsBehind}
-use Rattle.ps_basis.specs.Arenas.{IsArenaOf, IsArenaPruning, IsLiftOfArena, AreSameKeys, pruning_to, candidates_at}
+use Rattle.ps_basis.specs.Arenas.{IsArenaOf, IsLiftOfArena, pruning_to, candidates_at}
 use Rattle.ps_basis.specs.Arenas.{candidates_of}
 use Rattle.ps_basis.specs.Bases.{CanGoTo, ReachesNoMore}
-use Rattle.ps_basis.proofs.ArenaKeys.{Vertex, key_at, edge_key, key_edge, next_vertex, stands_in, stands_there, in_map}
+use Rattle.ps_basis.proofs.ArenaKeys.{Vertex, edge_key, key_edge, next_vertex, stands_in, stands_there, in_map}
 use Rattle.ps_basis.proofs.ArenaKeys.{from_map}
-use Rattle.ps_basis.proofs.ArenaEdges.{in_game, game_key_once, first_leads, in_basis_is_class, kept_by_key}
+use Rattle.ps_basis.proofs.ArenaEdges.{in_game, first_leads, in_basis_is_class, kept_by_key}
 use Rattle.ps_basis.proofs.ArenaCovers.{server_state, replaces}
 use Rattle.ps_basis.proofs.LetterReach.{reaches_same}
 
@@ -106,6 +105,22 @@ key_reached board q c next key (letters, list, is) inside =
         priority = refl;
       };
     }
+
+-- the vertex u of the arena moves to the vertex z, whose key is that of a step behind the letter x
+moves_at : (board : Board) (mover : ℕ) (others : List Key) (c : CertificateData) (q x u letter z : ℕ) (key : Key) →
+    StandsAt others u (Second q letter) → winner_of c u ≡ 1 - mover → choice_of c u ≡ Some z → StandsAt others z key →
+    ReachedAt board q x key → MovesBehind board mover others c q x u
+moves_at board mover others c q x u letter z key stands won choice target at = record {
+  letter = letter;
+  stands = stands;
+  won = won;
+  chosen = z;
+  choice = choice;
+  state = at.state;
+  priority = at.priority;
+  target = subst (λ (k : Key). StandsAt others z k) at.is_key target;
+  reached = at.reached;
+}
 
 moves_through : (board : Board) (mover : ℕ) (others : List Key) (c : CertificateData) (q x y u : ℕ) →
     ReachesNoMore board q x y → MovesBehind board mover others c q x u → MovesBehind board mover others c q y u
@@ -225,17 +240,7 @@ module _ (board : Board) (bases : ℕ → List ℕ) (mover : ℕ) (keys others :
         let reached : ReachedAt board q class same.key = key_reached board q class to.next same.key to.leads_to
         (edge_key (LeadsTo board) mover start keys game is.by_keys at (slice_index lift.kept z) (Second q class)
         same.key to same.in_game leads) in
-        record {
-          letter = letter;
-          stands = stands;
-          won = winner;
-          chosen = z;
-          choice = moves.choice;
-          state = reached.state;
-          priority = reached.priority;
-          target = subst (λ (k : Key). StandsAt others z k) reached.is_key same.in_arena;
-          reached = reached.reached;
-        }
+        moves_at board mover others c q class y letter z same.key stands winner moves.choice same.in_arena reached
 
     moves_serve : (y : ℕ) → MovesBehind board mover others c q class y → Serves p c at y
     moves_serve y moves =

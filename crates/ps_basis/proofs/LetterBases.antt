@@ -1,11 +1,10 @@
 -- The least letters of all classes are a basis, and so are those of all sets, and those of the minimal sets.
 -- - `classes_basis`, `sets_basis`, `minimal_basis`: the laws
-use Rattle.std.specs.Prelude.{◌≡◌, ℕ, zero, suc, ◌^◌, ◌<◌, ◌⊎◌, List}
-use Rattle.std.proofs.Common.{sym, ◌∙◌, subst, refl, inl, inr, arith, rules}
+use Rattle.std.specs.Prelude.{ℕ, zero, suc, ◌^◌, ◌<◌, List}
+use Rattle.std.proofs.Common.{sym, subst, refl, inl, inr, arith}
 use Rattle.std.proofs.lemmas.Bool.{cases_eq}
-use Rattle.ps_text.proofs.Decisions.{Decided, decide_both}
-use Rattle.ps_diagram.specs.Letters.{IsLeastLetter}
-use Rattle.ps_machine.specs.Boards.{Board, IsFirstLetter, SameSteps, IsClassLetter, IsListOf}
+use Rattle.ps_text.proofs.Decisions.{decide_both}
+use Rattle.ps_machine.specs.Boards.{Board, IsFirstLetter, IsClassLetter, IsListOf}
 use Rattle.ps_machine.proofs.DecidedMoves.{class_there, first_or_not, steps_sym}
 use Rattle.ps_machine.proofs.LeastLetters.{least_there}
 use Rattle.ps_basis.specs.Bases.{ReachesNoMore, IsBasis, IsAlike, IsSetLetter, IsMinimalLetter}

@@ -3,5 +3,16 @@ pub mod ArenaEdges
 pub mod ArenaKeys
 pub mod ArenaRounds
 pub mod ArenaSteps
+pub mod ArenaThere
+pub mod ClassKeys
+pub mod GameOrder
+pub mod GameSteps
+pub mod LeastCounts
+pub mod LeastSteps
 pub mod LetterBases
 pub mod LetterReach
+pub mod ListedOrder
+pub mod MachineAlong
+pub mod MachineByRounds
+pub mod Makers
+pub mod OneOrder

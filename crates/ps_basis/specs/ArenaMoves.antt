@@ -1,7 +1,6 @@
 -- The play by a lifted certificate, described by the arena alone. No class of letters occurs here.
 -- - `MovesBehind board mover others certificate q x u`: the second player wins the vertex u of the arena, whose state
--- is
---   q, by a move that can also be made behind the letter x
+--   is q, by a move that can also be made behind the letter x
 -- - `StepsBehind board mover others certificate order q x letter`: behind x, the second player answers `letter`
 -- - `IsFirstRound`, `IsSecondRound`: one round of the play, if the first player wins, and if the second player wins
 -- - `ComesTo Round start q p`: some rounds lead from the start to the state q, entered by an edge of priority p

@@ -4,8 +4,7 @@
 --   of each state, and `others` has the key of each of its vertices
 -- - `AreSameKeys keys others kept`: `kept` has the game's vertex with the same key for each vertex of the arena
 -- - `IsLiftOfArena mover keys others order game arena certificate lifted`: `lifted` is a valid certificate of the game,
--- which
---   extends a certificate of the arena
+--   which extends a certificate of the arena
 use Rattle.std.specs.Prelude.{◌≡◌, ℕ, List, length, map, slice_get, slice_index_or, Option, Some}
 use Rattle.std.specs.List.{Contains, range_with_len}
 use Rattle.ps_game.specs.Games.{ParityGame}

@@ -17,7 +17,7 @@ use Rattle.ps_machine.specs.Solving.{AnswersLeast}
 
 -- if a player wins everywhere in a set by a table of moves, then any other table with the same moves at the game's
 -- vertices also wins there
-holds_by : {game : ParityGame} {player : ℕ} {set : ℕ → Bool} {table : ℕ → Option ℕ} (other : ℕ → Option ℕ) →
+pub holds_by : {game : ParityGame} {player : ℕ} {set : ℕ → Bool} {table : ℕ → Option ℕ} (other : ℕ → Option ℕ) →
     ((v : ℕ) → v < vertex_count game → other v ≡ table v) → Holds game player set table → Holds game player set other
 holds_by {game} {player} {set} {table} other same h = record {
   keeps = record {

@@ -2,7 +2,7 @@ mod BoardLetters
 mod BoardMoves
 mod BoardSteps
 mod ByLetters
-mod CertificateThere
+pub mod CertificateThere
 pub mod DecidedMoves
 mod FileBoards
 pub mod LeastLetters

@@ -3,9 +3,9 @@
 //! The vertices of the game are numbered breadth first from the start, vertex 0. The first player is the one who moves
 //! first in each step. A vertex at which it moves stands for a state and the priority by which this was entered; one at
 //! which the second player moves, for a state and a class of the first player's letters, all of which lead to the same
-//! steps. Classes are computed from the automaton's decision diagrams, or letter by letter if no player has more than
-//! four. In each of its memory states, a machine leads an input letter to a row: the output letter, and the next memory
-//! state.
+//! steps. Classes are computed from the automaton's decision diagrams, or by trying each letter if no player has more
+//! than four. In each of its memory states, a machine leads an input letter to a row: the output letter, and the next
+//! memory state.
 //!
 //! | Call | What it gives |
 //! |---|---|

@@ -4,7 +4,7 @@ use Rattle.std.specs.Prelude.{◌≡◌, ℕ, ◌<◌, ◌⊎◌, List, length, 
 use Rattle.std.specs.List.{Contains}
 use Rattle.std.proofs.Common.{sym, ◌∙◌, subst, ap, refl, inl, inr, arith}
 use Rattle.std.proofs.lemmas.Bool.{cases_eq, cases_lt}
-use Rattle.std.proofs.lemmas.Option.{get_or_from_slice_get, slice_get-get_or, slice_get_within}
+use Rattle.std.proofs.lemmas.Option.{get_or_from_slice_get, slice_get-get_or}
 use Rattle.ps_game.specs.Games.{vertex_count, owner_of, priority_of, successors_of, HasEdge}
 use Rattle.ps_text.proofs.Decisions.{Decided, decide_not, decide_as, decide_both, decide_one, decide_in}
 use Rattle.ps_certificate.specs.Certificates.{CertificateData, winner_of, choice_of}

@@ -1,5 +1,6 @@
 //! Parity games without some of the vertices of the player who moves second, and how certificates of such pruned games
-//! extend to the whole games.
+//! extend to the whole games. A *guide* maps a vertex to a kept one, if any, won likewise; a *lift* is what a guide
+//! makes of a certificate of the pruned game: one of the game.
 //!
 //! | Law | What it says |
 //! |---|---|
