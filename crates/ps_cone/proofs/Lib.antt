@@ -5,3 +5,5 @@ pub mod SelectedLemmas
 pub mod CutLemmas
 pub mod ConeLemmas
 pub mod PartRuns
+pub mod PartWords
+pub mod PartTiming

@@ -33,7 +33,7 @@ module _ {c : CircuitData} {kept : List Bool} {part : CircuitData} (p : IsPartOf
         subst P there.2 (v.gates_are there.0 g there.1);
   }
 
-  step_of_part : {latches inputs outputs next : List Bool} → Steps c latches inputs outputs next →
+  pub step_of_part : {latches inputs outputs next : List Bool} → Steps c latches inputs outputs next →
       Steps part (selected kept latches) inputs outputs (selected kept next)
   step_of_part {latches} {inputs} {outputs} {next} s = record {
     values = s.values;

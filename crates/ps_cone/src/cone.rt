@@ -12,8 +12,8 @@ use crate::needed::needed;
 use ps_circuit::{Circuit, Gate, Latch, Parts};
 use std::alloc::{AllocError, Global};
 
-/// The circuit without the latches and gates on which no output depends. It has the same inputs and outputs, and runs
-/// alike (see `laws::part_runs_alike`). Fails if out of memory.
+/// The circuit without the latches and gates on which no output depends, with the same inputs and outputs. Fails if
+/// memory runs out.
 pub fn reduced(alloc: Global, circuit: &Circuit) -> Result<Circuit, AllocError>
     ensures { IfOk result (IsCone circuit.now) }
 {
@@ -22,7 +22,6 @@ pub fn reduced(alloc: Global, circuit: &Circuit) -> Result<Circuit, AllocError>
     Circuit::in_order(alloc, parts)
 }
 
-/// The parts of the circuit without the latches and gates that are not needed.
 fn parts_of(alloc: Global, circuit: &Circuit, needed: &[bool]) -> Result<Parts, AllocError>
     requires { length needed.now ≡ length (readers circuit.now) }
     ensures circuit { IsCircuit circuit.now }
@@ -41,7 +40,6 @@ fn parts_of(alloc: Global, circuit: &Circuit, needed: &[bool]) -> Result<Parts, 
     })
 }
 
-/// The latches that are needed.
 fn latches_among(
     alloc: Global,
     circuit: &Circuit,
@@ -59,7 +57,7 @@ fn latches_among(
     Ok(latches)
 }
 
-/// The gates that are needed, each after the gates that it reads.
+/// The gates that are needed, each after those that it reads.
 fn gates_among(alloc: Global, circuit: &Circuit, needed: &[bool]) -> Result<Vec<Gate>, AllocError>
     requires { length needed.now ≡ length (readers circuit.now) }
     ensures { IfOk result (λ gates. AreOrderedGates circuit.now needed.now gates.items) }

@@ -2,13 +2,12 @@
 //!
 //! | Call | What it gives |
 //! |---|---|
-//! | `reduced(circuit)` | the circuit without the latches and gates on which no output depends |
+//! | `reduced(circuit)` | the circuit without them |
 //! | `laws::part_runs_alike` | a law: a circuit and a part of it with the same outputs run alike |
+//! | `laws::part_is_judged_alike` | a law: what a judgement is about, they have in common |
 //!
-//! An output depends on a latch or a gate if it reads it, directly or through others, in the same step or in a later
-//! one. The latches and gates are the vertices of a graph whose edges lead to what each of them reads; what is reached
-//! from the outputs is kept. This takes time and memory proportional to the size of the circuit, except that variables
-//! that are far out of order are looked up in a B-tree.
+//! An output depends on what it reads, directly or through others, in the same step or in a later one. Time and memory
+//! are proportional to the size of the circuit, but variables that are far out of order are looked up in a B-tree.
 #![tactic(auto)]
 
 mod cone;

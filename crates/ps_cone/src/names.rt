@@ -11,7 +11,6 @@ use std::alloc::{AllocError, Global};
 /// An optional name.
 pub(crate) type Name = Option<Vec<u8>>;
 
-/// The names of a circuit's inputs.
 pub(crate) fn input_names(alloc: Global, circuit: &Circuit) -> Result<Vec<Name>, AllocError>
     ensures { IfOk result (λ names. map name_bytes names.items ≡ circuit.now.input_names) }
 {
@@ -22,7 +21,6 @@ pub(crate) fn input_names(alloc: Global, circuit: &Circuit) -> Result<Vec<Name>,
     Ok(names)
 }
 
-/// The names of a circuit's outputs.
 pub(crate) fn output_names(alloc: Global, circuit: &Circuit) -> Result<Vec<Name>, AllocError>
     ensures { IfOk result (λ names. map name_bytes names.items ≡ circuit.now.output_names) }
 {
@@ -53,7 +51,6 @@ pub(crate) fn latch_names(
     Ok(names)
 }
 
-/// A copy of a name, if there is one.
 fn copy_of(alloc: Global, name: Option<&[u8]>) -> Result<Name, AllocError>
     ensures { IfOk result (λ copy. name_bytes copy ≡ option_copied name.entry) }
 {

@@ -1,4 +1,4 @@
-//! The latches and gates on which an output depends.
+//! What the outputs depend on.
 
 ghost use Rattle.std.specs.Prelude.{◌≡◌, ◌<◌, All, IfOk, is_some, length, map};
 ghost use Rattle.ps_cone.specs.Inner.Needed.{AreFlags, AreNeeded, roots_of};
@@ -10,8 +10,7 @@ use ps_components::{Components, components_from};
 use ps_ids::Ids;
 use std::alloc::{AllocError, Global};
 
-/// For each latch, and then for each gate, whether an output depends on it, in the same step or in a later one. Fails
-/// if out of memory.
+/// For each latch, and then each gate, whether an output depends on it. Fails if memory runs out.
 pub(crate) fn needed(alloc: Global, circuit: &Circuit) -> Result<Vec<bool>, AllocError>
     ensures { IfOk result (λ needed. AreNeeded circuit.now needed.items) }
 {
@@ -24,7 +23,6 @@ pub(crate) fn needed(alloc: Global, circuit: &Circuit) -> Result<Vec<bool>, Allo
     reached(alloc, &graph, &roots)
 }
 
-/// The indices of the readers whose values are outputs.
 fn roots_of(alloc: Global, outputs: &[Literal], variables: &Ids) -> Result<Vec<usize>, AllocError>
     ensures { IfOk result (λ roots. roots.items ≡ roots_of variables.now outputs.now) }
 {
@@ -37,7 +35,7 @@ fn roots_of(alloc: Global, outputs: &[Literal], variables: &Ids) -> Result<Vec<u
     Ok(roots)
 }
 
-/// For each vertex of the graph whether it is a root or can be reached from one.
+/// For each vertex, whether it is a root or reached from one.
 fn reached(alloc: Global, graph: &SourceGraph, roots: &[usize]) -> Result<Vec<bool>, AllocError>
     requires { All (λ v. v < (source_graph graph.now.sources.items).count) roots.now }
     ensures { IfOk result (λ flags. AreFlags (source_graph graph.now.sources.items) roots.now flags.items) }
@@ -46,7 +44,6 @@ fn reached(alloc: Global, graph: &SourceGraph, roots: &[usize]) -> Result<Vec<bo
     marked(alloc, &components, graph.sources.len())
 }
 
-/// For each vertex whether it has a component.
 fn marked(alloc: Global, components: &Components, count: usize) -> Result<Vec<bool>, AllocError>
     requires { count ≡ length components.now.numbers }
     ensures { IfOk result (λ flags. flags.items ≡ map is_some components.now.numbers) }

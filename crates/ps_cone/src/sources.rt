@@ -1,4 +1,4 @@
-//! The latches and gates of a circuit as a graph.
+//! Latches and gates (the *readers*) as a graph.
 
 ghost use Rattle.std.specs.Prelude.{◌≡◌, ◌≢◌, AllPairs, IfOk, map};
 ghost use Rattle.ps_circuit.specs.Circuits.{IsCircuit};
@@ -12,19 +12,18 @@ use ps_components::Graph;
 use ps_ids::Ids;
 use std::alloc::{AllocError, Global};
 
-/// The indices of the readers that a reader reads.
+/// The indices of what a reader reads.
 #[derive(Clone, Copy)]
 pub(crate) struct Sources {
-    /// The index of the reader whose variable the first literal has, if there is such a reader.
+    /// The reader with the variable of the first literal, if there is one.
     pub first: Option<usize>,
-    /// The index of the reader whose variable the second literal has, if there is such a reader.
+    /// The same for the second literal.
     pub second: Option<usize>,
 }
 
-/// The readers as the vertices of a graph. From each reader up to two edges lead to the readers that it reads.
+/// The readers as vertices, with edges to what each reads.
 #[derive(Drop)]
 pub(crate) struct SourceGraph {
-    /// For each reader, the readers that it reads.
     pub sources: Vec<Sources>,
     ghost within: { LinksStayWithin (source_graph sources.items) },
 }
@@ -50,8 +49,7 @@ impl Graph for SourceGraph {
     }
 }
 
-/// The latches and the gates of a circuit, each with the literals from which its value comes: a latch reads its next
-/// literal.
+/// The latches, then the gates, each with the literals from which its value comes: of a latch, the next literal.
 pub(crate) fn readers_of(alloc: Global, circuit: &Circuit) -> Result<Vec<Gate>, AllocError>
     ensures { IfOk result (λ all. all.items ≡ readers circuit.now) }
 {
@@ -61,7 +59,6 @@ pub(crate) fn readers_of(alloc: Global, circuit: &Circuit) -> Result<Vec<Gate>, 
         .collect(alloc)
 }
 
-/// A latch as a reader.
 fn reader_of(latch: Latch) -> Gate
     ensures { result ≡ reader_of latch }
 {
@@ -72,7 +69,7 @@ fn reader_of(latch: Latch) -> Gate
     }
 }
 
-/// The variables of the readers, in the order of the readers.
+/// Their variables, in their order.
 pub(crate) fn variables_of(alloc: Global, readers: &[Gate]) -> Result<Ids, AllocError>
     requires { AllPairs (λ g h. variable g.literal ≢ variable h.literal) readers.now }
     ensures { IfOk result (λ variables. variables ≡ variables_of readers.now) }
@@ -85,7 +82,6 @@ pub(crate) fn variables_of(alloc: Global, readers: &[Gate]) -> Result<Ids, Alloc
     Ok(variables)
 }
 
-/// For each reader, the readers that it reads.
 pub(crate) fn sources_of(
     alloc: Global,
     readers: &[Gate],

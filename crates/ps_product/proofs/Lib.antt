@@ -12,6 +12,7 @@ pub mod TruthNodes
 pub mod WordNumbers
 pub mod VertexNumbers
 pub mod EdgeLemmas
+pub mod NotedLeads
 pub mod ExploringLemmas
 pub mod TimingLemmas
 pub mod FinishedLemmas

@@ -8,5 +8,6 @@ pub mod Knowing
 pub mod Nets
 pub mod Numbers
 pub mod Plans
+pub mod Searches
 pub mod Roles
 pub mod Stored

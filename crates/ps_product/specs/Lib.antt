@@ -6,5 +6,6 @@ pub mod Words
 pub mod Numbers
 pub mod Groups
 pub mod ProductFaults
+pub mod Stems
 pub mod ProductFaultNames
 pub mod Inner

@@ -7,7 +7,7 @@
 //!
 //! | Call | What it gives |
 //! |---|---|
-//! | `Product::build(circuit, automaton, order, role)` | the product, or the first `ProductFault` |
+//! | `Product::build(circuit, automaton, order, role)` | the product, or a way to the sink, or the first `ProductFault` |
 //! | `Product::game`, `inputs(vertex, number)` | the product's game; the inputs that a step to a successor reads |
 //! | `ProductFault::number`, `name` | its number and name in psyn's list of faults |
 //! | `Truths::new(store)`, `proposition`, `both`, `into_store` | makes truths, whose diagrams are added to a store |
@@ -51,7 +51,7 @@ pub use grouping::grouped;
 pub use laws::outcome_is_the_step;
 pub use nodes::{bits_of, nodes_of};
 pub use numbering::{Numbered, Numbering, numbers_of};
-pub use product::{Product, moves_first};
+pub use product::{Built, Product, moves_first};
 pub use roles::{Roles, roles_for};
 pub use truth::{Truth, Truths};
 pub use vertex::Vertex;

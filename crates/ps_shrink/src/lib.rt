@@ -1,11 +1,11 @@
 //! Makes a circuit that wins smaller.
 //!
-//! [`shrunk`] first judges the circuit. If it wins, it runs with random inputs, by a fixed rule, and then latches and
-//! gates that had equal, or opposite, values in all runs become one, up to eight times. After that, small changes are
-//! tried one by one: an output, a latch's next value, a latch or a gate becomes another literal, or a gate over two
-//! literals. A changed circuit takes the last one's place if it wins, has no more latches and no more gates than the
-//! given one, and costs less (a latch counts as two gates) or, late in the search, the same. So it need not compute
-//! what the given circuit computes; it is only as good.
+//! [`shrunk`] first judges the circuit. If it wins, then up to eight times it runs with pseudorandom inputs, and each
+//! latch and gate becomes the first signal with equal, or opposite, values. After that, small changes are tried one by
+//! one: an output, a latch's next value, a latch or a gate becomes another literal, or a gate over two literals. A
+//! changed circuit takes the last one's place if it wins, has no more latches and no more gates than the given one, and
+//! costs less (a latch counts as two gates) or, late in the search, the same. So it need not compute what the given
+//! circuit computes; it is only as good.
 //!
 //! | Call | What it gives |
 //! |---|---|

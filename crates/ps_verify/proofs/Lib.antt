@@ -2,6 +2,10 @@ pub mod WholeRegion
 pub mod TraceWalks
 pub mod Laps
 pub mod PathInputs
+pub mod Unrolled
+pub mod TracesOn
+pub mod WordsOn
+pub mod OneAcceptance
 pub mod Worth
 pub mod Losing
 pub mod ProductJudgements
@@ -9,3 +13,5 @@ pub mod FirstWays
 pub mod PathReadings
 pub mod OneJudgement
 pub mod TurnedCycles
+pub mod PartJudgements
+pub mod SinkStems

@@ -13,8 +13,8 @@ use Rattle.ps_automaton.specs.Acceptance.{IsAccepted}
 use Rattle.ps_automaton.specs.Autos.{Auto, IsAutoOf, greatest_along}
 use Rattle.ps_automaton.specs.Chains.{Chain, chain_of, is_even}
 use Rattle.ps_automaton.proofs.Accepting.{laps_decide}
-use Rattle.ps_circuit.specs.Circuits.{CircuitData}
-use Rattle.ps_circuit.specs.Values.{Moment, GoesOn}
+use Rattle.ps_circuit.specs.Circuits.{CircuitData, IsCircuit}
+use Rattle.ps_circuit.specs.Values.{Moment, GoesOn, HasOneValues}
 use Rattle.ps_game.specs.Games.{IsGame, priority_of}
 use Rattle.ps_game.specs.Plays.{greatest, other_player}
 use Rattle.ps_game.specs.Strategies.{last_vertex}
@@ -135,8 +135,13 @@ module _ (role : Role) {file : FileData} {chain : Chain} {auto : Auto} {c : Circ
     top_is = ap (λ n. n % 2) (lap.greatest_is ∙ greatest_of_round (priority_of p.game) r.cycle r.lost.some)
         ∙ r.lost.lost
 
-    pub losing : (order : Order) → HasSymbols role file.names file.controllable c →
+    is_wrong : IsAccepted file stem.letters lap.letters ↔ (role ≡ Environment)
+    is_wrong =
+        let by = wrong role top top_is in
+        (λ accepted. by.0 (told.1 accepted), λ same. told.0 (by.1 same))
+
+    pub losing : (order : Order) → IsCircuit c → HasOneValues c → HasSymbols role file.names file.controllable c →
         IsInTimeWhereReached order role c → IsLosing order role file c s
     unfolding word
-    losing order symbols in_time = rw (stem.reads, lap.reads) at
-        (refuted order role symbols in_time word (is_even top) told (wrong role top top_is))
+    losing order is_circuit one symbols in_time = rw (stem.reads, lap.reads) at
+        (refuted is_chain is_auto is_circuit one symbols order in_time word is_wrong)

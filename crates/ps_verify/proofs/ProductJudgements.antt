@@ -99,4 +99,4 @@ judgement order role {a} {c} {p} file chain told built names is_circuit one is_g
     which Wins is of_file symbols are_names =
         winning role built.is_chain built.auto of_file is order are_names is_circuit one symbols in_time
     which (Loses stimulus) is of_file symbols are_names =
-        losing role built.is_chain built.auto of_file is_game is order symbols in_time
+        losing role built.is_chain built.auto of_file is_game is order is_circuit one symbols in_time

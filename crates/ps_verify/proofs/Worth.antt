@@ -3,22 +3,22 @@
 --   of an environment, the inputs that the trace reads are a counterexample
 -- - `winning_by`: a controller's circuit wins if all words of its lasso traces are accepted; an environment's circuit
 --   wins if none of them is accepted
-use Rattle.std.proofs.Common.{◌≡◌, ℕ, zero, suc, ◌+◌, ◌*◌, ◌<◌, ◌↔◌, Bool, IsTrue, List, [], ◌∷◌, ◌++◌, length}
-use Rattle.std.proofs.Common.{get_or}
+use Rattle.std.proofs.Common.{◌≡◌, ℕ, zero, suc, ◌<◌, ◌↔◌, Bool, List, [], ◌∷◌, Some, length, get_or}
 use Rattle.std.proofs.Common.{refl, sym, ap, subst, ◌∙◌, arith}
-use Rattle.std.proofs.lemmas.List.{length-map, map-append}
+use Rattle.std.proofs.lemmas.List.{length-map}
 use Rattle.ps_hoa.specs.Files.{FileData}
 use Rattle.ps_hoa.specs.Sound.{AreNames}
 use Rattle.ps_automaton.specs.Acceptance.{IsAccepted}
+use Rattle.ps_automaton.specs.Autos.{Auto, IsAutoOf}
+use Rattle.ps_automaton.specs.Chains.{Chain, chain_of}
 use Rattle.ps_circuit.specs.Circuits.{CircuitData, IsCircuit}
 use Rattle.ps_circuit.specs.Values.{Moment, GoesOn, HasOneValues, bit_of, resets}
 use Rattle.ps_machine.specs.declared.key.Order.{Order}
-use Rattle.ps_simulate.specs.Lassos.{IsVerdictOf, RepeatsLatches}
+use Rattle.ps_simulate.specs.Stimuli.{StimulusData}
 use Rattle.ps_simulate.specs.Symbols.{HasSymbols}
-use Rattle.ps_simulate.specs.declared.lassos.Verdict.{Verdict}
 use Rattle.ps_simulate.specs.declared.role.Role.{Role}
 use Rattle.ps_simulate.specs.declared.role.Role.TheVariants.{Controller, Environment}
-use Rattle.ps_simulate.proofs.LassoLemmas.{AreLetters-append, GoesOn-append, along_more, at_end, length_letters}
+use Rattle.ps_simulate.proofs.LassoLemmas.{few_letters, length_letters}
 use Rattle.ps_traces.specs.Inputs.{inputs_of}
 use Rattle.ps_traces.specs.Shapes.{IsInTimeWhereReached}
 use Rattle.ps_traces.specs.Traces.{IsLassoWord, AllAccepted, NoneAccepted}
@@ -27,6 +27,9 @@ use Rattle.ps_traces.proofs.StepLetters.{has_letters}
 use Rattle.ps_traces.proofs.OneMeeting.{meeting_is_one}
 use Rattle.ps_traces.proofs.Rejected.{meeting_is_rejected}
 use Rattle.ps_verify.specs.Judgements.{IsLosing, IsWinning}
+use Rattle.ps_verify.specs.Stimulated.{IsWordOn}
+use Rattle.ps_verify.proofs.OneAcceptance.{accepted_too}
+use Rattle.ps_verify.proofs.TracesOn.{same_word}
 
 -- ## A word that shows that a circuit loses
 
@@ -39,79 +42,45 @@ inputs_wide c from to (m ∷ ms) (next, at, steps, rest) zero d within =
 inputs_wide c from to (m ∷ ms) (next, at, steps, rest) (suc k) d within =
     inputs_wide c next to ms rest k d (omega arith)
 
-module _ (file : FileData) {c : CircuitData} {stem lap : List ℕ} (word : IsLassoWord file.names c stem lap) where
-  abbrev before : List Moment
-  before = word.stem_moments
+module _ {role : Role} {file : FileData} {chain : Chain} {auto : Auto} {c : CircuitData}
+    (is_chain : chain_of file.condition ≡ Some chain) (is_auto : IsAutoOf file chain auto) (is_circuit : IsCircuit c)
+    (one : HasOneValues c) (symbols : HasSymbols role file.names file.controllable c) where
+  -- of two lasso traces that read one stimulus, both words are accepted, or none
+  accepted_as : {s : StimulusData} {stem lap other_stem other_lap : List ℕ} → IsWordOn file.names c s stem lap →
+      IsWordOn file.names c s other_stem other_lap → IsAccepted file stem lap → IsAccepted file other_stem other_lap
+  accepted_as {stem = stem} {lap = lap} {other_stem = other_stem} {other_lap = other_lap} on other =
+      let a = on.word in
+      let b = other.word in
+      let names = file.names in
+      accepted_too is_chain is_auto stem lap other_stem other_lap
+      (omega (arith, length_letters names c a.lap_moments lap a.lap_letters, a.trace.some))
+      (few_letters names c a.stem_moments stem a.stem_letters) (few_letters names c a.lap_moments lap a.lap_letters)
+      (omega (arith, length_letters names c b.lap_moments other_lap b.lap_letters, b.trace.some))
+      (few_letters names c b.stem_moments other_stem b.stem_letters)
+      (few_letters names c b.lap_moments other_lap b.lap_letters) (same_word is_circuit one symbols on other)
 
-  abbrev behind : List Moment
-  behind = word.lap_moments
-
-  abbrev back : List Bool
-  back = word.trace.back
-
-  many_before : length (inputs_of before) ≡ length before
-  many_before = length-map before (λ (m : Moment). m.inputs)
-
-  many_behind : length (inputs_of behind) ≡ length behind
-  many_behind = length-map behind (λ (m : Moment). m.inputs)
-
-  repeats : RepeatsLatches c (inputs_of before) (inputs_of behind) 0 1 (before ++ behind)
-  repeats = record {
-    has_letter = omega (arith, many_behind, word.trace.some);
-    last = back;
-    goes_on = GoesOn-append c (resets c) back back before behind word.trace.goes_there word.trace.comes_back;
-    reads = map-append (λ (m : Moment). m.inputs) before behind;
-    earlier = omega arith;
-    returns = (let place : length (inputs_of before) + 0 * length (inputs_of behind) ≡ length before =
-        omega (arith, many_before) in
-        rw place (along_more c before behind back back (length before) word.trace.comes_back (omega arith)
-        ∙ at_end before back));
-    first = λ k l less below. absurd (omega arith);
-  }
-
-  module _ (accepted : Bool) (told : IsTrue accepted ↔ IsAccepted file stem lap) where
-    abbrev verdict : Verdict
-    verdict =
-        record { accepted = accepted; stem = length (inputs_of before); lap = length (inputs_of behind) }
-
-    is_verdict : IsVerdictOf file c (inputs_of before) (inputs_of behind) verdict
-    is_verdict =
-        let many = length_letters file.names c before stem word.stem_letters ∙ sym many_before in
-        record {
-          word = record { stem = stem; lap = lap };
-          is_word = record {
-            i = 0;
-            j = 1;
-            trace = before ++ behind;
-            repeats = repeats;
-            are_letters =
-                AreLetters-append file.names c before behind stem lap word.stem_letters word.lap_letters;
-            stem_is = omega (arith, many);
-          };
-          stem_is = sym many;
-          lap_is = many_behind ∙ sym (length_letters file.names c behind lap word.lap_letters);
-          accepted = told;
-        }
-
-pub refuted : (order : Order) (role : Role) {file : FileData} {c : CircuitData} {stem lap : List ℕ} →
-    HasSymbols role file.names file.controllable c → IsInTimeWhereReached order role c →
-    (word : IsLassoWord file.names c stem lap) (accepted : Bool) → (IsTrue accepted ↔ IsAccepted file stem lap) →
-    (IsTrue accepted ↔ (role ≡ Environment)) → IsLosing order role file c
-    (record { stem = inputs_of word.stem_moments; lap = inputs_of word.lap_moments })
-refuted order role {file} {c} symbols in_time word accepted told is_wrong = record {
-  symbols = symbols;
-  in_time = in_time;
-  wide = record {
-    stem_is = inputs_wide c (resets c) word.trace.back word.stem_moments word.trace.goes_there;
-    lap_is = inputs_wide c word.trace.back word.trace.back word.lap_moments word.trace.comes_back;
-  };
-  some = omega (arith, many_behind file word, word.trace.some);
-  verdict = verdict file word accepted told;
-  is_verdict = is_verdict file word accepted told;
-  is_wrong = is_wrong;
-  stem_is = refl;
-  lap_is = refl;
-}
+  pub refuted : (order : Order) {stem lap : List ℕ} → IsInTimeWhereReached order role c →
+      (word : IsLassoWord file.names c stem lap) → (IsAccepted file stem lap ↔ (role ≡ Environment)) →
+      IsLosing order role file c (record { stem = inputs_of word.stem_moments; lap = inputs_of word.lap_moments })
+  refuted order {stem} {lap} in_time word wrong =
+      let here : IsWordOn file.names c
+      (record { stem = inputs_of word.stem_moments; lap = inputs_of word.lap_moments }) stem lap =
+      record { word = word; reads = λ t. refl } in
+      record {
+        symbols = symbols;
+        in_time = in_time;
+        wide = record {
+          stem_is = inputs_wide c (resets c) word.trace.back word.stem_moments word.trace.goes_there;
+          lap_is = inputs_wide c word.trace.back word.trace.back word.lap_moments word.trace.comes_back;
+        };
+        some = omega (arith, length-map word.lap_moments (λ (m : Moment). m.inputs), word.trace.some);
+        word = record { stem = stem; lap = lap };
+        is_word = here;
+        is_wrong = λ other_stem other_lap on. (
+          λ accepted. wrong.0 (accepted_as on here accepted),
+          λ same. accepted_as here on (wrong.1 same),
+        );
+      }
 
 -- ## A circuit that wins
 

@@ -1,2 +1,3 @@
+pub mod Stimulated
 pub mod Judgements
 pub mod Inner

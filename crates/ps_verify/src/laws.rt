@@ -1,14 +1,17 @@
 //! Laws: a circuit wins exactly if no stimulus shows that it loses; the circuit of a winner wins.
 
-ghost use Rattle.std.specs.Prelude.{ℕ};
+ghost use Rattle.std.specs.Prelude.{◌≡◌, ◌↔◌, ℕ, IsTrue};
 ghost use Rattle.ps_hoa.specs.Files.{FileData};
 ghost use Rattle.ps_hoa.specs.Sound.{IsSoundFile};
 ghost use Rattle.ps_automaton.specs.Answers.{IsAdmitted};
 ghost use Rattle.ps_circuit.specs.Circuits.{CircuitData, IsCircuit};
 ghost use Rattle.ps_machine.specs.declared.key.Order.{Order};
+ghost use Rattle.ps_simulate.specs.Lassos.{IsVerdictOf};
 ghost use Rattle.ps_simulate.specs.Stimuli.{StimulusData};
 ghost use Rattle.ps_simulate.specs.Symbols.{HasSymbols};
+ghost use Rattle.ps_simulate.specs.declared.lassos.Verdict.{Verdict};
 ghost use Rattle.ps_simulate.specs.declared.role.Role.{Role};
+ghost use Rattle.ps_simulate.specs.declared.role.Role.TheVariants.{Environment};
 ghost use Rattle.ps_traces.specs.Answers.{IsWitness, role_of};
 ghost use Rattle.ps_traces.specs.Shapes.{IsInTimeWhereReached};
 ghost use Rattle.ps_verify.specs.Judgements.{IsLosing, IsWinning};
@@ -32,6 +35,14 @@ pub fn judgement_is_one()
     automaton_is_there();
     circuit_has_one_values();
 }
+
+/// If a stimulus shows that a circuit loses, the verdict on it says so: the automaton rejects the circuit's trace to
+/// the first recurrence of its latches if the circuit is a controller, and accepts it if it is an environment.
+pub fn losing_verdict_is_wrong()
+    ensures { (order : Order) (role : Role) (file : FileData) (c : CircuitData) (s : StimulusData)
+        (verdict : Verdict) → IsLosing order role file c s → IsVerdictOf file c s.stem s.lap verdict →
+        IsTrue verdict.accepted ↔ (role ≡ Environment) }
+{}
 
 /// A circuit with the properties of a winner's circuit (`IsWitness`) wins in the role of this player. `IsWitness`
 /// states the properties of each circuit that synthesis returns, so such a circuit loses on no stimulus.

@@ -1,6 +1,6 @@
 //! Judges a circuit.
 
-ghost use Rattle.std.specs.Prelude.{◌≡◌, ◌<◌, ℕ, IfErr, IfOk};
+ghost use Rattle.std.specs.Prelude.{◌≡◌, ◌<◌, ◌∷◌, [], ℕ, IfErr, IfOk, false, length, replicate};
 ghost use Rattle.ps_hoa.specs.Files.{FileData};
 ghost use Rattle.ps_hoa.specs.Sound.{AreNames};
 ghost use Rattle.ps_automaton.specs.Automata.{IsBuiltFrom};
@@ -10,6 +10,7 @@ ghost use Rattle.ps_game.specs.Games.{IsGame, owner_of, vertex_count};
 ghost use Rattle.ps_game.specs.Plays.{other_player};
 ghost use Rattle.ps_product.specs.ProductFaults.{IsProductRefusal, asked_of};
 ghost use Rattle.ps_product.specs.Products.{IsLedTo};
+ghost use Rattle.ps_simulate.specs.Stimuli.{letters_of};
 ghost use Rattle.ps_verify.specs.Inner.Readings.{IsToldOf};
 ghost use Rattle.ps_verify.specs.Judgements.{IsJudgement};
 
@@ -18,16 +19,17 @@ use crate::judgement::Judgement;
 use crate::readings::stimulus_of;
 use ps_automaton::Automaton;
 use ps_circuit::Circuit;
+use ps_cone::reduced;
 use ps_game::Player;
 use ps_machine::Order;
-use ps_product::{Product, ProductFault};
-use ps_simulate::{Role, circuit_has_one_values};
+use ps_product::{Built, Product, ProductFault};
+use ps_simulate::{Role, Stimulus, circuit_has_one_values};
 use std::alloc::{AllocError, Global};
 
 /// Decides whether the circuit wins: the automaton accepts each lasso trace of a controller, or no lasso trace of an
 /// environment. If the circuit loses, the result is a counterexample: a stimulus on which the automaton rejects the
-/// controller's trace, or accepts the environment's.
-/// The latch values after the trace's first lap are those before it, so each later lap repeats the first.
+/// controller's trace, or accepts the environment's. Latches and gates on which no output depends are left out first. If
+/// a controller moves second, a step into the automaton's sink ends the search for a counterexample.
 ///
 /// # Errors
 ///
@@ -47,9 +49,40 @@ pub fn verified(
 {
     circuit_has_one_values();
     sound(circuit, automaton);
-    let product = Product::build(alloc, circuit, automaton, order, role)?;
-    let judgement = told(alloc, &product, asked(role))?;
-    Ok(judgement)
+    let part = reduced(alloc, circuit)?;
+    judged(alloc, &part, automaton, order, role)
+}
+
+/// The judgement on a circuit, all of whose latches are in the product.
+fn judged(
+    alloc: Global,
+    circuit: &Circuit,
+    automaton: &Automaton,
+    order: Order,
+    role: Role,
+) -> Result<Judgement, ProductFault>
+    ensures judged { IfOk result (λ judgement. (file : FileData) (chain : Chain) →
+        IsBuiltFrom file chain automaton.now → IsJudgement order role file circuit.now judgement) }
+    ensures refused { IfErr result (IsProductRefusal order role automaton.now circuit.now) }
+{
+    circuit_has_one_values();
+    sound(circuit, automaton);
+    let built = Product::build(alloc, circuit, automaton, order, role)?;
+    match built {
+        Built::Whole(product) => Ok(told(alloc, &product, asked(role))?),
+        Built::Sink(stem) => Ok(Judgement::Loses(lost_by(alloc, circuit, stem)?)),
+    }
+}
+
+/// The stimulus that has the stem, and then one letter for ever: that in which each input is false.
+fn lost_by(alloc: Global, circuit: &Circuit, stem: Vec<Vec<bool>>) -> Result<Stimulus, AllocError>
+    ensures stem { IfOk result (λ stimulus. stimulus.stem ≡ letters_of stem.items) }
+    ensures lap { IfOk result (λ stimulus. stimulus.lap ≡ replicate (length circuit.now.inputs) false ∷ []) }
+{
+    let letter = vec![in alloc; false; circuit.inputs().len()]?;
+    let mut lap = Vec::new(alloc);
+    lap.push(letter)?;
+    Ok(Stimulus { stem, lap })
 }
 
 /// Properties that the types `Circuit` and `Automaton` guarantee.

@@ -1,9 +1,20 @@
-use Rattle.ps_verify.proofs.ProductJudgements.{judgement}
+use Rattle.std.proofs.Common.{subst}
+use Rattle.ps_hoa.specs.Sound.{AreNames}
+use Rattle.ps_product.proofs.GroupLemmas.{ok_map}
+use Rattle.ps_verify.proofs.PartJudgements.{err_map, judged_alike, refused_alike}
 use Rattle.ps_verify.proofs.verifying.verified.Goals as goal
 
 pub returns-clause-judged : goal.returns-clause-judged
-returns-clause-judged c = λ file chain built.
-    judgement c.args.order c.args.role file chain c.in_ok-judgement.judgement built c.sound.ensures.names
-    c.sound.ensures.circuit (c.circuit_has_one_values.ensures c.args.circuit.now c.sound.ensures.circuit)
-    c.told.ensures.is_game c.in_ok-product.ensures.product c.in_ok-product.ensures.symbols
-    c.in_ok-product.ensures.in_time (rw c.asked.ensures at c.in_ok-judgement.ensures.told)
+returns-clause-judged c =
+    let part = c.in_ok-part.ensures.part in
+    let is_circuit = c.sound.ensures.circuit in
+    ok_map _ _ c.judged.result c.judged.ensures.judged (λ judgement told file chain built.
+    judged_alike c.args.order c.args.role file part (subst AreNames built.names c.sound.ensures.names) is_circuit
+    (c.circuit_has_one_values.ensures c.args.circuit.now is_circuit) judgement (told file chain built))
+
+pub returns-clause-refused : goal.returns-clause-refused
+returns-clause-refused c =
+    let part = c.in_ok-part.ensures.part in
+    err_map _ _ c.judged.result c.judged.ensures.refused (λ fault refused.
+    refused_alike part (c.circuit_has_one_values.ensures _ c.sound.ensures.circuit)
+    (c.circuit_has_one_values.ensures _ part.is_circuit) c.args.order c.args.role _ _ fault refused)

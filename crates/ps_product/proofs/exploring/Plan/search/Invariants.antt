@@ -1,7 +1,7 @@
 use Rattle.std.proofs.Common.{◌≡◌, ◌-◌, length}
 use Rattle.ps_product.specs.Inner.Exploring.{IsExplored}
 use Rattle.ps_product.specs.Inner.Plans.{setting_of}
-use Rattle.ps_product.proofs.exploring.Plan.explored.Given as goal
+use Rattle.ps_product.proofs.exploring.Plan.search.Given as goal
 
 abbrev pub invariant-loop-vertex : goal.invariant-loop-vertex
 invariant-loop-vertex l = record {

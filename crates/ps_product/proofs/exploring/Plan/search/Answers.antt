@@ -1,9 +1,9 @@
-use Rattle.std.proofs.Common.{◌≡◌, ℕ, Some, length, ap, subst, arith}
+use Rattle.std.proofs.Common.{◌≡◌, ℕ, Some, ap, arith, length, subst}
 use Rattle.std.specs.List.{slice_get}
 use Rattle.ps_product.specs.Inner.Exploring.{DraftData, IsExplored}
 use Rattle.ps_product.specs.Inner.Plans.{setting_of}
 use Rattle.ps_product.specs.Vertices.{product_vertex}
-use Rattle.ps_product.proofs.exploring.Plan.explored.Goals as goal
+use Rattle.ps_product.proofs.exploring.Plan.search.Goals as goal
 
 pub edges-requires-clause-proper : goal.edges-requires-clause-proper
 edges-requires-clause-proper c =
@@ -13,8 +13,8 @@ edges-requires-clause-proper c =
     subst (λ (d : DraftData). slice_get d.vertices i ≡ Some v) c.draft.view_is c.vertex.ensures in
     c.loop-vertex.invariant.explored.proper i v at
 
-pub returns-clause-explored : goal.returns-clause-explored
-returns-clause-explored c =
+pub returns-clause-whole : goal.returns-clause-whole
+returns-clause-whole c =
     let x = c.loop-vertex.invariant.explored in
     let draft = c.loop-vertex.draft in
     let view = ap (λ (d : DraftData). length d.vertices) c.draft.view_is in
