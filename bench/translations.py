@@ -7,9 +7,11 @@ psyn has no command that only translates, so the script builds the program bench
 program uses copies of the crates, with the libraries that earlier checks built in the crates' folders out/. --program
 names a program that was built before.
 
-Each line has a specification, then the states, edges and bytes of its automaton with the milliseconds. A family ends
-when a specification takes more than SECONDS (10). --peer names another translator, a program that is called as
-`PEER one FILE` and prints `dpa STATES EDGES PRIORITIES time SECONDS`; its figures stand beside. The families are:
+Each line has a specification, then the states, edges and bytes of its automaton, the milliseconds of the translation and
+the MiB of the process. A family ends when a specification takes more than SECONDS (10). --peer names another translator,
+a program that is called as `PEER one FILE` and prints `dpa STATES EDGES PRIORITIES time SECONDS mem MIB`; its figures
+stand beside, and at the end of a family the sums of the states, and of the milliseconds, of what both translated. The
+families are:
     simple     arbiters, whose grants exclude each other
     full       the same, whose grants are given only on request
     master     the same, with a master whose requests are granted at once
@@ -26,6 +28,8 @@ import shutil
 import subprocess
 import sys
 import tempfile
+import threading
+import time
 
 sys.dont_write_bytecode = True
 BENCH = os.path.dirname(os.path.abspath(__file__))
@@ -119,30 +123,64 @@ def text(inputs, outputs, sections):
     return f"INFO {{ SEMANTICS: Mealy TARGET: Mealy }} MAIN {{ {' '.join(lists)} }}"
 
 
-def told(program, given, most):
-    """The figures of the program, or None if it takes too long."""
-    try:
-        answer = subprocess.run([program], input=given.encode(), stdout=subprocess.PIPE, timeout=most, check=True).stdout.decode()
-    except subprocess.TimeoutExpired:
-        return None
+def told(program, path, most):
+    """What the program says of a specification, the states and milliseconds, or None for each; or None if it takes too
+    long."""
+    with open(path, "rb") as given, tempfile.TemporaryFile() as answered:
+        began = time.monotonic()
+        process = subprocess.Popen([program], stdin=given, stdout=answered)
+        watch = threading.Timer(most, process.kill)
+        watch.start()
+        _, status, usage = os.wait4(process.pid, 0)
+        watch.cancel()
+        process.returncode = status
+        if time.monotonic() - began > most:
+            return None
+        answered.seek(0)
+        answer = answered.read().decode()
     took = int(answer.rsplit("\n", 2)[1]) / 1000
     if not answer.startswith("HOA"):
-        return f"none, {took:.1f} ms"
-    states = re.search("States: (\\d+)", answer)[1]
-    return f"{states} states, {answer.count('[')} edges, {len(answer)} bytes, {took:.1f} ms"
+        return f"none, {took:.1f} ms", None, None
+    states = int(re.search("States: (\\d+)", answer)[1])
+    memory = usage.ru_maxrss / 1024
+    return f"{states} states, {answer.count('[')} edges, {len(answer)} bytes, {took:.1f} ms, {memory:.0f} MiB", states, took
 
 
-def told_by(peer, given, folder, most):
-    """The figures of the other translator."""
+def told_by(peer, path, most):
+    """The same of the other translator, which is ended when it has said it."""
+    process = subprocess.Popen([peer, "one", path], stdout=subprocess.PIPE, text=True)
+    watch = threading.Timer(3 * most, process.kill)
+    watch.start()
+    found = None
+    for line in process.stdout:
+        found = re.match(r"dpa (\d+) (\d+) \d+ time ([\d.]+) mem (\d+)", line)
+        if found:
+            break
+    watch.cancel()
+    process.kill()
+    process.wait()
+    if not found:
+        return "; peer: none", None, None
+    took = 1000 * float(found[3])
+    return f"; peer: {found[1]} states, {found[2]} edges, {took:.1f} ms, {found[4]} MiB", int(found[1]), took
+
+
+def measured(program, family, words, folder):
+    """Prints a family's lines."""
+    sums = [0, 0, 0, 0]
     path = os.path.join(folder, "given.tlsf")
-    with open(path, "w", encoding="utf-8") as file:
-        file.write(given)
-    try:
-        answer = subprocess.run([peer, "one", path], stdout=subprocess.PIPE, timeout=3 * most, check=False).stdout.decode()
-    except subprocess.TimeoutExpired:
-        return "; peer: too long"
-    found = re.search(r"dpa (\d+) (\d+) \d+ time ([\d.]+)", answer)
-    return f"; peer: {found[1]} states, {found[2]} edges, {1000 * float(found[3]):.1f} ms" if found else "; peer: none"
+    for n in range(2, 17):
+        with open(path, "w", encoding="utf-8") as file:
+            file.write(text(*family(n)))
+        own = told(program, path, words.most)
+        if own is None:
+            break
+        other = told_by(words.peer, path, words.most) if words.peer else ("", None, None)
+        print(f"{family.__name__}:{n}  {own[0]}{other[0]}", flush=True)
+        if own[1] is not None and other[1] is not None:
+            sums = [before + more for before, more in zip(sums, (own[1], other[1], own[2], other[2]))]
+    if words.peer:
+        print(f"{family.__name__}  {sums[0]} states beside {sums[1]}; {sums[2]:.0f} ms beside {sums[3]:.0f}", flush=True)
 
 
 def main():
@@ -154,13 +192,7 @@ def main():
     with tempfile.TemporaryDirectory() as folder:
         program = words.program or made(folder)
         for family in (simple, full, master, balancer, detector, gr1, lift, delay):
-            for n in range(2, 17):
-                given = text(*family(n))
-                own = told(program, given, words.most)
-                if own is None:
-                    break
-                other = told_by(words.peer, given, folder, words.most) if words.peer else ""
-                print(f"{family.__name__}:{n}  {own}{other}", flush=True)
+            measured(program, family, words, folder)
 
 
 if __name__ == "__main__":

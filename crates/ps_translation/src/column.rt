@@ -36,8 +36,8 @@ impl Column {
         if place >= MOST {
             return Err(Stop::Limit);
         }
-        for _ in self.numbers.len()..place.saturating_add(1) {
-            self.numbers.push(self.unset)?;
+        if place >= self.numbers.len() {
+            self.numbers.resize(place.saturating_add(1), self.unset)?;
         }
         if let Some(entry) = self.numbers.get_mut(place) {
             *entry = number;

@@ -1,13 +1,15 @@
-//! Sums of products for the letters that lead from a state to one end of its row.
+//! Sums of products for sets of letters.
 //!
 //! They are irredundant: no product and no literal can be left out (Morreale, "Recursive Operators for Prime Implicant
 //! and Irredundant Normal Form Determination", 1970; on diagrams, Minato, "Fast Generation of Irredundant
 //! Sum-of-Products Forms from Binary Decision Diagrams", 1992).
 
-use crate::diagrams::{Diagram, Diagrams, FALSE, PROPOSITIONS, REFUSED, TRUE, Test};
+use crate::diagrams::{Diagram, Diagrams, FALSE, PROPOSITIONS, TRUE, Test};
 use crate::stop::Stop;
-use ps_keys::KeyMap;
 use std::alloc::Global;
+
+/// The most products of a sum.
+const PRODUCTS: usize = 1 << 18;
 
 /// A product of literals: the propositions that are to be true, and those that are to be false, one bit for each.
 #[derive(Clone, Copy)]
@@ -23,24 +25,15 @@ struct Range {
     most: Diagram,
 }
 
-/// The sum of products that is true at the letters at which a row has an end.
+/// A sum of products that is true at some letters.
 pub(crate) fn cover(
     alloc: Global,
     diagrams: &mut Diagrams,
-    row: Diagram,
-    ends: &[Diagram],
-    end: Diagram,
+    letters: Diagram,
 ) -> Result<Vec<Product>, Stop> {
-    let mut map = KeyMap::new(alloc);
-    map.put(end as u64, TRUE)?;
-    map.put(REFUSED as u64, FALSE)?;
-    for other in ends {
-        map.put(*other as u64, FALSE)?;
-    }
-    let truth = diagrams.replaced(row, &map)?;
     let range = Range {
-        least: truth,
-        most: truth,
+        least: letters,
+        most: letters,
     };
     let all = Product {
         positive: 0,
@@ -63,6 +56,9 @@ fn add_products(
         return Ok(FALSE);
     }
     if range.most == TRUE {
+        if products.len() >= PRODUCTS {
+            return Err(Stop::Limit);
+        }
         products.push(prefix)?;
         return Ok(TRUE);
     }

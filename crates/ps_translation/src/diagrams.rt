@@ -33,6 +33,9 @@ const LEAF: u32 = u32::MAX;
 /// The number of steps, in nodes made and results kept.
 const STEPS: u32 = 12_000_000;
 
+/// The most nodes of a diagram whose variables are listed.
+const NODES: usize = 65_536;
+
 /// How many variables a way through a diagram may test. Operations go down a diagram by recursion, to this depth.
 pub(crate) const DEPTH: u32 = 1024;
 
@@ -318,6 +321,25 @@ impl Diagrams {
             }
         }
         Ok(ends)
+    }
+
+    /// The variables that a diagram depends on, of the first 64, one bit for each.
+    pub(crate) fn support(&self, diagram: Diagram) -> Result<u64, Stop> {
+        let mut met = KeyList::new(self.alloc);
+        let mut support = 0;
+        met.place_of(diagram as u64)?;
+        for place in 0..NODES {
+            let Some(node) = met.as_slice().get(place) else {
+                return Ok(support);
+            };
+            let node = u32::try_from(*node).unwrap_or(FALSE);
+            if let View::Test(test) = self.view(node) {
+                support |= 1u64.checked_shl(test.variable).unwrap_or(0);
+                met.place_of(test.low as u64)?;
+                met.place_of(test.high as u64)?;
+            }
+        }
+        Err(Stop::Limit)
     }
 
     /// The row in which each end is replaced by the diagram that a map gives it; `REFUSED` stays, as does an end that

@@ -276,6 +276,20 @@ impl Forms {
         self.end_before(form ^ 1, given ^ 1) ^ 1
     }
 
+    /// The formula of a choice: `one` if an atom holds, and otherwise `other`, which is the stronger one if the atom is
+    /// not bounded.
+    pub(crate) fn chosen(&mut self, atom: Form, one: Form, other: Form) -> Result<Form, Stop> {
+        if one == TRUE {
+            return self.either(atom, other);
+        }
+        let with = self.both(atom, one)?;
+        if self.class(atom).is_bounded() {
+            let without = self.both(atom ^ 1, other)?;
+            return self.either(with, without);
+        }
+        self.either(with, other)
+    }
+
     /// Two formulas without the operators `X` that both have around them, and the number of these. A constant has as
     /// many as one likes.
     fn without_nexts(&self, sides: Sides) -> (Sides, u32) {

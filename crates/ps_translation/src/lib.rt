@@ -6,31 +6,45 @@
 //! | `titled(specification, title)` | the same, with a name |
 //!
 //! It is proved that the calls are safe and end, and nothing else: that an automaton is right has to be judged. A
-//! translation that needs too many steps gives none.
+//! translation beyond a budget or a size gives none.
 //!
-//! The formula is simplified (`forms`) and parted where its top is Boolean (`split`), and brought nearer to a normal
-//! form where a part is of no class that has automata (`normal`). Each part has a deterministic automaton (`part`),
-//! whose states are what is owed (`progression`), as diagrams (`diagrams`). Their product (`product`) has a condition
-//! on the marks of all parts, which the alternating cycle decomposition (`cycles`, `components`) makes a parity
-//! condition (`parity`). States that cannot be told apart are joined (`machine`), and labels are written as short sums
-//! of products (`cover`, `text`).
+//! The formula is simplified (`forms`) and parted where its top is Boolean (`split`); a part of a class without
+//! automata is brought nearer to a normal form (`normal`). Each part has a deterministic automaton (`part`), whose
+//! states are what is owed (`progression`), as diagrams (`diagrams`); where there would be too many parts, those with
+//! the same automaton are one (`shapes`). Their product (`product`) has a condition on the marks of all parts, which
+//! the alternating cycle decomposition (`cycles`, with `components`, `loops`, `nested`, `turns`) makes a parity
+//! condition (`parity`). States that cannot be told apart are joined (`quotient`, with `classes`, `sources` and
+//! `renumbering`), and named by what they owe (`owing`, `names`). Labels are written as short sums of products
+//! (`letters`, `cover`, `labels`, `text`).
 #![tactic(auto)]
 
+mod classes;
 mod column;
 mod components;
 mod cover;
 mod cycles;
 mod diagrams;
 mod forms;
+mod labels;
+mod letters;
+mod loops;
 mod machine;
+mod names;
+mod nested;
 mod normal;
+mod owing;
 mod parity;
 mod part;
 mod product;
 mod progression;
+mod quotient;
+mod renumbering;
+mod shapes;
+mod sources;
 mod split;
 mod stop;
 mod text;
 mod translate;
+mod turns;
 
 pub use translate::{titled, translated};

@@ -8,7 +8,7 @@
 //! 2016.)
 
 use crate::diagrams::{DEPTH, Diagram, Diagrams, FALSE, PROPOSITIONS, TRUE, View};
-use crate::forms::{Form, Forms};
+use crate::forms::{self, Form, Forms};
 use crate::stop::{Stop, index};
 use ps_formula::NormalNode;
 use ps_keys::{KeyList, KeyMap};
@@ -42,6 +42,10 @@ pub(crate) struct Progression {
     stepped: KeyMap<u64, Diagram>,
     /// The results of `settled`.
     settled: KeyMap<u64, Diagram>,
+    /// The formulas that `formula` leaves out.
+    standing: KeyList<u64>,
+    /// The results of `formula`.
+    formulas: KeyMap<u64, Form>,
 }
 
 impl Progression {
@@ -58,6 +62,8 @@ impl Progression {
             moments: KeyMap::new(alloc),
             stepped: KeyMap::new(alloc),
             settled: KeyMap::new(alloc),
+            standing: KeyList::new(alloc),
+            formulas: KeyMap::new(alloc),
         })
     }
 
@@ -135,6 +141,44 @@ impl Progression {
             high
         };
         self.settled.put(owed as u64, made)?;
+        Ok(made)
+    }
+
+    /// From now on, `formula` leaves out some atoms.
+    pub(crate) fn leave_out(&mut self, standing: KeyList<u64>) {
+        self.standing = standing;
+        self.formulas = KeyMap::new(self.alloc);
+    }
+
+    /// A formula for what is owed, but for what is left out.
+    pub(crate) fn formula(&mut self, owed: Diagram) -> Result<Form, Stop> {
+        self.formula_at(DEPTH, owed)
+    }
+
+    /// Like `formula`, at a depth. Of an atom that is not bounded, the truth is better than the falsehood.
+    fn formula_at(&mut self, depth: u32, owed: Diagram) -> Result<Form, Stop> {
+        let View::Test(test) = self.diagrams.view(owed) else {
+            return Ok(if owed == TRUE {
+                forms::TRUE
+            } else {
+                forms::FALSE
+            });
+        };
+        if let Some(known) = self.formulas.get(owed as u64) {
+            return Ok(known);
+        }
+        if depth == 0 {
+            return Err(Stop::Limit);
+        }
+        let atom = self.atom(test.variable)?;
+        let high = self.formula_at(depth - 1, test.high)?;
+        let made = if self.standing.find(atom as u64).is_some() {
+            high
+        } else {
+            let low = self.formula_at(depth - 1, test.low)?;
+            self.forms.chosen(atom, high, low)?
+        };
+        self.formulas.put(owed as u64, made)?;
         Ok(made)
     }
 

@@ -8,13 +8,14 @@ use crate::forms::{FALSE, Form, TRUE};
 use crate::normal::normalised;
 use crate::part::{Kind, Part};
 use crate::progression::Progression;
+use crate::shapes::Shapes;
 use crate::stop::{Stop, index};
 use ps_formula::NormalNode;
 use ps_keys::KeyMap;
 use std::alloc::Global;
 
 /// The most parts.
-const PARTS: u32 = 64;
+const PARTS: usize = 64;
 
 /// How deep the Boolean operators at the top of a formula may be nested.
 const NESTING: u32 = 256;
@@ -41,17 +42,28 @@ struct Groups {
 pub(crate) struct Split {
     alloc: Global,
     pub(crate) parts: Vec<Part>,
-    /// The number of the part of each formula that is one.
-    numbers: KeyMap<u64, u32>,
+    /// The diagram of each formula that is a part.
+    known: KeyMap<u64, Diagram>,
+    /// The automata of the parts, if those with the same one are one.
+    shapes: Option<Shapes>,
+    /// Whether what is brought nearer to the normal form is the negation.
+    is_negated: bool,
 }
 
 impl Split {
-    /// No parts.
-    pub(crate) fn new(alloc: Global) -> Self {
+    /// No parts. If `is_negated`, what is brought nearer to the normal form is the negation. If `is_merging`, parts with
+    /// the same automaton will be one.
+    pub(crate) fn new(alloc: Global, is_negated: bool, is_merging: bool) -> Self {
         Split {
             alloc,
             parts: Vec::new(alloc),
-            numbers: KeyMap::new(alloc),
+            known: KeyMap::new(alloc),
+            shapes: if is_merging {
+                Some(Shapes::new(alloc))
+            } else {
+                None
+            },
+            is_negated,
         }
     }
 
@@ -60,15 +72,13 @@ impl Split {
         self.parts
     }
 
-    /// A formula as a diagram, in which the variable i stands for the part i. If `is_negated`, what is brought nearer
-    /// to the normal form is the negation.
+    /// A formula as a diagram, in which the variable i stands for the part i.
     pub(crate) fn function(
         &mut self,
         world: &mut Progression,
         form: Form,
-        is_negated: bool,
     ) -> Result<Diagram, Stop> {
-        self.function_at(NESTING, world, form, is_negated)
+        self.function_at(NESTING, world, form, self.is_negated)
     }
 
     /// Like `function`, at a depth. A formula that stands for its negation is brought nearer to the normal form as this
@@ -92,7 +102,7 @@ impl Split {
             return Err(Stop::Limit);
         }
         if let Some(kind) = kind_of(world, form) {
-            return self.single(world, kind, form);
+            return self.single(world, kind, form, is_negated);
         }
         if is_conjunction(world, form) {
             return self.conjunction(depth - 1, world, form, is_negated);
@@ -132,7 +142,7 @@ impl Split {
         let mut made = if again == TRUE {
             diagrams::TRUE
         } else {
-            self.variable(world, Kind::Rounds, again, goals)?
+            self.variable(world, Kind::Rounds, again, goals, is_negated)?
         };
         for operand in &operands {
             let one = self.function_at(depth, world, *operand, is_negated)?;
@@ -142,13 +152,19 @@ impl Split {
     }
 
     /// The variable of a part that is a single formula.
-    fn single(&mut self, world: &mut Progression, kind: Kind, form: Form) -> Result<Diagram, Stop> {
+    fn single(
+        &mut self,
+        world: &mut Progression,
+        kind: Kind,
+        form: Form,
+        is_negated: bool,
+    ) -> Result<Diagram, Stop> {
         let mut forms = Vec::new(self.alloc);
         forms.push(match (kind, world.forms.again(form)) {
             (Kind::Rounds, Some(goal)) => goal,
             _ => form,
         })?;
-        self.variable(world, kind, form, forms)
+        self.variable(world, kind, form, forms, is_negated)
     }
 
     /// The variable of a part.
@@ -158,18 +174,44 @@ impl Split {
         kind: Kind,
         form: Form,
         forms: Vec<Form>,
+        is_negated: bool,
     ) -> Result<Diagram, Stop> {
-        if let Some(number) = self.numbers.get(form as u64) {
-            return world.diagrams.variable(number);
+        if let Some(known) = self.known.get(form as u64) {
+            return Ok(known);
         }
         let number = index(self.parts.len())?;
-        if number >= PARTS {
+        let made = self.diagram(world, kind, &forms, number)?;
+        self.known.put(form as u64, made)?;
+        if world.diagrams.level(made) == number {
+            self.add(kind, forms, is_negated)?;
+        }
+        Ok(made)
+    }
+
+    /// The diagram of a part that would have a number.
+    fn diagram(
+        &mut self,
+        world: &mut Progression,
+        kind: Kind,
+        forms: &[Form],
+        number: u32,
+    ) -> Result<Diagram, Stop> {
+        let made = world.diagrams.variable(number)?;
+        match &mut self.shapes {
+            Some(shapes) => shapes.diagram(world, kind, forms, made),
+            None => Ok(made),
+        }
+    }
+
+    /// Adds a part.
+    fn add(&mut self, kind: Kind, forms: Vec<Form>, is_negated: bool) -> Result<(), Stop> {
+        if self.parts.len() >= PARTS {
             return Err(Stop::Limit);
         }
-        let part = Part::new(self.alloc, kind, forms)?;
+        let is_negative = is_negated != self.is_negated;
+        let part = Part::new(self.alloc, kind, forms, is_negative)?;
         self.parts.push(part)?;
-        self.numbers.put(form as u64, number)?;
-        world.diagrams.variable(number)
+        Ok(())
     }
 }
 

@@ -1,15 +1,22 @@
 //! Automata as texts in the Hanoi Omega-Automata format, version v1, with `controllable-AP:`.
 
-use crate::cover::{Product, cover};
-use crate::diagrams::{Diagram, Diagrams, PROPOSITIONS};
+use crate::diagrams::{Diagram, Diagrams};
+use crate::labels::Labels;
+use crate::letters::{Letters, Way};
 use crate::machine::Arc;
+use crate::names::Names;
 use crate::parity::Parity;
-use crate::stop::Stop;
+use crate::progression::Progression;
+use crate::stop::{Stop, index};
+use crate::translate::Made;
 use ps_tlsf::{Proposition, Side};
 use std::alloc::Global;
 
 /// The most bytes of a text.
 const BYTES: usize = 16_777_216;
+
+/// The most acceptance sets.
+const SETS: u32 = 64;
 
 /// The most edges of an automaton.
 const EDGES: usize = 1 << 20;
@@ -18,35 +25,39 @@ const EDGES: usize = 1 << 20;
 #[derive(Drop)]
 struct Writer {
     text: Vec<u8>,
-    edges: usize,
+    /// The number of edges.
+    count: usize,
+    letters: Letters,
+    labels: Labels,
 }
 
 /// The text of an automaton.
 pub(crate) fn text(
     alloc: Global,
-    diagrams: &mut Diagrams,
-    parity: &Parity,
+    world: &mut Progression,
+    made: &mut Made,
     propositions: &[Proposition],
     title: Option<&[u8]>,
 ) -> Result<Vec<u8>, Stop> {
     let mut writer = Writer {
         text: Vec::new(alloc),
-        edges: 0,
+        count: 0,
+        letters: Letters::new(alloc),
+        labels: Labels::new(alloc),
     };
-    writer.heading(parity, title)?;
+    writer.heading(&made.parity, title)?;
     writer.propositions(propositions)?;
-    writer.acceptance(parity.most)?;
-    writer.bytes(b"--BODY--\n")?;
-    for (state, row) in parity.machine.rows.iter().enumerate() {
-        writer.state(alloc, diagrams, parity, state, *row)?;
-    }
-    writer.bytes(b"--END--\n")?;
-    let Writer { text, edges } = writer;
-    let _ = edges;
-    Ok(text)
+    writer.body(alloc, world, made, propositions)?;
+    Ok(writer.into_text())
 }
 
 impl Writer {
+    /// The text.
+    fn into_text(self) -> Vec<u8> {
+        let Writer { text, .. } = self;
+        text
+    }
+
     /// Adds bytes.
     fn bytes(&mut self, bytes: &[u8]) -> Result<(), Stop> {
         if self.text.len().saturating_add(bytes.len()) >= BYTES {
@@ -120,6 +131,9 @@ impl Writer {
 
     /// Adds the condition on the least priority, for this greatest one, which has no acceptance set.
     fn acceptance(&mut self, most: u32) -> Result<(), Stop> {
+        if most > SETS {
+            return Err(Stop::Limit);
+        }
         self.bytes(b"acc-name: parity min even ")?;
         self.number(most as usize)?;
         self.bytes(b"\nAcceptance: ")?;
@@ -148,36 +162,55 @@ impl Writer {
         self.bytes(if left > 2 { b"(" } else { b"" })
     }
 
-    /// Adds a state with its edges.
-    fn state(
+    /// Adds the condition and the states.
+    fn body(
         &mut self,
         alloc: Global,
-        diagrams: &mut Diagrams,
-        parity: &Parity,
-        state: usize,
-        row: Diagram,
+        world: &mut Progression,
+        made: &mut Made,
+        propositions: &[Proposition],
     ) -> Result<(), Stop> {
+        self.acceptance(made.parity.most)?;
+        self.bytes(b"--BODY--\n")?;
+        let names = Names::new(alloc, world, &mut made.product)?;
+        for state in 0..made.parity.machine.rows.len() {
+            let state = index(state)?;
+            let origin = made.parity.machine.origin(state);
+            let name = names.name(world, &mut made.product, propositions, origin)?;
+            self.state(state, &name)?;
+            self.edges(&mut world.diagrams, &made.parity, state)?;
+        }
+        self.bytes(b"--END--\n")
+    }
+
+    /// Adds a state with its name.
+    fn state(&mut self, state: u32, name: &[u8]) -> Result<(), Stop> {
         self.bytes(b"State: ")?;
-        self.number(state)?;
-        self.bytes(b"\n")?;
-        let ends = diagrams.ends(row)?;
-        for end in &ends {
-            let arc = parity.machine.arc(diagrams, *end);
-            let products = cover(alloc, diagrams, row, &ends, *end)?;
-            self.edge(&products, arc, parity.most)?;
+        self.number(state as usize)?;
+        self.bytes(b" \"")?;
+        self.bytes(name)?;
+        self.bytes(b"\"\n")
+    }
+
+    /// Adds the edges of a state.
+    fn edges(&mut self, diagrams: &mut Diagrams, parity: &Parity, state: u32) -> Result<(), Stop> {
+        let ways = self.letters.of(diagrams, parity.machine.row(state))?;
+        for way in &ways {
+            self.edge(diagrams, parity, *way)?;
         }
         Ok(())
     }
 
     /// Adds an edge.
-    fn edge(&mut self, products: &[Product], arc: Arc, most: u32) -> Result<(), Stop> {
-        self.edges = self.edges.saturating_add(1);
-        if self.edges > EDGES {
+    fn edge(&mut self, diagrams: &mut Diagrams, parity: &Parity, way: Way) -> Result<(), Stop> {
+        self.count = self.count.saturating_add(1);
+        if self.count > EDGES {
             return Err(Stop::Limit);
         }
-        self.label(products)?;
+        self.label(diagrams, way.letters)?;
+        let arc = parity.machine.arc(diagrams, way.end);
         self.number(arc.target as usize)?;
-        if arc.mark < most as u64 {
+        if arc.mark < parity.most as u64 {
             self.bytes(b" {")?;
             self.number(arc.mark as usize)?;
             self.bytes(b"}")?;
@@ -186,30 +219,15 @@ impl Writer {
     }
 
     /// Adds the label of an edge.
-    fn label(&mut self, products: &[Product]) -> Result<(), Stop> {
-        self.bytes(b"[")?;
-        for (number, product) in products.iter().enumerate() {
-            if number > 0 {
-                self.bytes(b" | ")?;
-            }
-            self.product(*product)?;
+    fn label(&mut self, diagrams: &mut Diagrams, letters: Diagram) -> Result<(), Stop> {
+        let label = self.labels.label(diagrams, letters)?;
+        let length = label.len().saturating_add(3);
+        if self.text.len().saturating_add(length) >= BYTES {
+            return Err(Stop::Limit);
         }
-        self.bytes(b"] ")
-    }
-
-    /// Adds a product.
-    fn product(&mut self, product: Product) -> Result<(), Stop> {
-        let mut is_first = true;
-        for proposition in 0..PROPOSITIONS {
-            let is_positive = product.positive >> proposition & 1 == 1;
-            let is_negative = product.negative >> proposition & 1 == 1;
-            if is_positive || is_negative {
-                self.bytes(if is_first { b"" } else { b"&" })?;
-                self.bytes(if is_negative { b"!" } else { b"" })?;
-                self.number(proposition as usize)?;
-                is_first = false;
-            }
-        }
-        self.bytes(if is_first { b"t" } else { b"" })
+        self.text.extend_from_slice(b"[")?;
+        self.text.extend_from_slice(label)?;
+        self.text.extend_from_slice(b"] ")?;
+        Ok(())
     }
 }

@@ -1,10 +1,12 @@
 //! The translation of a specification.
 
-use crate::diagrams::Diagram;
+use crate::diagrams::{Diagram, Diagrams};
+use crate::machine::Machine;
 use crate::parity::{Parity, with_parity};
-use crate::part::Kind;
-use crate::product::product_of;
+use crate::part::{Kind, Part};
+use crate::product::{Product, product_of};
 use crate::progression::Progression;
+use crate::quotient::quotient;
 use crate::split::Split;
 use crate::stop::Stop;
 use crate::text::text;
@@ -35,27 +37,35 @@ pub fn titled(
     }
 }
 
-/// Like `titled`. If no automaton is found by way of the normal form of the formula, that of its negation is tried.
+/// Like `titled`. If no automaton is found by way of the normal form of the formula, there are other ways.
 fn automaton(
     alloc: Global,
     specification: &Specification,
     title: Option<&[u8]>,
 ) -> Result<Vec<u8>, Stop> {
     let mut world = Progression::new(alloc)?;
-    match written(alloc, &mut world, specification, title, false) {
+    let split = Split::new(alloc, false, false);
+    match written(alloc, &mut world, specification, title, split) {
         Err(Stop::Limit) if world.is_normalised => again(alloc, specification, title),
         result => result,
     }
 }
 
-/// Like `automaton`, by the normal form of the negation.
+/// Like `automaton`, by way of the normal form of the negation, or with parts that are merged, or both.
 fn again(
     alloc: Global,
     specification: &Specification,
     title: Option<&[u8]>,
 ) -> Result<Vec<u8>, Stop> {
-    let mut world = Progression::new(alloc)?;
-    written(alloc, &mut world, specification, title, true)
+    for (is_negated, is_merging) in [(true, false), (false, true), (true, true)] {
+        let mut world = Progression::new(alloc)?;
+        let split = Split::new(alloc, is_negated, is_merging);
+        match written(alloc, &mut world, specification, title, split) {
+            Err(Stop::Limit) => {}
+            result => return result,
+        }
+    }
+    Err(Stop::Limit)
 }
 
 /// The text of the automaton of a specification.
@@ -64,16 +74,10 @@ fn written(
     world: &mut Progression,
     specification: &Specification,
     title: Option<&[u8]>,
-    is_negated: bool,
+    split: Split,
 ) -> Result<Vec<u8>, Stop> {
-    let parity = translation(alloc, world, specification, is_negated)?;
-    text(
-        alloc,
-        &mut world.diagrams,
-        &parity,
-        &specification.propositions,
-        title,
-    )
+    let mut made = translation(alloc, world, specification, split)?;
+    text(alloc, world, &mut made, &specification.propositions, title)
 }
 
 /// The automaton of a specification.
@@ -81,38 +85,53 @@ fn translation(
     alloc: Global,
     world: &mut Progression,
     specification: &Specification,
-    is_negated: bool,
-) -> Result<Parity, Stop> {
+    split: Split,
+) -> Result<Made, Stop> {
     let nodes = specification.table.as_slice();
     let form = world.forms.of_table(nodes, specification.root)?;
-    let mut split = Split::new(alloc);
-    let condition = split.function(world, form, is_negated)?;
-    let safeties = safeties(&split);
-    made(alloc, world, split, condition, safeties)
+    let mut split = split;
+    let condition = split.function(world, form)?;
+    of_parts(alloc, world, split.into_parts(), condition)
+}
+
+/// An automaton, with the product that it was made from.
+#[derive(Drop)]
+pub(crate) struct Made {
+    pub(crate) parity: Parity,
+    pub(crate) product: Product,
 }
 
 /// The automaton of parts, for a condition.
-fn made(
+pub(crate) fn of_parts(
     alloc: Global,
     world: &mut Progression,
-    split: Split,
+    parts: Vec<Part>,
     condition: Diagram,
+) -> Result<Made, Stop> {
+    let safeties = safeties(&parts);
+    let product = product_of(alloc, world, parts, condition)?;
+    let parity = parity_of(alloc, &mut world.diagrams, &product.machine, safeties)?;
+    Ok(Made { parity, product })
+}
+
+/// The automaton with a parity condition of an automaton with a condition on marks; both are as small as they get.
+fn parity_of(
+    alloc: Global,
+    diagrams: &mut Diagrams,
+    machine: &Machine,
     safeties: u64,
 ) -> Result<Parity, Stop> {
-    let machine = product_of(alloc, world, split.into_parts(), condition)?;
-    let machine = machine.quotient(&mut world.diagrams)?;
-    let parity = with_parity(alloc, &mut world.diagrams, &machine, safeties)?;
-    let machine = parity.machine.quotient(&mut world.diagrams)?;
-    Ok(Parity {
-        machine,
-        most: parity.most,
-    })
+    let machine = quotient(alloc, diagrams, machine)?;
+    let parity = with_parity(alloc, diagrams, &machine, safeties)?;
+    let machine = quotient(alloc, diagrams, &parity.machine)?;
+    let most = parity.most;
+    Ok(Parity { machine, most })
 }
 
 /// The parts that are safeties, one bit for each.
-fn safeties(split: &Split) -> u64 {
+fn safeties(parts: &[Part]) -> u64 {
     let mut safeties = 0;
-    for (number, part) in split.parts.iter().enumerate() {
+    for (number, part) in parts.iter().enumerate() {
         if number < 64 && part.kind == Kind::Safety {
             safeties |= 1u64 << number;
         }

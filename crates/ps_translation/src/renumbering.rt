@@ -1,0 +1,82 @@
+//! Rows of states whose targets get new numbers.
+
+use crate::column::Column;
+use crate::diagrams::{Diagram, Diagrams, PROPOSITIONS, REFUSED, Test, View};
+use crate::machine::{Arc, Machine};
+use crate::stop::Stop;
+use ps_keys::KeyMap;
+use std::alloc::Global;
+
+/// The nodes that were met, with what they become.
+#[derive(Drop)]
+pub(crate) struct Renumbering {
+    known: KeyMap<u64, Diagram>,
+}
+
+impl Renumbering {
+    /// Of no nodes.
+    pub(crate) fn new(alloc: Global) -> Self {
+        Renumbering {
+            known: KeyMap::new(alloc),
+        }
+    }
+
+    /// The row of a state of an automaton, in which each arc leads to the number of its target, as an arc of another
+    /// automaton. Numbers and automata are the same in all calls.
+    pub(crate) fn row(
+        &mut self,
+        diagrams: &mut Diagrams,
+        machine: &Machine,
+        numbers: &Column,
+        made: &mut Machine,
+        state: u32,
+    ) -> Result<Diagram, Stop> {
+        diagrams.step()?;
+        self.node(
+            PROPOSITIONS,
+            diagrams,
+            machine,
+            numbers,
+            made,
+            machine.row(state),
+        )
+    }
+
+    /// What a node becomes, at a depth.
+    fn node(
+        &mut self,
+        depth: u32,
+        diagrams: &mut Diagrams,
+        machine: &Machine,
+        numbers: &Column,
+        made: &mut Machine,
+        node: Diagram,
+    ) -> Result<Diagram, Stop> {
+        if node == REFUSED {
+            return Ok(REFUSED);
+        }
+        if let Some(known) = self.known.get(node as u64) {
+            return Ok(known);
+        }
+        let row = match diagrams.view(node) {
+            View::Test(test) if test.variable < PROPOSITIONS && depth > 0 => {
+                let low = self.node(depth - 1, diagrams, machine, numbers, made, test.low)?;
+                let high = self.node(depth - 1, diagrams, machine, numbers, made, test.high)?;
+                let variable = test.variable;
+                diagrams.test(Test {
+                    variable,
+                    low,
+                    high,
+                })?
+            }
+            _ => {
+                let arc = machine.arc(diagrams, node);
+                let target = numbers.get(arc.target);
+                let mark = arc.mark;
+                made.leaf(diagrams, Arc { target, mark })?
+            }
+        };
+        self.known.put(node as u64, row)?;
+        Ok(row)
+    }
+}
