@@ -25,7 +25,7 @@ use Rattle.ps_models.proofs.WordSteps.{begins_with, entries_from, entry_at, leng
 use Rattle.ps_models.proofs.WordSteps.{some_letter, steps_at}
 
 -- an until that is postponed holds at the next index, so its end comes, and there it is not postponed
-not_postponed : (w : ℕ → ℕ) (run : ℕ → Cover) → IsDecidedWord w → ((i : ℕ) → Fits (run i) w i) →
+pub not_postponed : (w : ℕ → ℕ) (run : ℕ → Cover) → IsDecidedWord w → ((i : ℕ) → Fits (run i) w i) →
     (f : NormalFormula) (i : ℕ) → (j : ℕ) × (i ≤ j) × ¬ Contains (run j).postponed f
 not_postponed w run decided fits (reaches f g) i = elim (decided.each (plain (reaches f g)) (i + 1)) [
   | inl holds ↦ (

@@ -17,3 +17,17 @@ pub mod GraphMade
 pub mod AppendLemmas
 pub mod AddLemmas
 pub mod JudgingLemmas
+pub mod Rotations
+pub mod JointWalks
+pub mod JointLassos
+pub mod JointCycles
+pub mod JointRows
+pub mod JointDrafts
+pub mod JointAdds
+pub mod JointMade
+pub mod AlphabetLemmas
+pub mod NameReadings
+pub mod Halves
+pub mod JointReadings
+pub mod AgreementLemmas
+pub mod PartSentences

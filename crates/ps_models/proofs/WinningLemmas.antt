@@ -28,7 +28,7 @@ use Rattle.ps_models.specs.Products.{HasFairLasso, IsTableauFor, opposed, start_
 use Rattle.ps_models.proofs.HavingLassos.{has_fair_lasso}
 use Rattle.ps_models.proofs.HavingCycles.{has_fair_cycle}
 use Rattle.ps_models.proofs.WordSteps.{some_letter}
-use Rattle.ps_models.proofs.Refuting.{losing_by, word_of}
+use Rattle.ps_models.proofs.Refuting.{losing_by, losing_word}
 
 pub wrong_by : (role : Role) (f : NamedFormula) (stem lap : List ℕ) →
     Satisfies (opposed role f.formula) (lasso_word stem lap) 0 → IsSatisfied f stem lap ↔ (role ≡ Environment)
@@ -86,14 +86,14 @@ meeting_is_violated order f c k distinct one symbols in_time is none =
       });
     }
 
-pub winning_by : (order : Order) (role : Role) (f : NamedFormula) (c : CircuitData) → AreDistinct f.names →
+pub winning_as : (order : Order) (role : Role) (f : NamedFormula) (c : CircuitData) → AreDistinct f.names →
     IsCircuit c → HasOneValues c → HasSymbols role f.names f.controllable c → IsInTimeWhereReached order role c →
-    NoneOpposed role f c → IsWinningFor order role f c
-winning_by order role f c distinct is_circuit one symbols in_time none = record {
+    (role ≡ Controller → AllSatisfied f c) → (role ≡ Environment → NoneSatisfied f c) → IsWinningFor order role f c
+winning_as order role f c distinct is_circuit one symbols in_time all none = record {
   symbols = symbols;
   in_time = in_time;
-  satisfied = all_satisfied role f c none;
-  violated = none_satisfied role f c none;
+  satisfied = all;
+  violated = none;
   goes_on = each_goes_on c one;
   letters = λ moments. letters_there distinct symbols moments;
   meetings = λ same k controller.
@@ -101,17 +101,23 @@ winning_by order role f c distinct is_circuit one symbols in_time none = record 
       let in_time_there = subst (λ (r : Role). IsInTimeWhereReached order r c) same in_time in
       record {
         one = λ count. meeting_is_one order c k count is_circuit one in_time_there controller;
-        violated = meeting_is_violated order f c k distinct one symbols_there in_time_there controller
-            (none_satisfied role f c none same);
+        violated = meeting_is_violated order f c k distinct one symbols_there in_time_there controller (none same);
       });
 }
+
+pub winning_by : (order : Order) (role : Role) (f : NamedFormula) (c : CircuitData) → AreDistinct f.names →
+    IsCircuit c → HasOneValues c → HasSymbols role f.names f.controllable c → IsInTimeWhereReached order role c →
+    NoneOpposed role f c → IsWinningFor order role f c
+winning_by order role f c distinct is_circuit one symbols in_time none =
+    winning_as order role f c distinct is_circuit one symbols in_time (all_satisfied role f c none)
+    (none_satisfied role f c none)
 
 pub wins_unrefuted : (order : Order) (role : Role) (f : NamedFormula) (c : CircuitData) → AreDistinct f.names →
     IsCircuit c → HasOneValues c → HasSymbols role f.names f.controllable c → IsInTimeWhereReached order role c →
     ((s : StimulusData) → IsLosingFor order role f c s → ⊥) → IsWinningFor order role f c
 wins_unrefuted order role f c distinct is_circuit one symbols in_time none =
     winning_by order role f c distinct is_circuit one symbols in_time (λ stem lap word opposed.
-    none _ (losing_by order role symbols in_time word (wrong_by role f stem lap opposed)))
+    none _ (losing_by f is_circuit one symbols order in_time word (wrong_by role f stem lap opposed)))
 
 pub wins_without_lasso : (order : Order) (role : Role) (f : NamedFormula) (c : CircuitData) (t : Tableau) (state : ℕ) →
     AreDistinct f.names → IsCircuit c → HasOneValues c → HasSymbols role f.names f.controllable c →
@@ -128,8 +134,8 @@ pub lasso_of_losing : (order : Order) (role : Role) (f : NamedFormula) (c : Circ
 lasso_of_losing order role f c s t state loses tableau is_for =
     let stem = loses.word.stem in
     let lap = loses.word.lap in
-    has_fair_lasso f.names c t state (opposed role f.formula) stem lap tableau is_for (word_of loses)
-    (opposed_by role f stem lap loses.is_wrong)
+    has_fair_lasso f.names c t state (opposed role f.formula) stem lap tableau is_for loses.is_word.word
+    (opposed_by role f stem lap (losing_word loses))
 
 pub wins_without_cycle : (order : Order) (role : Role) (f : NamedFormula) (c : CircuitData) (t : Tableau) (state : ℕ)
     (p : ProductGraph) → AreDistinct f.names → IsCircuit c → HasOneValues c →

@@ -8,3 +8,8 @@ pub mod Exploring
 pub mod Plans
 pub mod Readings
 pub mod Judging
+pub mod Joints
+pub mod JointGraphs
+pub mod Alphabets
+pub mod Joining
+pub mod Comparing

@@ -2,8 +2,8 @@
 -- definitions have the form of those that judge a circuit by an automaton (`IsWinning` and `IsLosing` of `ps_verify`).
 -- - `IsWinningFor order role f c`: all lasso traces of a controller's circuit satisfy the formula, or none of the lasso
 --   traces of an environment's circuit does
--- - `IsLosingFor order role f c s`: the trace of a controller's circuit on the stimulus s violates the formula, or the
---   trace of an environment's circuit on s satisfies it
+-- - `IsLosingFor order role f c s`: the lasso traces of a controller's circuit on the stimulus s violate the formula,
+--   or those of an environment's circuit on s satisfy it
 -- - `IsJudgementFor order role f c judgement`: the judgement is right: the circuit wins, or the judgement's stimulus is
 --   a counterexample
 use Rattle.std.specs.Prelude.{◌≡◌, ◌<◌, ◌↔◌, ℕ, List, length}
@@ -14,7 +14,7 @@ use Rattle.ps_circuit.specs.Circuits.{CircuitData}
 use Rattle.ps_circuit.specs.Values.{Moment}
 use Rattle.ps_machine.specs.declared.key.Order.{Order}
 use Rattle.ps_simulate.specs.LassoFaults.{AreWide}
-use Rattle.ps_simulate.specs.Lassos.{AreLetters, IsWordOf}
+use Rattle.ps_simulate.specs.Lassos.{AreLetters}
 use Rattle.ps_simulate.specs.Stimuli.{StimulusData}
 use Rattle.ps_simulate.specs.Symbols.{HasSymbols}
 use Rattle.ps_simulate.specs.Words.{TraceWordData}
@@ -24,6 +24,7 @@ use Rattle.ps_traces.specs.Inputs.{EachInputGoesOn, HasLetters}
 use Rattle.ps_traces.specs.Meetings.{FiniteController, IsController, IsOneMeeting, MeetsInLasso}
 use Rattle.ps_traces.specs.Shapes.{IsInTimeWhereReached}
 use Rattle.ps_traces.specs.Traces.{IsLassoWord}
+use Rattle.ps_verify.specs.Stimulated.{IsWordOn}
 use Rattle.ps_verify.specs.declared.judgement.Judgement.{Judgement}
 use Rattle.ps_verify.specs.declared.judgement.Judgement.TheVariants.{Wins, Loses}
 
@@ -79,9 +80,8 @@ pub record IsWinningFor (order : Order) (role : Role) (f : NamedFormula) (c : Ci
   pub letters : (moments : List Moment) → HasLetters f.names c moments
   pub meetings : role ≡ Environment → (k : FiniteController) → IsController order c k → LosesMeetingFor f c k
 
--- The stimulus is a counterexample: on it, the trace of a controller's circuit violates the formula, or that of an
--- environment's circuit satisfies it. The latch values after the first lap are those before it, so each later lap
--- repeats the first.
+-- The stimulus is a counterexample. Some lasso trace of the circuit reads the stimulus. The word of each such trace
+-- violates the formula, if the circuit is a controller, and satisfies it, if the circuit is an environment.
 pub record IsLosingFor (order : Order) (role : Role) (f : NamedFormula) (c : CircuitData) (s : StimulusData) :
     Type 0 where
   pub symbols : HasSymbols role f.names f.controllable c
@@ -89,10 +89,9 @@ pub record IsLosingFor (order : Order) (role : Role) (f : NamedFormula) (c : Cir
   pub wide : AreWide c s.stem s.lap
   pub some : 0 < length s.lap
   pub word : TraceWordData
-  pub is_word : IsWordOf f.names c s.stem s.lap word
-  pub is_wrong : IsSatisfied f word.stem word.lap ↔ (role ≡ Environment)
-  pub stem_is : length word.stem ≡ length s.stem
-  pub lap_is : length word.lap ≡ length s.lap
+  pub is_word : IsWordOn f.names c s word.stem word.lap
+  pub is_wrong : (stem lap : List ℕ) → IsWordOn f.names c s stem lap →
+      IsSatisfied f stem lap ↔ (role ≡ Environment)
 
 abbrev pub IsJudgementFor : Order → Role → NamedFormula → CircuitData → Judgement → Type 0
 IsJudgementFor order role f c Wins = IsWinningFor order role f c

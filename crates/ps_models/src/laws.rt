@@ -26,7 +26,7 @@ ghost use Rattle.ps_models.specs.ProductGraphs.{IsProductGraph, ProductGraph, ed
 ghost use Rattle.ps_models.specs.Products.{ModelEdge, HasFairLasso, IsFairLasso, IsTableauFor, edge_letters, opposed};
 ghost use Rattle.ps_models.specs.Products.{start_vertex, stimulus_of};
 
-use ps_simulate::{circuit_has_one_values, word_is_one};
+use ps_simulate::circuit_has_one_values;
 
 /// A circuit either wins or loses, but not both. If a circuit wins, no stimulus shows that it loses. If no stimulus
 /// shows that a circuit loses, the circuit wins, provided that its inputs and outputs are those of its role. If the
@@ -41,15 +41,13 @@ pub fn judgement_is_one()
     circuit_has_one_values();
 }
 
-/// On a stimulus on which a circuit loses, each word of the circuit violates the formula if the circuit is a controller,
-/// and satisfies it if the circuit is an environment.
+/// On a stimulus on which a circuit loses, the word to the first recurrence of the latches violates the formula if the
+/// circuit is a controller, and satisfies it if the circuit is an environment.
 pub fn losing_word_is_wrong()
     ensures { (order : Order) (role : Role) (f : NamedFormula) (c : CircuitData) (s : StimulusData)
-        (word : TraceWordData) → IsCircuit c → IsLosingFor order role f c s → IsWordOf f.names c s.stem s.lap word →
+        (word : TraceWordData) → IsLosingFor order role f c s → IsWordOf f.names c s.stem s.lap word →
         IsSatisfied f word.stem word.lap ↔ (role ≡ Environment) }
-{
-    word_is_one();
-}
+{}
 
 /// States of a board with their edges are a tableau, in which a cover's next obligations need not be those of a state.
 /// It is the tableau of the board's formula, from the first state on, if the first state is the board's initial set.
@@ -83,8 +81,9 @@ pub fn satisfied_has_fair_lasso()
 /// circuit reads along a fair lasso is a stimulus on which it loses.
 pub fn fair_lasso_decides()
     ensures loses { (order : Order) (role : Role) (f : NamedFormula) (c : CircuitData) (t : Tableau) (state : ℕ)
-        (stem lap : List ModelEdge) → HasSymbols role f.names f.controllable c → IsInTimeWhereReached order role c →
-        IsTableauFor t state (opposed role f.formula) → IsFairLasso f.names c t (start_vertex c state) stem lap →
+        (stem lap : List ModelEdge) → IsCircuit c → HasSymbols role f.names f.controllable c →
+        IsInTimeWhereReached order role c → IsTableauFor t state (opposed role f.formula) →
+        IsFairLasso f.names c t (start_vertex c state) stem lap →
         IsLosingFor order role f c (stimulus_of stem lap) }
     ensures found { (order : Order) (role : Role) (f : NamedFormula) (c : CircuitData) (s : StimulusData) (t : Tableau)
         (state : ℕ) → IsLosingFor order role f c s → IsTableau t → IsTableauFor t state (opposed role f.formula) →
@@ -101,7 +100,7 @@ pub fn fair_lasso_decides()
 /// circuit loses. The circuit wins if the graph has no fair cycle.
 pub fn fair_cycle_decides()
     ensures loses { (order : Order) (role : Role) (f : NamedFormula) (c : CircuitData) (t : Tableau) (state : ℕ)
-        (p : ProductGraph) (stem lap : List Edge) → HasSymbols role f.names f.controllable c →
+        (p : ProductGraph) (stem lap : List Edge) → IsCircuit c → HasSymbols role f.names f.controllable c →
         IsInTimeWhereReached order role c → IsTableauFor t state (opposed role f.formula) →
         IsProductGraph f.names c t (start_vertex c state) p → (cycle : IsFairCycle p.graph p.marks lap) →
         Leads p.graph stem 0 cycle.start →

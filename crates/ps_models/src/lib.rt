@@ -2,12 +2,20 @@
 //! an environment does; if not, gives a counterexample.
 //!
 //! A controller's circuit wins if all its lasso traces satisfy the formula, and an environment's circuit wins if none
-//! does. The product of the circuit and the tableau of the formula that a counterexample satisfies has a fair lasso
-//! exactly if the circuit loses: a walk to a closed walk on which each until is somewhere not postponed.
+//! does. The circuit's product with the tableau of the formula (for a controller, of its negation) has a fair lasso (a
+//! walk to a closed walk on which no until is always postponed) exactly if the circuit loses.
+//!
+//! An automaton and a formula agree if the automaton accepts exactly the lassos that satisfy the formula. Two products
+//! with the automaton decide that. In the product with the tableau of the negated formula, a fair lasso whose greatest
+//! repeated priority is even is accepted although it violates the formula. In the product with the tableau of the
+//! formula, a fair lasso whose greatest repeated priority is odd is rejected although it satisfies the formula. A fair
+//! lasso for the priority d is sought among the edges of priorities up to d. Those of the priority d bear a further
+//! mark.
 //!
 //! | Call | What it gives |
 //! |---|---|
 //! | `satisfied(circuit, sentence, order, role)` | a `Judgement`: the circuit wins, or a stimulus on which it loses |
+//! | `agreed(automaton, sentence)` | an `Agreement`: they agree on each lasso, or a lasso on which they differ |
 //! | `laws::judgement_is_one` | a law: a circuit wins exactly if no stimulus shows that it loses |
 //! | `laws::losing_word_is_wrong` | a law: on a stimulus on which a circuit loses, each word of the circuit is wrong |
 //! | `laws::states_are_a_tableau` | a law: the sets of a board that were reached, with their edges, are a tableau |
@@ -15,10 +23,18 @@
 //! | `laws::satisfied_has_fair_lasso` | a law: a lasso trace whose word satisfies the formula gives a fair lasso |
 //! | `laws::fair_lasso_decides` | a law: a circuit loses on the inputs along a fair lasso, and wins if there is none |
 //! | `laws::fair_cycle_decides` | a law: the same by fair cycles of a graph that is the product |
+//! | `agreement_laws::agreement_is_one` | a law: an automaton and a formula agree exactly if no lasso tells them apart |
+//! | `agreement_laws::letters_are_read` | a law: an automaton reads each letter of a formula in exactly one way |
 #![tactic(auto)]
 
+mod agreeing;
+mod agreement;
+pub mod agreement_laws;
+mod alphabet;
 mod exploring;
 mod graph;
+mod joining;
+mod joint;
 pub mod laws;
 mod plan;
 mod readings;
@@ -28,5 +44,7 @@ mod states;
 mod steps;
 mod views;
 
+pub use agreeing::agreed;
+pub use agreement::{Agreement, AgreementFault, Lasso};
 pub use satisfying::satisfied;
 pub use sentence::Sentence;

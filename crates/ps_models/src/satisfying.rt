@@ -23,10 +23,11 @@ use crate::readings::stimulus_along;
 use crate::sentence::Sentence;
 use ps_circuit::Circuit;
 use ps_components::Graph;
+use ps_cone::reduced;
 use ps_fairness::{Edge, fair_cycle, walk_to};
 use ps_machine::Order;
 use ps_product::{ProductFault, Roles, roles_for};
-use ps_simulate::{Role, Stimulus};
+use ps_simulate::{Role, Stimulus, circuit_has_one_values};
 use ps_tableau::Tableau;
 use ps_timing::in_time;
 use ps_verify::Judgement;
@@ -34,8 +35,8 @@ use std::alloc::{AllocError, Global};
 
 /// Decides whether the circuit wins: each lasso trace of a controller satisfies the formula, or no lasso trace of an
 /// environment does. If the circuit loses, the result is a counterexample: a stimulus on which the controller's trace
-/// violates the formula, or the environment's trace satisfies it.
-/// The latch values after the trace's first lap are those before it, so each later lap repeats the first.
+/// violates the formula, or the environment's trace satisfies it. Latches and gates on which no output depends are left
+/// out first.
 ///
 /// # Errors
 ///
@@ -43,6 +44,27 @@ use std::alloc::{AllocError, Global};
 /// propositions. Fails with [`ProductFault::Timing`] if these names are right and the circuit's player moves first, but
 /// some output depends on an input, at some latch values that a trace reaches. Fails also if memory runs out.
 pub fn satisfied(
+    alloc: Global,
+    circuit: &Circuit,
+    sentence: Sentence,
+    order: Order,
+    role: Role,
+) -> Result<Judgement, ProductFault>
+    requires few { length sentence.names.now ≤ 64 }
+    requires distinct { AreDistinct (map bytes_of sentence.names.now) }
+    requires root { sentence.root < length sentence.formulas.now }
+    ensures judged { IfOk result (IsJudgementFor order role (named_formula sentence.entry) circuit.now) }
+    ensures refused { IfErr result (IsRefusalFor order role (map bytes_of sentence.entry.names.now)
+        sentence.entry.controllable.now circuit.now) }
+{
+    circuit_has_one_values();
+    let _ = circuit.latches();
+    let part = reduced(alloc, circuit)?;
+    satisfied_by_all(alloc, &part, sentence, order, role)
+}
+
+/// The judgement on a circuit, all of whose latches are in the product.
+fn satisfied_by_all(
     alloc: Global,
     circuit: &Circuit,
     sentence: Sentence,

@@ -6,9 +6,9 @@ use Rattle.ps_models.proofs.laws.fair_cycle_decides.Goals as goal
 
 pub returns : goal.returns
 returns c = record {
-  loses = λ order role f circuit t state p stem lap symbols in_time is_for is_graph cycle leads.
-      c.fair_lasso_decides.ensures.loses order role f circuit t state (edges_in p stem) (edges_in p lap) symbols
-      in_time is_for
+  loses = λ order role f circuit t state p stem lap is_circuit symbols in_time is_for is_graph cycle leads.
+      c.fair_lasso_decides.ensures.loses order role f circuit t state (edges_in p stem) (edges_in p lap) is_circuit
+      symbols in_time is_for
       (lasso_of_cycle f.names circuit t (start_vertex circuit state) p is_graph stem lap cycle leads);
   wins = λ order role f circuit t state p distinct is_circuit symbols in_time is_for is_graph none.
       wins_without_cycle order role f circuit t state p distinct is_circuit

@@ -6,8 +6,9 @@ use Rattle.ps_models.proofs.laws.fair_lasso_decides.Goals as goal
 
 pub returns : goal.returns
 returns c = record {
-  loses = λ order role f circuit t state stem lap symbols in_time is_for fair.
-      losing_by order role symbols in_time (word_of f.names circuit t state stem lap fair)
+  loses = λ order role f circuit t state stem lap is_circuit symbols in_time is_for fair.
+      losing_by f is_circuit (c.circuit_has_one_values.ensures circuit is_circuit) symbols order in_time
+      (word_of f.names circuit t state stem lap fair)
       (wrong_by role f (edge_letters stem) (edge_letters lap)
       (satisfied f.names circuit t state stem lap fair (opposed role f.formula) is_for));
   found = lasso_of_losing;

@@ -18,4 +18,4 @@ returns c = ok_map _ _ c.told.result c.told.ensures (λ judgement told order in_
     (λ none. c.fair_cycle_decides.ensures.wins order role f circuit m.tableau_is 0 (product_of f role m)
     c.requires.distinct is c.requires.symbols in_time m.is_for m.is_product none)
     (λ stem lap cycle leads. c.fair_cycle_decides.ensures.loses order role f circuit m.tableau_is 0
-    (product_of f role m) stem lap c.requires.symbols in_time m.is_for m.is_product cycle leads) judgement told)
+    (product_of f role m) stem lap is c.requires.symbols in_time m.is_for m.is_product cycle leads) judgement told)

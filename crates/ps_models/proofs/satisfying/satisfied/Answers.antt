@@ -1,9 +1,20 @@
-use Rattle.ps_timing.proofs.FewInputs.{few_inputs}
+use Rattle.ps_product.proofs.GroupLemmas.{ok_map}
+use Rattle.ps_verify.proofs.PartJudgements.{err_map, refused_alike}
+use Rattle.ps_models.specs.Sentences.{named_formula}
+use Rattle.ps_models.proofs.PartSentences.{sentence_judged_alike}
 use Rattle.ps_models.proofs.satisfying.satisfied.Goals as goal
-
-pub in_time-requires : goal.in_time-requires
-in_time-requires c = few_inputs c.latches.ensures.well_formed (rw c.in-Some.is at c.in_ok-roles.ensures.some)
 
 pub returns-clause-judged : goal.returns-clause-judged
 returns-clause-judged c =
-    c.in_ok-judgement.ensures c.args.order (c.in_ok-in_time.ensures.yes c.if-not-branch.false)
+    let part = c.in_ok-part.ensures.part in
+    let is_circuit = c.latches.ensures.well_formed in
+    ok_map _ _ c.satisfied_by_all.result c.satisfied_by_all.ensures.judged (λ judgement told.
+    sentence_judged_alike c.args.order c.args.role (named_formula c.args.sentence) part c.requires.distinct is_circuit
+    (c.circuit_has_one_values.ensures c.args.circuit.now is_circuit) judgement told)
+
+pub returns-clause-refused : goal.returns-clause-refused
+returns-clause-refused c =
+    let part = c.in_ok-part.ensures.part in
+    err_map _ _ c.satisfied_by_all.result c.satisfied_by_all.ensures.refused (λ fault refused.
+    refused_alike part (c.circuit_has_one_values.ensures _ c.latches.ensures.well_formed)
+    (c.circuit_has_one_values.ensures _ part.is_circuit) c.args.order c.args.role _ _ fault refused)

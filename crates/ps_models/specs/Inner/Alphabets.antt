@@ -1,0 +1,47 @@
+-- Diagrams of propositions over the letters of a formula, by which an automaton reads these letters.
+use Rattle.std.specs.Prelude.{◌≡◌, ℕ, ◌<◌, ◌≤◌, All, List, Some, false, if◌then◌else◌, is_some, length, nat_lt}
+use Rattle.std.specs.Prelude.{slice_get, slice_index, true}
+use Rattle.ps_automaton.specs.Automata.{AutomatonData, node_of}
+use Rattle.ps_diagram.specs.Table.{IsNode, Table, leaf_of}
+use Rattle.ps_label.specs.Truth.{is_in}
+use Rattle.ps_models.specs.Inner.Joints.{read_by}
+use Rattle.ps_models.specs.declared.alphabet.Alphabet.{Alphabet}
+
+-- the node has a leaf at the letters in which a proposition below `count` is true, and none if it is not below
+abbrev pub IsBitNode : (t : Table) → (count p node : ℕ) → Type 0
+IsBitNode t count p node =
+    (letter : ℕ) → is_some (leaf_of t node letter) ≡ (if nat_lt p count then is_in p letter else false)
+
+-- the first nodes are those of the first propositions
+pub record AreBitNodes (t : Table) (count : ℕ) (nodes : List ℕ) : Type 0 where
+  pub held : All (IsNode t) nodes
+  pub each : (p : ℕ) → p < length nodes → IsBitNode t count p (slice_index nodes p)
+
+-- the node at each index is that of the proposition with the number in the list
+pub record ArePlaceNodes (t : Table) (places nodes : List ℕ) : Type 0 where
+  pub one_each : length nodes ≡ length places
+  pub held : All (IsNode t) nodes
+  pub each : (k letter : ℕ) → k < length places →
+      is_some (leaf_of t (slice_index nodes k) letter) ≡ is_in (slice_index places k) letter
+
+pub record IsAlphabet (count : ℕ) (places : List ℕ) (a : Alphabet) : Type 0 where
+  pub propositions : a.store.propositions ≡ count
+  pub few : count ≤ 64
+  pub whole_each : length a.whole.items ≡ 64
+  pub whole : AreBitNodes a.store count a.whole.items
+  pub own : ArePlaceNodes a.store places a.own.items
+
+-- the node has the leaves of a state of the automaton, which reads each letter by the places
+pub record IsRenamed (t : Table) (places : List ℕ) (a : AutomatonData) (q node : ℕ) : Type 0 where
+  pub held : IsNode t node
+  pub leaf : (letter : ℕ) → leaf_of t node letter ≡ leaf_of a.store (node_of a q) (read_by places letter)
+
+-- the steps of the automaton from a state at letters for which a guard serves: each leaf with such a letter
+pub record AreMet (few : ℕ) (places : List ℕ) (a : AutomatonData) (q : ℕ) (guards : Table) (guard : ℕ)
+    (found : List (ℕ × ℕ)) : Type 0 where
+  pub sound : (k leaf letter : ℕ) → slice_get found k ≡ Some (leaf, letter) →
+      (letter < few) × (is_some (leaf_of guards guard letter) ≡ true) ×
+      (leaf_of a.store (node_of a q) (read_by places letter) ≡ Some leaf)
+  pub whole : (letter : ℕ) → letter < few → is_some (leaf_of guards guard letter) ≡ true →
+      (k : ℕ) × (leaf : ℕ) × (least : ℕ) × (slice_get found k ≡ Some (leaf, least)) ×
+      (leaf_of a.store (node_of a q) (read_by places letter) ≡ Some leaf)

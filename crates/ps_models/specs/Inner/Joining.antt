@@ -1,0 +1,202 @@
+-- The product of an automaton and a tableau in the making, to which edges and vertices are added while its vertices are
+-- explored. A vertex is a state of the automaton, or its sink, and a state of the tableau.
+use Rattle.std.specs.Prelude.{◌≡◌, ◌⊎◌, ℕ, ◌^◌, ◌<◌, ◌≤◌, ◌++◌, All, Contains, List, Some, length, map, slice_get}
+use Rattle.std.specs.Prelude.{slice_index_or}
+use Rattle.ps_automaton.specs.Automata.{AutomatonData, pair_of, step_of}
+use Rattle.ps_diagram.specs.Table.{Table}
+use Rattle.ps_product.specs.Words.{HasGrown}
+use Rattle.ps_tableau.specs.declared.edge.Edge.{Edge}
+use Rattle.ps_models.specs.BoardStates.{edges_of_state}
+use Rattle.ps_models.specs.Inner.Alphabets.{IsRenamed}
+use Rattle.ps_models.specs.Inner.JointGraphs.{joint_row}
+use Rattle.ps_models.specs.Inner.Joints.{read_by}
+use Rattle.ps_models.specs.Inner.Rows.{ServesFor}
+use Rattle.ps_models.specs.Inner.States.{AreStates, StatesData, states_data}
+use Rattle.ps_models.specs.declared.joining.JointDraft.{JointDraft}
+use Rattle.ps_models.specs.declared.joining.JointPlan.{JointPlan}
+use Rattle.ps_models.specs.declared.joining.Visit.{Visit}
+use Rattle.ps_models.specs.declared.joint.JointEdge.{JointEdge}
+
+-- the automaton, the number of letters, and the numbers of the automaton's propositions in the formula
+pub record Pairing : Type 0 where
+  pub own : AutomatonData
+  pub few : ℕ
+  pub places : List ℕ
+
+abbrev pub pairing_of : JointPlan → Pairing
+pairing_of plan = record { own = plan.automaton.now; few = 2 ^ plan.count; places = plan.places.now }
+
+-- each proposition of the automaton has a number in the formula
+pub record IsJointPlan (plan : JointPlan) : Type 0 where
+  pub few : plan.count ≤ 64
+  pub places : All (λ p. p < plan.count) plan.places.now
+  pub one_each : length plan.places.now ≡ length plan.automaton.now.names
+
+pub record JointDraftData : Type 0 where
+  pub states : StatesData
+  pub vertices : List (ℕ × ℕ)
+  pub rows : List (List JointEdge)
+
+abbrev pub joint_draft : JointDraft → JointDraftData
+joint_draft d = record {
+  states = states_data d.states;
+  vertices = d.vertices;
+  rows = map (λ row. row.items) d.rows.items;
+}
+
+-- ## Edges
+
+-- the edges of the tableau from the state of a vertex
+abbrev pub joint_covers : StatesData → ℕ × ℕ → List Edge
+joint_covers st v = edges_of_state st.edges v.1
+
+-- a step of the automaton from v, with a cover that serves for the letter of the step and leads to a state
+pub record LeadsJointly (s : Pairing) (st : StatesData) (vertices : List (ℕ × ℕ)) (v : ℕ × ℕ) (x : JointEdge) : Type 0
+  where
+    pub to : ℕ × ℕ
+    pub stands : slice_get vertices x.to ≡ Some to
+    pub low : x.letter < s.few
+    pub own : to.0 ≡ (step_of s.own v.0 (read_by s.places x.letter)).state
+    pub priority : x.priority ≡ (step_of s.own v.0 (read_by s.places x.letter)).priority
+    pub known : Contains (joint_covers st v) x.cover
+    pub serves : ServesFor st x.cover x.letter
+    pub next : slice_get st.sets to.1 ≡ Some x.cover.next
+
+-- some edge of the row has the cover, and the priority and the target of the automaton's step at the letter
+pub record HasJointPassage (s : Pairing) (vertices : List (ℕ × ℕ)) (row : List JointEdge) (v : ℕ × ℕ) (cover : Edge)
+    (letter : ℕ) : Type 0 where
+  pub place : ℕ
+  pub passage : JointEdge
+  pub there : slice_get row place ≡ Some passage
+  pub cover_is : passage.cover ≡ cover
+  pub to : ℕ × ℕ
+  pub stands : slice_get vertices passage.to ≡ Some to
+  pub own : to.0 ≡ (step_of s.own v.0 (read_by s.places letter)).state
+  pub priority : passage.priority ≡ (step_of s.own v.0 (read_by s.places letter)).priority
+
+-- each letter for which the cover serves has an edge
+abbrev pub HasEachJoint : Pairing → StatesData → List (ℕ × ℕ) → ℕ × ℕ → List JointEdge → Edge → Type 0
+HasEachJoint s st vertices v row cover =
+    (letter : ℕ) → letter < s.few → ServesFor st cover letter → HasJointPassage s vertices row v cover letter
+
+-- the row has edges that leave v, with each step for the first covers
+pub record IsJointRowUpTo (s : Pairing) (st : StatesData) (vertices : List (ℕ × ℕ)) (v : ℕ × ℕ) (row : List JointEdge)
+    (done : ℕ) : Type 0 where
+  pub lead : (k : ℕ) (x : JointEdge) → slice_get row k ≡ Some x → LeadsJointly s st vertices v x
+  pub whole : (i : ℕ) (cover : Edge) → i < done → slice_get (joint_covers st v) i ≡ Some cover →
+      HasEachJoint s st vertices v row cover
+
+abbrev pub IsJointRow : Pairing → StatesData → List (ℕ × ℕ) → ℕ × ℕ → List JointEdge → Type 0
+IsJointRow s st vertices v row = IsJointRowUpTo s st vertices v row (length (joint_covers st v))
+
+-- the vertices grow by those to which edges of the row lead
+pub record JointsGrow (old new : List (ℕ × ℕ)) (row : List JointEdge) : Type 0 where
+  pub grown : HasGrown old new
+  pub from : (i : ℕ) (v : ℕ × ℕ) → slice_get new i ≡ Some v →
+      (slice_get old i ≡ Some v) ⊎ ((k : ℕ) × (x : JointEdge) × (slice_get row k ≡ Some x) × (x.to ≡ i))
+
+-- ## Vertices
+
+pub record IsPaired (s : Pairing) (st : StatesData) (v : ℕ × ℕ) : Type 0 where
+  pub own : v.0 ≤ s.own.states
+  pub state : v.1 < length st.sets
+
+-- some edge of an earlier vertex leads to the vertex i
+pub record IsJoined (rows : List (List JointEdge)) (i : ℕ) : Type 0 where
+  pub from : ℕ
+  pub earlier : from < i
+  pub within : from < length rows
+  pub place : ℕ
+  pub passage : JointEdge
+  pub there : slice_get (joint_row rows from) place ≡ Some passage
+  pub leads : passage.to ≡ i
+
+-- the states are sound, and the vertices are pairs of states
+pub record ArePaired (s : Pairing) (d : JointDraftData) : Type 0 where
+  pub states : AreStates d.states
+  pub each : (i : ℕ) (v : ℕ × ℕ) → slice_get d.vertices i ≡ Some v → IsPaired s d.states v
+
+-- The first `count` vertices that were found have been explored: each has its edges. Each vertex except the first is
+-- led to by an earlier explored one.
+pub record IsJointExplored (s : Pairing) (d : JointDraftData) (count : ℕ) : Type 0 where
+  pub are_paired : ArePaired s d
+  pub initial : slice_get d.states.sets 0 ≡ Some d.states.board.initial
+  pub rows_each : length d.rows ≡ count
+  pub within : count ≤ length d.vertices
+  pub first : slice_get d.vertices 0 ≡ Some (s.own.start, 0)
+  pub have_covers : (i : ℕ) (v : ℕ × ℕ) → i < count → slice_get d.vertices i ≡ Some v → v.1 < length d.states.edges
+  pub explored : (i : ℕ) (v : ℕ × ℕ) → i < count → slice_get d.vertices i ≡ Some v →
+      IsJointRow s d.states d.vertices v (joint_row d.rows i)
+  pub led : (i : ℕ) → 0 < i → i < length d.vertices → IsJoined d.rows i
+
+-- ## One vertex
+
+-- the state of the vertex has its edges
+abbrev pub HasCoversFor : JointDraftData → ℕ → Type 0
+HasCoversFor d vertex = (v : ℕ × ℕ) → slice_get d.vertices vertex ≡ Some v → v.1 < length d.states.edges
+
+-- a vertex, whose state has its edges, with the diagram of the steps of the automaton's state
+pub record IsVisit (s : Pairing) (d : JointDraftData) (t : Table) (v : Visit) : Type 0 where
+  pub own : v.own ≤ s.own.states
+  pub covers : v.state < length d.states.edges
+  pub renamed : IsRenamed t s.places s.own v.own v.node
+
+abbrev pub visited : Visit → ℕ × ℕ
+visited v = (v.own, v.state)
+
+-- states and vertices were added, to which edges of the row lead; nothing else changed
+pub record AddsJoints (s : Pairing) (old new : JointDraftData) (row : List JointEdge) : Type 0 where
+  pub paired : ArePaired s new
+  pub board : new.states.board ≡ old.states.board
+  pub edges : new.states.edges ≡ old.states.edges
+  pub sets : HasGrown old.states.sets new.states.sets
+  pub rows : new.rows ≡ old.rows
+  pub vertices : JointsGrow old.vertices new.vertices row
+
+-- the edges of the vertex with one cover were appended to a row
+pub record AddsJointCover (s : Pairing) (old new : JointDraftData) (v : ℕ × ℕ) (cover : Edge)
+    (row made : List JointEdge) : Type 0 where
+  pub adds : AddsJoints s old new made
+  pub more : List JointEdge
+  pub made_is : made ≡ row ++ more
+  pub lead : (k : ℕ) (x : JointEdge) → slice_get more k ≡ Some x → LeadsJointly s new.states new.vertices v x
+  pub whole : HasEachJoint s new.states new.vertices v made cover
+
+-- the row has the edges of the vertex with the first covers of its state
+pub record IsJointMadeUpTo (s : Pairing) (old new : JointDraftData) (v : ℕ × ℕ) (row : List JointEdge) (done : ℕ) :
+    Type 0 where
+  pub adds : AddsJoints s old new row
+  pub made : IsJointRowUpTo s new.states new.vertices v row done
+
+-- the row has all edges of a vertex
+pub record IsJointMadeFor (s : Pairing) (old new : JointDraftData) (v : ℕ × ℕ) (row : List JointEdge) : Type 0 where
+  pub adds : AddsJoints s old new row
+  pub made : IsJointRow s new.states new.vertices v row
+
+pub record IsJointMadeRow (s : Pairing) (old new : JointDraftData) (vertex : ℕ) (row : List JointEdge) : Type 0 where
+  pub adds : AddsJoints s old new row
+  pub at : ℕ × ℕ
+  pub there : slice_get old.vertices vertex ≡ Some at
+  pub made : IsJointRow s new.states new.vertices at row
+
+-- ## One cover
+
+-- the edge of a leaf and a letter: the automaton's step, and a state of the tableau
+pub record IsJoinedAt (own : AutomatonData) (vertices : List (ℕ × ℕ)) (found : ℕ × ℕ) (state : ℕ) (cover : Edge)
+    (x : JointEdge) : Type 0 where
+  pub cover_is : x.cover ≡ cover
+  pub letter_is : x.letter ≡ found.1
+  pub priority_is : x.priority ≡ (pair_of own found.0).priority
+  pub stands : slice_get vertices x.to ≡ Some ((pair_of own found.0).state, state)
+
+-- edges were appended to a row, one for each of the first leaves and letters; vertices were added to which they lead
+pub record JoinsUpTo (own : AutomatonData) (old new : List (ℕ × ℕ)) (met : List (ℕ × ℕ)) (state : ℕ) (cover : Edge)
+    (row made : List JointEdge) (count : ℕ) : Type 0 where
+  pub grown : HasGrown old new
+  pub more : List JointEdge
+  pub made_is : made ≡ row ++ more
+  pub one_each : length more ≡ count
+  pub each : (k : ℕ) (x : JointEdge) → slice_get more k ≡ Some x →
+      IsJoinedAt own new (slice_index_or met k (0, 0)) state cover x
+  pub from : (i : ℕ) (v : ℕ × ℕ) → slice_get new i ≡ Some v →
+      (slice_get old i ≡ Some v) ⊎ ((k : ℕ) × (x : JointEdge) × (slice_get more k ≡ Some x) × (x.to ≡ i))
