@@ -39,10 +39,10 @@ abbrev pub Apart : Type 0
 Apart = (file : FileData) (fault : AutomatonFault) → fault ≢ automaton.OutOfMemory → IsAdmitted file →
     IsRefused file fault → ⊥
 
-abbrev error_at : HoaCause → ℕ → Result FileData (Found HoaCause)
+abbrev pub error_at : HoaCause → ℕ → Result FileData (Found HoaCause)
 error_at cause offset = Err (record { cause = cause; offset = offset })
 
-abbrev file_or : FileData → Result FileData (Found HoaCause) → FileData
+abbrev pub file_or : FileData → Result FileData (Found HoaCause) → FileData
 file_or other (Ok file) = file
 file_or other (Err found) = other
 
@@ -51,20 +51,20 @@ cause_or other (Ok file) = other
 cause_or other (Err found) = found.cause
 
 module _ (one : OneFile) (apart : Apart) (hoa : List ℕ) where
-  no_limit : (cause : HoaCause) (offset : ℕ) → ReadsFile hoa (error_at cause offset) → cause ≢ causes.Limit →
+  pub no_limit : (cause : HoaCause) (offset : ℕ) → ReadsFile hoa (error_at cause offset) → cause ≢ causes.Limit →
       IsBeyondLimits hoa → ⊥
   no_limit cause offset reads other (at, limit) =
       other (ap (cause_or causes.Limit) (one hoa (error_at cause offset) (error_at causes.Limit at) reads limit))
 
-  no_file : (cause : HoaCause) (offset : ℕ) → ReadsFile hoa (error_at cause offset) → DescribesAutomaton hoa → ⊥
+  pub no_file : (cause : HoaCause) (offset : ℕ) → ReadsFile hoa (error_at cause offset) → DescribesAutomaton hoa → ⊥
   no_file cause offset reads (file, accepted) =
       let same = one hoa (Ok file) (error_at cause offset) accepted.reads reads in cc
 
-  no_limit_in_file : (fault : AutomatonFault) → HasNoAutomaton hoa fault → IsBeyondLimits hoa → ⊥
+  pub no_limit_in_file : (fault : AutomatonFault) → HasNoAutomaton hoa fault → IsBeyondLimits hoa → ⊥
   no_limit_in_file fault refused (at, limit) =
       let same = one hoa (Ok refused.file) (error_at causes.Limit at) refused.reads limit in cc
 
-  no_automaton : (fault : AutomatonFault) → HasNoAutomaton hoa fault → DescribesAutomaton hoa → ⊥
+  pub no_automaton : (fault : AutomatonFault) → HasNoAutomaton hoa fault → DescribesAutomaton hoa → ⊥
   no_automaton fault refused (file, accepted) =
       let same = one hoa (Ok file) (Ok refused.file) accepted.reads refused.reads in
       apart refused.file fault refused.cause

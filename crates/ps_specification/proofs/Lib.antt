@@ -3,3 +3,5 @@ pub mod DistinctNames
 pub mod FaultReasons
 pub mod MoreAnswers
 pub mod RoutedBits
+pub mod TranslationReasons
+pub mod SameNames

@@ -4,3 +4,4 @@ pub mod Inner
 pub mod Promises
 pub mod Requirements
 pub mod Translating
+pub mod TranslationFaults

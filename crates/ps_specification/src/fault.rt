@@ -1,4 +1,4 @@
-//! Why a specification gets no circuit.
+//! Faults of specifications.
 
 ghost use Rattle.std.specs.Prelude.{◌≡◌};
 ghost use Rattle.ps_specification.specs.declared.fault.SpecificationFault.TheVariants.{OutOfMemory};
@@ -10,25 +10,24 @@ use ps_tlsf::{TlsfCause, TlsfFault};
 use std::alloc::AllocError;
 use thiserror::Error;
 
-/// Why a specification gets no circuit.
+/// Why a specification gets no circuit or automaton.
 #[derive(Debug, Drop, Error)]
 pub enum SpecificationFault {
-    /// The specification's text has an error.
+    /// Its text has an error.
     #[error("{} at byte {offset}", .cause.name())]
     Text {
-        /// The error of the specification's text.
+        /// The error.
         cause: TlsfCause,
-        /// The offset of the error in bytes, from 0.
+        /// Its offset in bytes, from 0.
         offset: usize,
     },
     /// The translator gave no automaton, or one whose text exceeds a limit of the parser.
     #[error("no automaton was found for the specification")]
     NotTranslated,
-    /// The text that the translator gave is not accepted, or the circuit that was made for its automaton does not win
-    /// for the specification.
+    /// The translator's text is not accepted, or what came of it is wrong by the specification.
     #[error("the translation of the specification is wrong")]
     NotJudged,
-    /// The solver returned no valid certificate of the automaton's game, or the circuit is too large.
+    /// The solver returned no valid certificate, or the circuit is too large.
     #[error("{0}")]
     Synthesis(SynthFault),
     /// Out of memory.
@@ -39,7 +38,7 @@ pub enum SpecificationFault {
 impl SpecificationFault {
     ghost use Rattle.ps_specification.specs.FaultNames.{fault_name, fault_number};
 
-    /// The fault's number in psyn's list of faults.
+    /// Its number in docs/FAULTS.md.
     pub fn number(&self) -> u8
         ensures { result ≡ fault_number self.now }
     {
@@ -52,7 +51,7 @@ impl SpecificationFault {
         }
     }
 
-    /// The fault's name.
+    /// Its name there.
     pub fn name(&self) -> &'static str
         ensures { result.now ≡ fault_name self.now }
     {
@@ -87,8 +86,7 @@ impl From<TlsfFault> for SpecificationFault {
     }
 }
 
-/// A fault of synthesis for the automaton of a translator. A text that exceeds a limit counts as none, and any other
-/// fault of the text is the translator's mistake.
+/// A translator's text beyond a limit counts as none; any other fault of it is a mistake.
 impl From<SynthFault> for SpecificationFault {
     ghost use Rattle.ps_specification.specs.Faults.{fault_of_synthesis};
 

@@ -1,6 +1,10 @@
-//! Judges a circuit by a specification.
+//! Judges by a specification.
 
 ghost use Rattle.std.specs.Prelude.{◌≡◌, IfErr, IfOk, map};
+ghost use Rattle.ps_automaton.specs.Automata.{IsBuiltFrom};
+ghost use Rattle.ps_automaton.specs.Chains.{Chain};
+ghost use Rattle.ps_hoa.specs.Files.{FileData};
+ghost use Rattle.ps_models.specs.Agreements.{IsAgreementOf, IsAgreementRefusal};
 ghost use Rattle.ps_models.specs.Judgements.{IsJudgementFor};
 ghost use Rattle.ps_product.specs.ProductFaults.{IsRefusalFor};
 ghost use Rattle.ps_simulate.specs.Symbols.{AreDistinct};
@@ -9,16 +13,17 @@ ghost use Rattle.ps_tlsf.specs.Names.{names_in, outputs_in};
 ghost use Rattle.ps_tlsf.specs.SpecificationViews.{HasRoots, specification_data};
 ghost use Rattle.ps_specification.specs.Requirements.{order_in, requirement_of};
 
+use ps_automaton::Automaton;
 use ps_circuit::Circuit;
 use ps_machine::Order;
-use ps_models::{Sentence, satisfied};
+use ps_models::{Agreement, AgreementFault, Sentence, agreed, satisfied};
 use ps_product::ProductFault;
 use ps_simulate::Role;
 use ps_tlsf::{Specification, names_of, outputs_of};
 use ps_verify::Judgement;
 use std::alloc::Global;
 
-/// Who moves first: in the order `Mealy` the environment, in the order `Moore` the controller.
+/// Who moves first: in `Mealy` the environment, in `Moore` the controller.
 pub fn order_of(specification: &Specification) -> Order
     ensures { result ≡ order_in (specification_data specification.now) }
 {
@@ -28,16 +33,9 @@ pub fn order_of(specification: &Specification) -> Order
     }
 }
 
-/// Decides whether the circuit wins: each lasso trace of a controller satisfies the specification, or no lasso trace of
-/// an environment does. If the circuit loses, the result is a counterexample: a stimulus on which the controller's trace
-/// violates the specification, or the environment's trace satisfies it.
-///
-/// # Errors
-///
-/// Fails with [`ProductFault::Symbols`] if the names of the circuit's inputs and outputs are not those of its role: a
-/// controller reads the specification's inputs and sets its outputs, and an environment reads the outputs and sets the
-/// inputs. Fails with [`ProductFault::Timing`] if these names are right and the circuit's player moves first, but some
-/// output depends on an input, at some latch values that a trace reaches. Fails also if memory runs out.
+/// Whether the circuit wins; if not, a stimulus on which it loses. Fails with [`ProductFault::Symbols`] if the names of
+/// its inputs and outputs are not those of its role; else with [`ProductFault::Timing`] if its player moves first, but
+/// some output depends on an input, at some latch values that a trace reaches; or if memory runs out.
 pub fn judged(
     alloc: Global,
     circuit: &Circuit,
@@ -61,4 +59,31 @@ pub fn judged(
         root: specification.root,
     };
     satisfied(alloc, circuit, sentence, order_of(specification), role)
+}
+
+/// Whether the automaton accepts exactly the lassos that satisfy the specification; if not, a lasso on which they
+/// differ. Fails with [`AgreementFault::Symbols`] if some proposition of the automaton is none of the specification's,
+/// or of the other player; or if memory runs out.
+pub fn compared(
+    alloc: Global,
+    automaton: &Automaton,
+    specification: &Specification,
+) -> Result<Agreement, AgreementFault>
+    requires roots { HasRoots specification.now }
+    requires distinct { AreDistinct (names_in (map name_data specification.now.propositions.items)) }
+    ensures agreement { IfOk result (λ agreement. (file : FileData) (chain : Chain) →
+        IsBuiltFrom file chain automaton.now →
+        IsAgreementOf file (requirement_of (specification_data specification.now)) agreement) }
+    ensures refused { IfErr result (IsAgreementRefusal automaton.now.names automaton.now.controllable
+        (requirement_of (specification_data specification.now))) }
+{
+    let names = names_of(alloc, &specification.propositions)?;
+    let outputs = outputs_of(alloc, &specification.propositions)?;
+    let sentence = Sentence {
+        names: &names,
+        controllable: &outputs,
+        formulas: &specification.table,
+        root: specification.root,
+    };
+    agreed(alloc, automaton, sentence)
 }

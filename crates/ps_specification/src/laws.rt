@@ -1,4 +1,4 @@
-//! Laws: no specification is won by both players.
+//! A law.
 
 ghost use Rattle.std.specs.Prelude.{◌≡◌, ℕ, List, Ok};
 ghost use Rattle.ps_circuit.specs.Circuits.{CircuitData, IsCircuit};
@@ -13,8 +13,8 @@ ghost use Rattle.ps_specification.specs.Promises.{IsAnswerTo};
 use ps_simulate::circuit_has_one_values;
 use ps_tlsf::names_differ;
 
-/// No formula, and so no specification, has both a controller whose lasso traces all satisfy it and an environment whose
-/// lasso traces all violate it, in one order of moves: the word of their joint run would do both.
+/// In one order of moves, no formula has both a controller whose lasso traces all satisfy it and an environment whose
+/// lasso traces all violate it: the word of their joint run would do both.
 pub fn no_specification_has_both()
     ensures formula { (order : Order) (f : NamedFormula) (controller environment : CircuitData) → AreDistinct f.names →
         IsCircuit controller → IsCircuit environment → IsWinningFor order Controller f controller →

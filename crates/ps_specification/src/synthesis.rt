@@ -1,4 +1,4 @@
-//! The whole synthesis, from a specification's text to a circuit that is judged by the specification.
+//! From a specification's text to a circuit.
 
 ghost use Rattle.std.specs.Prelude.{◌≡◌, ◌<◌, ◌↔◌, ℕ, true, IsTrue, List, length, map, IfErr, IfOk, Ok};
 ghost use Rattle.ps_circuit.specs.Circuits.{IsCircuit};
@@ -34,49 +34,42 @@ use ps_tlsf::Specification;
 use ps_verify::Judgement;
 use std::alloc::{AllocError, Global};
 
-/// The answer to a specification: a controller that satisfies it, or an environment against which it is violated.
+/// A circuit that wins for a specification.
 #[derive(Drop)]
 pub struct Winner {
-    /// Whether the circuit is a controller or an environment.
+    /// Whether it is a controller or an environment.
     pub role: Role,
     /// The circuit.
     pub circuit: Circuit,
 }
 
-/// Makes a circuit for the specification of a text: the translator gives an automaton, the solver solves its game, and
-/// the circuit of the winner is judged by the specification.
-///
-/// # Errors
-///
-/// Fails, in this order, with the first error of the text; with `NotTranslated`, if the translator gives no automaton
-/// or the text of the automaton exceeds a limit; with `NotJudged`, if the text is not accepted otherwise; with the
-/// solver's fault, with `NotCertified` or with `CircuitTooLarge`; with `NotJudged`, if the circuit does not win for the
-/// specification. Fails at any time if memory runs out.
+/// The winner's circuit for the specification of a text, by the translator's automaton and the solver. Fails, in this
+/// order, with the text's first error; with `NotTranslated` if there is no automaton, or its text exceeds a limit; with
+/// `NotJudged` if the translator's text is not accepted; with the solver's fault, `NotCertified` or `CircuitTooLarge`;
+/// with `NotJudged` if the circuit does not win for the specification; or if memory runs out.
 pub fn synthesise_specification<T: Translator, S: Solver>(
     alloc: Global,
     text: &[u8],
     translator: &T,
     solver: &mut S,
 ) -> Result<Winner, SpecificationFault>
-    // Whatever the translator and the solver give, a circuit wins for the specification, and a fault occurs only for
-    // the reason that `IsSpecificationFault` states.
+    // Whatever the translator and the solver give.
     ensures promise { IfOk result (λ winner. KeepsSpecification text.now winner.role winner.circuit) }
     ensures refused { IfErr result (IsSpecificationFault (T.may_give translator.now)
         (Answered (S.known solver.old) (S.known solver.new)) text.now) }
-    // With a sure solver, a specification gets a circuit, unless it has an error, its translation is missing or wrong,
-    // the circuit is too large, or memory runs out.
+    // With a sure solver there is a circuit, unless the text has an error, the translation is missing or wrong, the
+    // circuit is too large, or memory runs out.
     ensures sure { (S.known solver.old).is_sure ≡ true → IfErr result IsSureSpecificationFault }
     ensures kept { IsKept (S.known solver.old) (S.known solver.new) }
 {
     let specification = read(alloc, text)?;
-    let Some(hoa) = translator.translate(alloc, &specification)? else {
+    let Some(hoa) = translator.translate(alloc, &specification, None)? else {
         return Err(SpecificationFault::NotTranslated);
     };
     by_automaton(alloc, &specification, &hoa, solver)
 }
 
-/// Parses a text as a specification.
-fn read(alloc: Global, text: &[u8]) -> Result<Specification, SpecificationFault>
+pub(crate) fn read(alloc: Global, text: &[u8]) -> Result<Specification, SpecificationFault>
     ensures specification { IfOk result (λ s. answer_of text.now ≡ Ok (specification_data s)) }
     ensures roots { IfOk result HasRoots }
     ensures distinct { IfOk result (λ s. AreDistinct (names_in (map name_data s.propositions.items))) }
@@ -86,7 +79,6 @@ fn read(alloc: Global, text: &[u8]) -> Result<Specification, SpecificationFault>
     Ok(ps_tlsf::read(alloc, text)?)
 }
 
-/// Makes a circuit for a specification from the text of an automaton.
 fn by_automaton<S: Solver>(
     alloc: Global,
     specification: &Specification,
@@ -110,7 +102,7 @@ fn by_automaton<S: Solver>(
     passed(alloc, specification, winner?)
 }
 
-/// The winner of a problem's game, by the certificate that the solver returns, and the winner's circuit.
+/// The winner by the solver's certificate, with its circuit.
 fn won<S: Solver>(alloc: Global, problem: &Problem, solver: &mut S) -> Result<Winner, SynthFault>
     ensures won { (order : Order) (hoa : List ℕ) → IsProblemOf order hoa problem.now → IfOk result (λ winner.
         IsWonBy (Answered (S.known solver.old) (S.known solver.new)) order hoa winner.role winner.circuit) }
@@ -129,7 +121,6 @@ fn won<S: Solver>(alloc: Global, problem: &Problem, solver: &mut S) -> Result<Wi
     Ok(Winner { role, circuit })
 }
 
-/// The role of the winner of the start vertex.
 fn role_at_start(certificate: &Certificate) -> Role
     requires { 0 < length certificate.now.entries }
     ensures { result ≡ role_of (winner_at_start certificate.now) }
@@ -141,7 +132,7 @@ fn role_at_start(certificate: &Certificate) -> Role
     }
 }
 
-/// Passes a circuit on if it wins for the specification.
+/// Passes a circuit on if it wins.
 fn passed(
     alloc: Global,
     specification: &Specification,
@@ -161,7 +152,6 @@ fn passed(
     }
 }
 
-/// Whether a circuit wins for the specification, in its role. Fails if out of memory.
 fn wins(alloc: Global, specification: &Specification, winner: &Winner) -> Result<bool, AllocError>
     requires roots { HasRoots specification.now }
     requires distinct { AreDistinct (names_in (map name_data specification.now.propositions.items)) }

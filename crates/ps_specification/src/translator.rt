@@ -5,22 +5,21 @@ ghost use Rattle.ps_tlsf.specs.SpecificationViews.{specification_data};
 ghost use Rattle.ps_specification.specs.Translating.{MayGive};
 
 use ps_tlsf::Specification;
-use ps_translation::translated;
+use ps_translation::titled;
 use std::alloc::{AllocError, Global};
 
-/// Makes the text of an automaton from a specification.
-///
-/// A translator promises nothing: the circuit that is made for its automaton is judged by the specification.
+/// A translator promises nothing, for what it gives is judged.
 pub trait Translator: Drop {
     /// What the translator may give for a specification.
     ghost may_give: { Self → MayGive };
 
-    /// The HOA text of a deterministic parity automaton that is meant to accept the words which satisfy the
-    /// specification, or `None` if no such text is found. Fails if out of memory.
+    /// The HOA text of a deterministic parity automaton that should accept what satisfies the specification, or none.
+    /// Its name is the title, with quotes. Fails if memory runs out.
     fn translate(
         &self,
         alloc: Global,
         specification: &Specification,
+        title: Option<&[u8]>,
     ) -> Result<Option<Vec<u8>>, AllocError>
         ensures { IfOk result (λ given. may_give self.now (specification_data specification.now)
             (option_map (λ text. text.items) given)) };
@@ -39,7 +38,8 @@ impl Translator for OwnTranslator {
         &self,
         alloc: Global,
         specification: &Specification,
+        title: Option<&[u8]>,
     ) -> Result<Option<Vec<u8>>, AllocError> {
-        translated(alloc, specification)
+        titled(alloc, specification, title)
     }
 }

@@ -1,0 +1,23 @@
+use Rattle.std.proofs.Common.{arith, ◌≡◌, List, map, subst}
+use Rattle.std.specs.Prelude.{IfOk}
+use Rattle.ps_automaton.specs.Automata.{IsBuiltFrom}
+use Rattle.ps_automaton.specs.Chains.{Chain}
+use Rattle.ps_hoa.specs.Files.{FileData}
+use Rattle.ps_hoa.specs.Memory.{bytes_of}
+use Rattle.ps_models.specs.Agreements.{IsAgreementOf}
+use Rattle.ps_models.specs.Judgements.{NamedFormula}
+use Rattle.ps_tlsf.specs.SpecificationViews.{specification_data}
+use Rattle.ps_specification.specs.Requirements.{requirement_of}
+use Rattle.ps_specification.proofs.judging.compared.Goals as goal
+
+pub returns-clause-agreement : goal.returns-clause-agreement
+returns-clause-agreement c =
+    let spec = c.args.specification.now in
+    let given : NamedFormula = record {
+      names = map bytes_of c.deref-3.result.now;
+      controllable = c.deref-4.result.now;
+      formula = (specification_data spec).whole;
+    } in
+    let same : given ≡ requirement_of (specification_data spec) = grind arith in
+    subst (λ (f : NamedFormula). IfOk c.agreed.result (λ agreement. (file : FileData) (chain : Chain) →
+    IsBuiltFrom file chain c.args.automaton.now → IsAgreementOf file f agreement)) same c.agreed.ensures.agreed
