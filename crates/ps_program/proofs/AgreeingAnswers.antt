@@ -15,6 +15,7 @@ use Rattle.ps_simulate.specs.StimulusTexts as stimulus_text
 use Rattle.ps_program.specs.declared.commands.Line.{Line}
 use Rattle.ps_program.specs.declared.commands.Line.TheVariants as line
 use Rattle.ps_program.specs.Checks.{Tests}
+use Rattle.ps_program.specs.Comparing.{AnswersAgree}
 use Rattle.ps_program.specs.CommandLine.{IsLine}
 use Rattle.ps_program.specs.Cut.{first_line, behind_line}
 use Rattle.ps_program.specs.Determined.{Agree, AgreeAsReports, AgreeInLoser, AgreeInWinners, AgreeOrFault, AsksFor}
@@ -49,6 +50,8 @@ use Rattle.ps_program.proofs.VerifyDetermined.{NotBoth, verify_one_or}
 use Rattle.ps_program.proofs.VerifyTlsfDetermined.{NotBothFor, verify_tlsf_one_or}
 use Rattle.ps_program.proofs.OneLine.{is_line_one}
 use Rattle.ps_program.proofs.OneSatisfaction.{OneWord, lasso_tlsf_one}
+use Rattle.ps_program.proofs.CompareDetermined.{agree_one_or}
+use Rattle.ps_program.proofs.TranslateDetermined.{translate_one_or}
 use Rattle.ps_program.proofs.JudgeLemmas.{OneSolution, OneJudged, OneLoser, NoFlawAndCycle, NoFlaw, NoCycle}
 use Rattle.ps_program.proofs.JudgeLemmas.{judges_one_or}
 use Rattle.ps_solution.specs.Solved.{SolutionData}
@@ -161,6 +164,16 @@ module _ (games : OneGame) (certificates : OneCertificate) (flaws : OneFlaw) (ci
       by (inl same) = inl same
       by (inr (spec, c, reads, agree)) =
           inr ((spec, c, reads, (agree.one, agree.one_loses)), (spec, c, reads, agree))
+
+  agree_or_one : (texts : List ℕ) (x y : Result Reply (List ℕ)) → AnswersAgree texts x → AnswersAgree texts y →
+      (x ≡ y) ⊎ (IsUndetermined line.Agree texts × Agree line.Agree texts (printed x) (printed y))
+  agree_or_one texts x y h k = by (agree_one_or (automaton_one files refusals outcomes) x y texts h k)
+    where
+      by : (x ≡ y) ⊎ Agree line.Agree texts (printed x) (printed y) →
+          (x ≡ y) ⊎ (IsUndetermined line.Agree texts × Agree line.Agree texts (printed x) (printed y))
+      by (inl same) = inl same
+      by (inr (spec, file, reads, agree)) =
+          inr ((spec, file, reads, (agree.one, agree.one_differs)), (spec, file, reads, agree))
 
   shrink_or_one : (order : Order) (role : Role) (texts : List ℕ) (x y : Result Reply (List ℕ)) →
       AnswersShrink order role texts x → AnswersShrink order role texts y
@@ -300,6 +313,8 @@ module _ (games : OneGame) (certificates : OneCertificate) (flaws : OneFlaw) (ci
   line_one solvers (line.Verify order role) texts x y h k = verify_or_one order role texts x y h k
   line_one solvers (line.VerifyTlsf role) texts x y h k = verify_tlsf_or_one role texts x y h k
   line_one solvers (line.Shrink order role) texts x y h k = shrink_or_one order role texts x y h k
+  line_one solvers line.Agree texts x y h k = agree_or_one texts x y h k
+  line_one solvers line.Translate text x y h k = translate_one_or own_translator text x y h k
   line_one solvers (line.Solve compact) texts x y h k = solve_one_or solvers.built_in compact texts x y h k
   line_one solvers (line.Game order) texts x y h k = inl (game_one order texts x y h k)
   line_one solvers (line.Cert order compact) texts x y h k = cert_one_or solvers.built_in order compact texts x y h k

@@ -1,8 +1,9 @@
--- Commands that read two texts, of which the second is a circuit that is judged by the first. Their answer is
--- determined, except for the stimulus on which the circuit loses.
+-- Commands that read two texts, of which the second is judged by the first: for a circuit, the answer is determined,
+-- except for the stimulus on which the circuit loses.
 -- - `no_fault`, `one_line`: no fault is reported for a circuit of its role that is in time; there is only one fault
 -- - `told_one_or`: two judgements on one circuit are equal, or each shows a stimulus on which the circuit loses
--- - `judged_one_or`: the same for the texts, if it holds for each circuit
+-- - `both_one_or`: two results for the same texts are equal, or alike, if this holds for the values of the texts
+-- - `judged_one_or`: the same where the second text is a circuit
 use Rattle.std.proofs.Common.{◌≡◌, ◌⊎◌, ◌∙◌, ℕ, List, Result, Ok, sym, inl, inr}
 use Rattle.ps_circuit.specs.Circuits.{CircuitData}
 use Rattle.ps_machine.specs.declared.key.Order.{Order}
@@ -47,37 +48,48 @@ told_one_or Wins Loses apart r t (inr (s, loses, e)) (inr (s', loses', e')) =
     inr (record { one = s; other = s'; one_loses = loses; other_loses = loses'; is_one = e; is_other = e' })
 
 -- the values of the two texts of the input
-abbrev pub ReadsBoth : {V : Type 0} → (List ℕ → Result V (List ℕ) → Type 0) → List ℕ → V → CircuitData → Type 0
-ReadsBoth reads texts v c = (parts : List ℕ × List ℕ) × CutsInTwo texts (Ok parts) × reads parts.0 (Ok v)
-    × ReadsCircuitText parts.1 (Ok c)
+abbrev pub ReadsTwo : {V W : Type 0} → (List ℕ → Result V (List ℕ) → Type 0) → (List ℕ → Result W (List ℕ) → Type 0) →
+    List ℕ → V → W → Type 0
+ReadsTwo reads seconds texts v w = (parts : List ℕ × List ℕ) × CutsInTwo texts (Ok parts) × reads parts.0 (Ok v)
+    × seconds parts.1 (Ok w)
 
--- two results for the same texts are equal, or alike, if this holds for each value of the first text and each circuit
-module _ {V : Type 0} (reads : List ℕ → Result V (List ℕ) → Type 0)
-    (tells : V → CircuitData → Result Reply (List ℕ) → Type 0) (alike : V → CircuitData → Type 0)
-    (firsts : (text : List ℕ) → IsOne (reads text)) (circuits : (text : List ℕ) → IsOne (ReadsCircuitText text))
-    (x y : Result Reply (List ℕ)) (each : (v : V) (c : CircuitData) → tells v c x → tells v c y → (x ≡ y) ⊎ alike v c)
+-- two results for the same texts are equal, or alike, if this holds for all values of the two texts
+module _ {V W : Type 0} (reads : List ℕ → Result V (List ℕ) → Type 0) (seconds : List ℕ → Result W (List ℕ) → Type 0)
+    (tells : V → W → Result Reply (List ℕ) → Type 0) (alike : V → W → Type 0)
+    (first_one : (text : List ℕ) → IsOne (reads text)) (second_one : (text : List ℕ) → IsOne (seconds text))
+    (x y : Result Reply (List ℕ)) (each : (v : V) (w : W) → tells v w x → tells v w y → (x ≡ y) ⊎ alike v w)
   where
     abbrev AlikeOf : V → List ℕ → Type 0
-    AlikeOf v text = (c : CircuitData) × ReadsCircuitText text (Ok c) × alike v c
+    AlikeOf v text = (w : W) × seconds text (Ok w) × alike v w
 
     abbrev AlikeIn : List ℕ × List ℕ → Type 0
     AlikeIn parts = (v : V) × reads parts.0 (Ok v) × AlikeOf v parts.1
 
     abbrev Answers : List ℕ → Result Reply (List ℕ) → Type 0
-    Answers texts =
-        Then (CutsInTwo texts) (λ parts. Then (reads parts.0) (λ v. Then (ReadsCircuitText parts.1) (tells v)))
+    Answers texts = Then (CutsInTwo texts) (λ parts. Then (reads parts.0) (λ v. Then (seconds parts.1) (tells v)))
 
-    pub judged_one_or : (texts : List ℕ) → Answers texts x → Answers texts y →
-        (x ≡ y) ⊎ ((v : V) × (c : CircuitData) × ReadsBoth reads texts v c × alike v c)
-    judged_one_or texts h k =
+    pub both_one_or : (texts : List ℕ) → Answers texts x → Answers texts y →
+        (x ≡ y) ⊎ ((v : V) × (w : W) × ReadsTwo reads seconds texts v w × alike v w)
+    both_one_or texts h k =
         by (then_one_or (CutsInTwo texts) (λ (parts : List ℕ × List ℕ). Then (reads parts.0)
-        (λ v. Then (ReadsCircuitText parts.1) (tells v))) AlikeIn (cut_one texts) x y
-        (λ parts n m. then_one_or (reads parts.0) (λ v. Then (ReadsCircuitText parts.1) (tells v))
-        (λ v. AlikeOf v parts.1) (firsts parts.0) x y
-        (λ v n' m'. then_one_or (ReadsCircuitText parts.1) (tells v) (alike v) (circuits parts.1) x y (each v) n' m')
+        (λ v. Then (seconds parts.1) (tells v))) AlikeIn (cut_one texts) x y
+        (λ parts n m. then_one_or (reads parts.0) (λ v. Then (seconds parts.1) (tells v))
+        (λ v. AlikeOf v parts.1) (first_one parts.0) x y
+        (λ v n' m'. then_one_or (seconds parts.1) (tells v) (alike v) (second_one parts.1) x y (each v) n' m')
         n m) h k)
       where
         by : (x ≡ y) ⊎ ((parts : List ℕ × List ℕ) × CutsInTwo texts (Ok parts) × AlikeIn parts) →
-            (x ≡ y) ⊎ ((v : V) × (c : CircuitData) × ReadsBoth reads texts v c × alike v c)
+            (x ≡ y) ⊎ ((v : V) × (w : W) × ReadsTwo reads seconds texts v w × alike v w)
         by (inl same) = inl same
-        by (inr (parts, cuts, (v, first, (c, circuit, like)))) = inr (v, c, (parts, cuts, first, circuit), like)
+        by (inr (parts, cuts, (v, first, (w, second, like)))) = inr (v, w, (parts, cuts, first, second), like)
+
+pub judged_one_or : {V : Type 0} (reads : List ℕ → Result V (List ℕ) → Type 0)
+    (tells : V → CircuitData → Result Reply (List ℕ) → Type 0) (alike : V → CircuitData → Type 0)
+    (first_one : (text : List ℕ) → IsOne (reads text)) (circuits : (text : List ℕ) → IsOne (ReadsCircuitText text))
+    (x y : Result Reply (List ℕ)) (each : (v : V) (c : CircuitData) → tells v c x → tells v c y → (x ≡ y) ⊎ alike v c)
+    (texts : List ℕ) →
+    Then (CutsInTwo texts) (λ parts. Then (reads parts.0) (λ v. Then (ReadsCircuitText parts.1) (tells v))) x →
+    Then (CutsInTwo texts) (λ parts. Then (reads parts.0) (λ v. Then (ReadsCircuitText parts.1) (tells v))) y →
+    (x ≡ y) ⊎ ((v : V) × (c : CircuitData) × ReadsTwo reads ReadsCircuitText texts v c × alike v c)
+judged_one_or reads tells alike first_one circuits x y each texts h k =
+    both_one_or reads ReadsCircuitText tells alike first_one circuits x y each texts h k

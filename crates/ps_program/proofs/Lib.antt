@@ -5,6 +5,8 @@ pub mod CheckLemmas
 pub mod CheckedCertificates
 pub mod CircuitLemmas
 pub mod CommandLemmas
+pub mod CompareDetermined
+pub mod CompareLemmas
 pub mod ConfirmedStimuli
 pub mod FittingTexts
 pub mod HelpLemmas
@@ -40,6 +42,7 @@ pub mod SynthTlsfDetermined
 pub mod SynthTlsfLemmas
 pub mod TextLemmas
 pub mod TraceFromLetters
+pub mod TranslateDetermined
 pub mod TraceLemmas
 pub mod VerifiedCircuits
 pub mod VerifiedWinners

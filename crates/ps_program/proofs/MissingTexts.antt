@@ -10,6 +10,7 @@ use Rattle.ps_circuit.specs.Circuits.{IsCircuit}
 use Rattle.ps_simulate.specs.declared.role.Role.{Role}
 use Rattle.ps_program.specs.Automata.{ReadsAutomaton}
 use Rattle.ps_program.specs.Checks.{Tests}
+use Rattle.ps_program.specs.Comparing.{AnswersAgree, ComparesText}
 use Rattle.ps_program.specs.CommandLine.{cert_flag, compact_flag, moore_flag, order_given, role_given, synth_given}
 use Rattle.ps_program.specs.CommandLine.{tlsf_flag}
 use Rattle.ps_program.specs.Judging.{AnswersJudge, Judges, ReadsSolutionText, ReadsSolved}
@@ -180,6 +181,10 @@ shrink_missing order role texts fewer = both_fail (CutsInTwo texts) (λ (parts :
     Then (ReadsAutomaton parts.0) (λ file. ShrinksText order role file parts.1)) missing_text
     (two_missing texts fewer)
 
+agree_missing : (texts : List ℕ) → HasFewerSeparators 1 texts → Fails (AnswersAgree texts) missing_text
+agree_missing texts fewer = both_fail (CutsInTwo texts) (λ (parts : List ℕ × List ℕ).
+    Then (ReadsSpecificationText parts.0) (λ spec. ComparesText spec parts.1)) missing_text (two_missing texts fewer)
+
 pub texts_needed : (solvers : Solvers) → NeedsItsTexts solvers
 texts_needed solvers = (
   λ given texts outcome allowed fewer answers. tests_missing IsClosed (codes "closed") texts fewer outcome answers,
@@ -201,17 +206,23 @@ texts_needed solvers = (
                   fewer
                   outcome answers,
               (
-                λ given texts outcome allowed fewer answers. absurd fewer,
+                λ given texts outcome allowed fewer answers. agree_missing texts fewer outcome answers,
                 (
                   λ given texts outcome allowed fewer answers. absurd fewer,
                   (
                     λ given texts outcome allowed fewer answers. absurd fewer,
                     (
-                      λ given texts outcome allowed fewer answers. synth_given_missing solvers (given tlsf_flag)
-                          (given moore_flag) (synth_given given) texts allowed
-                          (subst (λ (n : ℕ). HasFewerSeparators (n - 1) texts) (synth_counted (given cert_flag)) fewer)
-                          outcome answers,
-                      (λ given texts outcome allowed fewer answers. absurd fewer, tt),
+                      λ given texts outcome allowed fewer answers. absurd fewer,
+                      (
+                        λ given texts outcome allowed fewer answers. absurd fewer,
+                        (
+                          λ given texts outcome allowed fewer answers. synth_given_missing solvers (given tlsf_flag)
+                              (given moore_flag) (synth_given given) texts allowed
+                              (subst (λ (n : ℕ). HasFewerSeparators (n - 1) texts) (synth_counted (given cert_flag))
+                              fewer) outcome answers,
+                          (λ given texts outcome allowed fewer answers. absurd fewer, tt),
+                        ),
+                      ),
                     ),
                   ),
                 ),

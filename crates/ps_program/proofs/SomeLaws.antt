@@ -53,6 +53,15 @@ abbrev pub GoodOrFlawed : (ParityGame → CertificateData → Type 0) → Parity
 GoodOrFlawed IsGood arena given =
     IsGood arena given ⊎ (¬ IsGood arena given × ((flaw : Flaw) × IsFirstFlaw arena given flaw))
 
+abbrev pub NamesDiffer : Type 0
+NamesDiffer = (text : List ℕ) (s : Specification) → answer_of text ≡ Ok s → AllPairs ◌≢◌ (names_in s.names)
+
+abbrev pub WordIsThere : Type 0
+WordIsThere =
+    (role : Role) (names : List (List ℕ)) (controllable : List ℕ) (c : CircuitData) (stem lap : List (List Bool)) →
+    AreDistinct names → IsCircuit c → HasSymbols role names controllable c → AreWide c stem lap → 0 < length lap →
+    (word : TraceWordData) × IsWordOf names c stem lap word
+
 pub record Below : Type 0 where
   -- games and certificates
   pub some_game : (text : List ℕ) → (answer : Result NamedGameData (Found PgCause)) × Answer text answer
@@ -95,10 +104,8 @@ pub record Below : Type 0 where
       IsAdmitted file → IsCircuit c → HasSymbols role file.names file.controllable c → AreWide c stem lap →
       0 < length lap → (verdict : Verdict) × IsVerdictOf file c stem lap verdict
   -- the laws about specifications, and about words of runs
-  pub names_differ : (text : List ℕ) (s : Specification) → answer_of text ≡ Ok s → AllPairs ◌≢◌ (names_in s.names)
-  pub word : (role : Role) (names : List (List ℕ)) (controllable : List ℕ) (c : CircuitData)
-      (stem lap : List (List Bool)) → AreDistinct names → IsCircuit c → HasSymbols role names controllable c →
-      AreWide c stem lap → 0 < length lap → (word : TraceWordData) × IsWordOf names c stem lap word
+  pub names_differ : NamesDiffer
+  pub word : WordIsThere
   pub decided : (stem lap : List ℕ) → 0 < length lap → IsDecidedWord (lasso_word stem lap)
   -- the laws about the circuit that a certificate gives the winner
   pub winners_circuit : (order : Order) (file : FileData) (game : NamedGameData)

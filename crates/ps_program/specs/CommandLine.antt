@@ -20,11 +20,11 @@ use Rattle.ps_simulate.specs.declared.role.Role.TheVariants.{Controller, Environ
 use Rattle.ps_program.specs.declared.commands.Line.{Line}
 use Rattle.ps_program.specs.declared.commands.Line.TheVariants.{Refused, Help, Closed, Check, Judge, Sim, Lasso}
 use Rattle.ps_program.specs.declared.commands.Line.TheVariants.{LassoTlsf, Verify, VerifyTlsf, Shrink, Solve, Game}
-use Rattle.ps_program.specs.declared.commands.Line.TheVariants.{Cert, Synth, SynthTlsf}
+use Rattle.ps_program.specs.declared.commands.Line.TheVariants.{Agree, Cert, Synth, SynthTlsf, Translate}
 use Rattle.ps_program.specs.declared.commands.SynthLine.{SynthLine}
 use Rattle.ps_program.specs.declared.commands.TheConstants.{ON_CLOSED, ON_CHECK, ON_JUDGE, ON_SIM, ON_LASSO}
 use Rattle.ps_program.specs.declared.commands.TheConstants.{ON_VERIFY, ON_SHRINK, ON_SOLVE, ON_GAME, ON_CERT}
-use Rattle.ps_program.specs.declared.commands.TheConstants.{ON_SYNTH, ON_HELP}
+use Rattle.ps_program.specs.declared.commands.TheConstants.{ON_AGREE, ON_TRANSLATE, ON_SYNTH, ON_HELP}
 use Rattle.ps_program.specs.declared.commands.TextKind.{TextKind}
 use Rattle.ps_program.specs.declared.commands.TextKind.TheVariants as kind
 
@@ -156,6 +156,22 @@ commands =
       replaced = [];
       line = λ given. Shrink (order_given given) (role_given given);
       says = ON_SHRINK.now;
+    } ∷ record {
+      name = codes "agree";
+      flags = [];
+      texts = kind.Specification ∷ kind.Automaton ∷ [];
+      added = [];
+      replaced = [];
+      line = λ given. Agree;
+      says = ON_AGREE.now;
+    } ∷ record {
+      name = codes "translate";
+      flags = [];
+      texts = kind.Specification ∷ [];
+      added = [];
+      replaced = [];
+      line = λ given. Translate;
+      says = ON_TRANSLATE.now;
     } ∷ record {
       name = codes "solve";
       flags = compact_flag ∷ [];

@@ -1,10 +1,12 @@
--- The program's answer is determined, with four exceptions: which cycle `judge` reports if a player loses, which
--- stimulus `verify` (also with `--tlsf`) and `shrink` report, which smaller circuit `shrink` prints, and which
--- certificate a solver, or which circuit `synth --tlsf`, chooses. Even in the exceptional cases, any two answers have
--- something in common.
+-- The program's answer is determined, with five exceptions: which cycle `judge` reports if a player loses, which
+-- stimulus `verify` (also with `--tlsf`) and `shrink` report, which smaller circuit `shrink` prints, which lasso `agree`
+-- reports, and which certificate a solver, which circuit `synth --tlsf`, or which automaton `translate` chooses. Even in
+-- the exceptional cases, any two answers have something in common.
 -- - `IsUndetermined line texts`: for these texts, the command in the line may have more than one correct answer
 -- - `IsReplaying solver`: the solver only returns the result of parsing the text that it was fed, unless memory runs
 --   out
+-- - `AgreeAsDiffering spec file a b`: both answers show a lasso on which the automaton and the specification differ
+-- - `AgreeAsTranslations text a b`: both answers are texts of automata that agree with the specification
 -- - `AgreeInRole text a b`: both answers show circuits of the same role that answer the specification
 -- - `AgreeAsReports order full compact text a b`: both answers show the same winner of the automaton's game
 -- - `AgreeInWinners compact game a b`: the answers a and b print certificates of the game with the same winners
@@ -28,7 +30,8 @@ use Rattle.ps_simulate.specs.Stimuli.{StimulusData}
 use Rattle.ps_simulate.specs.declared.role.Role.{Role}
 use Rattle.ps_verify.specs.Judgements.{IsLosing, IsWinning}
 use Rattle.ps_solution.specs.Solved.{SolutionData}
-use Rattle.ps_specification.specs.Promises.{KeepsSpecification}
+use Rattle.ps_models.specs.declared.agreement.Agreement.{Agreement}
+use Rattle.ps_specification.specs.Promises.{KeepsSpecification, KeepsTranslation}
 use Rattle.ps_tlsf.specs.Specifications.{Specification}
 use Rattle.ps_hoa.specs.Files.{FileData}
 use Rattle.ps_machine.specs.FileGames.{IsGameOfFile}
@@ -38,6 +41,7 @@ use Rattle.ps_machine.specs.declared.fault.SolveFault.{SolveFault}
 use Rattle.ps_machine.specs.declared.key.Order.{Order}
 use Rattle.ps_synthesis.specs.Promises.{IsAcceptedText, SynthesisData}
 use Rattle.ps_program.specs.CommandLine.{Usage, IsLine, commands}
+use Rattle.ps_program.specs.Comparing.{ReadsCompared, TellsDifference, agreement_text}
 use Rattle.ps_program.specs.Cut.{HasFewerSeparators, behind_line, first_line}
 use Rattle.ps_program.specs.Games.{ReadsGameOf}
 use Rattle.ps_program.specs.Judging.{ReadsSolved, Loses, LosesCycle, cycle_text}
@@ -52,7 +56,8 @@ use Rattle.ps_program.specs.VerifyingTlsf.{LosesSpecified, ReadsSpecified}
 use Rattle.ps_program.specs.Texts.{CutsInTwo, ReadsGameText, ReadsSpecificationText, missing_text}
 use Rattle.ps_program.specs.declared.commands.Line.{Line}
 use Rattle.ps_program.specs.declared.commands.Line.TheVariants.{Refused, Judge, Verify, VerifyTlsf, Shrink, Solve, Cert}
-use Rattle.ps_program.specs.declared.commands.Line.TheVariants.{Synth, SynthTlsf}
+use Rattle.ps_program.specs.declared.commands.Line.TheVariants.{Synth, SynthTlsf, Translate}
+use Rattle.ps_program.specs.declared.commands.Line.TheVariants as line
 use Rattle.ps_program.specs.declared.commands.SynthLine.{SynthLine}
 
 abbrev pub HasAutomaton : List ℕ → Type 0
@@ -63,11 +68,12 @@ abbrev pub AsksFor : (cert : Bool) → List ℕ → List ℕ → Type 0
 AsksFor false texts text = texts ≡ text
 AsksFor true texts text = (certificate : List ℕ) × CutsInTwo texts (Ok (text, certificate))
 
--- A command allows several answers in four cases. If a solver is called for a game or an automaton, any winning moves
+-- A command allows several answers in these cases. If a solver is called for a game or an automaton, any winning moves
 -- may be printed. If a judged solution allows a cycle that makes a player lose, any cycle of this kind may be reported.
 -- If a verified circuit loses, any stimulus on which it loses may be reported; and so it is with a circuit that is to
--- be made smaller. If it wins, any circuit that wins and is not larger may be printed. For a specification, any circuit
--- that answers it may be printed, or a fault in its place.
+-- be made smaller. If it wins, any circuit that wins and is not larger may be printed. If an automaton and a
+-- specification differ, any lasso on which they do may be reported. For a specification, any circuit that answers it may
+-- be printed, or any automaton that agrees with it, or a fault in its place.
 abbrev pub IsUndetermined : Line → List ℕ → Type 0
 IsUndetermined (Judge compact) texts =
     (named : NamedGameData) × (given : SolutionData) × ReadsSolved texts (Ok (named, given)) × LosesCycle named given
@@ -83,6 +89,10 @@ IsUndetermined (Shrink order role) texts =
 IsUndetermined (Solve compact) text = (game : NamedGameData) × ReadsGameText text (Ok game)
 IsUndetermined (Cert order compact) text = HasAutomaton text
 IsUndetermined (Synth asked) texts = (text : List ℕ) × AsksFor asked.cert texts text × HasAutomaton text
+IsUndetermined line.Agree texts =
+    (spec : Specification) × (file : FileData) × ReadsCompared texts spec file ×
+    ((agreement : Agreement) × TellsDifference spec file agreement)
+IsUndetermined Translate text = (spec : Specification) × ReadsSpecificationText text (Ok spec)
 IsUndetermined SynthTlsf text = (spec : Specification) × ReadsSpecificationText text (Ok spec)
 IsUndetermined line texts = ⊥
 
@@ -149,6 +159,24 @@ pub record AgreeInRole (text : List ℕ) (a b : Reply) : Type 0 where
   pub is_one : a ≡ winner_reply role one
   pub is_other : b ≡ winner_reply role other
 
+-- each of two answers prints a lasso on which the automaton and the specification differ
+pub record AgreeAsDiffering (spec : Specification) (file : FileData) (a b : Reply) : Type 0 where
+  pub one : Agreement
+  pub other : Agreement
+  pub one_differs : TellsDifference spec file one
+  pub other_differs : TellsDifference spec file other
+  pub is_one : a ≡ text_reply (agreement_text (length spec.names) one)
+  pub is_other : b ≡ text_reply (agreement_text (length spec.names) other)
+
+-- two answers print texts of automata that accept exactly the lassos which satisfy the specification
+pub record AgreeAsTranslations (text : List ℕ) (a b : Reply) : Type 0 where
+  pub one : List ℕ
+  pub other : List ℕ
+  pub one_translates : KeepsTranslation text one
+  pub other_translates : KeepsTranslation text other
+  pub is_one : a ≡ text_reply one
+  pub is_other : b ≡ text_reply other
+
 -- what two answers to a command have in common; `text` or `texts` is the input after its first line. If the command
 -- calls a solver, this is what two answers have in common that report no fault.
 abbrev pub Agree : Line → List ℕ → Reply → Reply → Type 0
@@ -168,6 +196,9 @@ Agree (Cert order compact) text a b =
     (game : NamedGameData) × ReadsGameOf order text (Ok game) × AgreeInWinners compact game a b
 Agree (Synth asked) texts a b =
     (text : List ℕ) × AsksFor asked.cert texts text × AgreeAsReports asked.order asked.full asked.compact text a b
+Agree line.Agree texts a b =
+    (spec : Specification) × (file : FileData) × ReadsCompared texts spec file × AgreeAsDiffering spec file a b
+Agree Translate text a b = AgreeAsTranslations text a b
 Agree SynthTlsf text a b = AgreeInRole text a b
 Agree line texts a b = a ≡ b
 
@@ -180,6 +211,7 @@ AgreeOrFault (Judge compact) texts a b = Agree (Judge compact) texts a b
 AgreeOrFault (Verify order role) texts a b = Agree (Verify order role) texts a b
 AgreeOrFault (VerifyTlsf role) texts a b = Agree (VerifyTlsf role) texts a b
 AgreeOrFault (Shrink order role) texts a b = Agree (Shrink order role) texts a b
+AgreeOrFault line.Agree texts a b = Agree line.Agree texts a b
 AgreeOrFault line texts a b = IsFaultReply a ⊎ IsFaultReply b ⊎ Agree line texts a b
 
 -- Any two answers to the same input are equal, unless the input's command allows several answers (`IsUndetermined`).

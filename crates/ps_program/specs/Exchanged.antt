@@ -18,12 +18,15 @@ use Rattle.ps_hoa.specs.Files.{FileData}
 use Rattle.ps_machine.specs.Solvers.{SolverData}
 use Rattle.ps_machine.specs.Solving.{IsCertified}
 use Rattle.ps_machine.specs.declared.key.Order.{Order}
+use Rattle.ps_simulate.specs.Lassos.{IsWordOf}
 use Rattle.ps_simulate.specs.Stimuli.{StimulusData}
+use Rattle.ps_simulate.specs.Words.{TraceWordData}
 use Rattle.ps_simulate.specs.declared.role.Role.{Role}
 use Rattle.ps_simulate.specs.declared.role.Role.TheVariants.{Controller, Environment}
 use Rattle.ps_synthesis.specs.Printing.{PrintsCircuit}
 use Rattle.ps_synthesis.specs.Promises.{SynthesisData}
 use Rattle.ps_specification.specs.Promises.{KeepsSpecification}
+use Rattle.ps_tlsf.specs.Names.{names_in}
 use Rattle.ps_tlsf.specs.Specifications.{Specification}
 use Rattle.ps_verify.specs.Judgements.{IsLosing}
 use Rattle.ps_program.specs.Checks.{AnswersCheck}
@@ -31,7 +34,7 @@ use Rattle.ps_program.specs.Replies.{Reply, line_reply}
 use Rattle.ps_program.specs.Synthesis.{Synthesises, is_realizable}
 use Rattle.ps_program.specs.Texts.{CutsInThree, CutsInTwo, ReadsCircuitText, ReadsGameText, ReadsSpecificationText}
 use Rattle.ps_program.specs.Texts.{ReadsStimulusText}
-use Rattle.ps_program.specs.Satisfying.{AnswersLassoTlsf, satisfaction_of}
+use Rattle.ps_program.specs.Satisfying.{AnswersLassoTlsf, satisfaction_text}
 use Rattle.ps_program.specs.Automata.{ReadsAutomaton}
 use Rattle.ps_program.specs.Shrinking.{IsSmallerReply}
 use Rattle.ps_program.specs.Verifying.{AnswersVerify, stimulus_text, wins_reply}
@@ -45,18 +48,21 @@ abbrev pub ReadsLosingSpecified : Type 0
 ReadsLosingSpecified = (role : Role) (spec : Specification) (c : CircuitData) (s : StimulusData) →
     LosesSpecified role spec c s → ReadsStimulusText (length c.inputs) true (stimulus_text s) (Ok s)
 
--- the answer which states that the circuit loses on a stimulus: a controller's trace violates the specification, and an
--- environment's trace satisfies it
-abbrev pub confirming_reply : Role → StimulusData → Reply
-confirming_reply Controller s = line_reply (satisfaction_of false (length s.stem) (length s.lap))
-confirming_reply Environment s = line_reply (satisfaction_of true (length s.stem) (length s.lap))
+-- the answer which states that the circuit loses on a stimulus: the word of a controller's circuit violates the
+-- specification, and that of an environment's circuit satisfies it
+abbrev pub confirming_reply : Role → TraceWordData → Reply
+confirming_reply Controller word = line_reply (satisfaction_text false word)
+confirming_reply Environment word = line_reply (satisfaction_text true word)
 
--- `texts` are the texts of a specification and of a circuit, and a stimulus on which the circuit loses
+-- `texts` are the texts of a specification and of a circuit, and a stimulus on which the circuit loses. The answer has
+-- the lengths of the stem and the lap of the word that `lasso --tlsf` finds.
 abbrev pub ConfirmsLosing : Type 0
-ConfirmsLosing = (role : Role) (spec : Specification) (c : CircuitData) (s : StimulusData) (tlsf aag texts : List ℕ)
-    (outcome : Result Reply (List ℕ)) → ReadsSpecificationText tlsf (Ok spec) → ReadsCircuitText aag (Ok c) →
+ConfirmsLosing = (role : Role) (spec : Specification) (c : CircuitData) (s : StimulusData)
+    (tlsf aag texts : List ℕ) → ReadsSpecificationText tlsf (Ok spec) → ReadsCircuitText aag (Ok c) →
     LosesSpecified role spec c s → CutsInThree texts (Ok (tlsf, aag, stimulus_text s)) →
-    AnswersLassoTlsf role texts outcome ↔ (outcome ≡ Ok (confirming_reply role s))
+    (word : TraceWordData) × IsWordOf (names_in spec.names) c s.stem s.lap word
+    × ((outcome : Result Reply (List ℕ)) →
+    AnswersLassoTlsf role texts outcome ↔ (outcome ≡ Ok (confirming_reply role word)))
 
 -- `texts` are the text of a game, and the plain or compact text of a certificate that fits it and is valid; the numbers
 -- of both fit in 64 bits

@@ -24,10 +24,10 @@ abbrev pub kinds_text : List TextKind → List ℕ
 kinds_text [] = []
 kinds_text (kind ∷ kinds) = kind_text kind ++ further_kinds kinds
 
--- the line of `help` for a command: its name in a column of nine bytes, the kinds of its texts, and a description
+-- the line of `help` for a command: its name in a column of eleven bytes, the kinds of its texts, and a description
 abbrev pub usage_text : Usage → List ℕ
 usage_text usage =
-    usage.name ++ replicate (9 - length usage.name) 32 ++ kinds_text usage.texts ++ usage.says ++ codes "\n"
+    usage.name ++ replicate (11 - length usage.name) 32 ++ kinds_text usage.texts ++ usage.says ++ codes "\n"
 
 -- the help text: an introduction, a line for each command, and a description of the formats
 unfoldable pub help_text : List ℕ

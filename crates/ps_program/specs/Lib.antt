@@ -2,6 +2,7 @@ pub mod Answered
 pub mod Automata
 pub mod Checks
 pub mod CommandLine
+pub mod Comparing
 pub mod Cut
 pub mod Determined
 pub mod Exchanged
@@ -25,6 +26,7 @@ pub mod Streams
 pub mod Synthesis
 pub mod SynthesisTlsf
 pub mod Texts
+pub mod TranslationTexts
 pub mod Shrinking
 pub mod Verifying
 pub mod VerifyingTlsf

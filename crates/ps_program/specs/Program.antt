@@ -4,10 +4,12 @@ use Rattle.std.specs.Io.KnownBytes.{Appends}
 use Rattle.ps_program.specs.declared.commands.Line.{Line}
 use Rattle.ps_program.specs.declared.commands.Line.TheVariants.{Refused, Help, Closed, Check, Judge, Sim, Lasso}
 use Rattle.ps_program.specs.declared.commands.Line.TheVariants.{LassoTlsf, Verify, VerifyTlsf, Shrink, Solve, Game}
+use Rattle.ps_program.specs.declared.commands.Line.TheVariants.{Agree, Translate}
 use Rattle.ps_program.specs.declared.commands.Line.TheVariants.{Cert, Synth, SynthTlsf}
 use Rattle.ps_specification.specs.Translating.{own_translator}
 use Rattle.ps_program.specs.CommandLine.{IsLine}
 use Rattle.ps_program.specs.Checks.{AnswersClosed, AnswersCheck}
+use Rattle.ps_program.specs.Comparing.{AnswersAgree}
 use Rattle.ps_program.specs.Cut.{first_line, behind_line}
 use Rattle.ps_program.specs.Games.{AnswersGameText, AnswersCert}
 use Rattle.ps_program.specs.Input.{AgreesWith, input_limit}
@@ -23,6 +25,7 @@ use Rattle.ps_program.specs.Solving.{AnswersSolve}
 use Rattle.ps_program.specs.Streams.{SinkState, AppendsSome, Breaks}
 use Rattle.ps_program.specs.Synthesis.{AnswersSynth}
 use Rattle.ps_program.specs.SynthesisTlsf.{AnswersSynthTlsf}
+use Rattle.ps_program.specs.TranslationTexts.{AnswersTranslate}
 use Rattle.ps_program.specs.Verifying.{AnswersVerify}
 use Rattle.ps_program.specs.VerifyingTlsf.{AnswersVerifyTlsf}
 
@@ -40,6 +43,8 @@ AnswersLine solvers (LassoTlsf role) texts outcome = AnswersLassoTlsf role texts
 AnswersLine solvers (Verify order role) texts outcome = AnswersVerify order role texts outcome
 AnswersLine solvers (VerifyTlsf role) texts outcome = AnswersVerifyTlsf role texts outcome
 AnswersLine solvers (Shrink order role) texts outcome = AnswersShrink order role texts outcome
+AnswersLine solvers Agree texts outcome = AnswersAgree texts outcome
+AnswersLine solvers Translate text outcome = AnswersTranslate own_translator text outcome
 AnswersLine solvers (Solve compact) texts outcome = AnswersSolve solvers.built_in compact texts outcome
 AnswersLine solvers (Game order) texts outcome = AnswersGameText order texts outcome
 AnswersLine solvers (Cert order compact) texts outcome = AnswersCert solvers.built_in order compact texts outcome

@@ -14,30 +14,28 @@ const DONE: u8 = 0;
 /// The exit status of a fault.
 pub const FAULT: u8 = 1;
 
-/// The exit status if the circuit is a controller.
+/// That of a controller.
 pub const REALIZABLE: u8 = 10;
 
-/// The exit status if the circuit is an environment.
+/// That of an environment.
 pub const UNREALIZABLE: u8 = 20;
 
-/// The exit status of a rejected command line.
 const REFUSED: u8 = 2;
 
-/// The answer to a rejected command line.
 const USAGE: &str = "fault usage\n";
 
-/// The answer to an input that can't be read.
+/// The answer if the input can't be read.
 pub const READ_FAULT: &[u8] = b"fault 25 ReadFault\n";
 
 /// The answer if memory runs out.
 pub const OUT_OF_MEMORY: &[u8] = b"fault 24 OutOfMemory\n";
 
-/// What the program writes, and its exit status. Each function of `Answer` except `text` fails if memory runs out.
+/// What the program writes, and its exit status. All calls but `text` fail if memory runs out.
 #[derive(Drop)]
 pub struct Answer {
-    /// The bytes of the answer, which are written to standard output.
+    /// What is written to standard output.
     pub text: Vec<u8>,
-    /// The exit status.
+    /// One of those above.
     pub status: u8,
 }
 
@@ -46,14 +44,14 @@ impl Answer {
     ghost use Rattle.ps_program.specs.Replies.{reply_of, fault_reply, line_reply};
     ghost use Rattle.ps_program.specs.Replies as reply;
 
-    /// An answer that consists of the given text.
+    /// An answer that is this text.
     pub fn text(text: Vec<u8>) -> Answer
         ensures { reply_of result ≡ reply.text_reply text.items }
     {
         Answer { text, status: DONE }
     }
 
-    /// An answer that consists of the given line.
+    /// An answer that is this line.
     pub fn line(alloc: Global, line: &str) -> Result<Answer, AllocError>
         ensures { IfOk result (λ answer. reply_of answer ≡ line_reply line.now) }
     {
@@ -72,7 +70,7 @@ impl Answer {
         })
     }
 
-    /// The answer to a rejected command line.
+    /// If the command line is rejected.
     pub fn usage(alloc: Global) -> Result<Answer, AllocError>
         ensures { IfOk result (λ answer. reply_of answer ≡ reply.usage) }
     {
@@ -83,7 +81,7 @@ impl Answer {
         })
     }
 
-    /// The answer to a request for help.
+    /// The text of `help`.
     pub fn help(alloc: Global) -> Result<Answer, AllocError>
         ensures { IfOk result (λ answer. reply_of answer ≡ reply.help) }
     {
@@ -92,10 +90,10 @@ impl Answer {
     }
 }
 
-/// Why a command gives no result: a fault, or lack of memory.
+/// Why a command gives no result.
 #[derive(Drop)]
 pub enum Refusal {
-    /// A fault, which the program reports by a line.
+    /// The program reports this line.
     Fault(FaultLine),
     /// Memory ran out.
     OutOfMemory,
@@ -111,8 +109,7 @@ impl From<AllocError> for Refusal {
     }
 }
 
-/// A text's fault becomes a line with the number and the name of its cause, and with its offset in the text. Lack of
-/// memory has no line.
+/// The number and the name of the cause, with the offset in the text.
 impl<C: Cause> From<Fault<C>> for Refusal {
     ghost use Rattle.ps_program.specs.Refusals.{IsRefusalOf};
 
@@ -130,8 +127,7 @@ impl<C: Cause> From<Fault<C>> for Refusal {
     }
 }
 
-/// What the program prints after a command: the command's answer, or the line that reports its fault. Fails if memory
-/// runs out.
+/// A command's answer, or the line of its fault. Fails if memory runs out.
 pub fn settle(alloc: Global, outcome: Result<Answer, Refusal>) -> Result<Answer, AllocError>
     ensures { IfOk result (Settles outcome) }
 {

@@ -1,4 +1,4 @@
-//! The automaton of an HOA text, for the commands whose first text is an HOA text.
+//! The automaton of a command's first text.
 
 ghost use Rattle.ps_program.specs.Automata.{GivesAutomaton};
 
@@ -6,11 +6,7 @@ use crate::answer::Refusal;
 use ps_automaton::Automaton;
 use std::alloc::Global;
 
-/// The automaton of an HOA text.
-///
-/// # Errors
-///
-/// Fails with the first error of the text, or because the file has no automaton; fails at any time if memory runs out.
+/// The automaton of an HOA text. Fails with the text's first error, or because the file has no automaton.
 pub fn read_automaton(alloc: Global, text: &[u8]) -> Result<Automaton, Refusal>
     ensures { GivesAutomaton text.now result }
 {

@@ -1,4 +1,4 @@
-//! The command line, which is the first line of the input.
+//! The command line.
 
 ghost use Rattle.std.specs.Prelude.{◌≡◌, ◌↔◌, ◌<◌, false, length, All, List, IfOk, IsTrue, find, map};
 ghost use Rattle.std.specs.Option.{option_copied};
@@ -20,7 +20,7 @@ use ps_machine::Order;
 use ps_simulate::Role;
 use std::alloc::{AllocError, Global};
 
-/// Reads the first line of the input as a command line. Fails if memory runs out.
+/// Reads the first line of the input. Fails if memory runs out.
 pub fn read_line(alloc: Global, line: &[u8]) -> Result<Line, AllocError>
     ensures { IfOk result (IsLine line.now) }
 {
@@ -30,14 +30,13 @@ pub fn read_line(alloc: Global, line: &[u8]) -> Result<Line, AllocError>
     }
 }
 
-/// A law. A line with a command's name and some of its own flags, each once, in any order, is accepted as this command,
-/// unless some of the flags exclude each other: such a line is refused. `--help` and `-h` ask for help.
+/// A law. A command's name with some of its own flags, each once, in any order, is accepted as this command, but
+/// refused if some of the flags exclude each other. `--help` and `-h` ask for help.
 pub fn lines_are_read()
     ensures lines { LinesAreRead }
     ensures help { AskForHelp }
 {}
 
-/// The words of a line, which are separated by spaces.
 fn split_words(alloc: Global, text: &str) -> Result<Vec<&str>, AllocError>
     ensures { IfOk result (λ words. map (λ word. word.now) words.items ≡ words_of text.now) }
 {
@@ -46,7 +45,7 @@ fn split_words(alloc: Global, text: &str) -> Result<Vec<&str>, AllocError>
         .collect(alloc)
 }
 
-/// Whether the first word of a command line is longer than the name of every command, and does not begin with a hyphen.
+/// Whether a first word is too long for a command's name, and begins with no hyphen.
 fn names_nothing(word: &str) -> bool
     ensures { IsTrue result → NamesNothing word.now }
 {
@@ -56,15 +55,13 @@ fn names_nothing(word: &str) -> bool
     }
 }
 
-/// Whether a word is longer than the name of each given command.
 fn is_longer(usages: &[Usage<'_>], word: &str) -> bool
     ensures { IsTrue result ↔ All (λ usage. length usage.name.now < length word.now) usages.now }
 {
     usages.iter().all(|usage| usage.name.len() < word.len())
 }
 
-/// Reads the words of a command line. If the first word is too long for a command's name (`names_nothing`), the line is
-/// refused at once, without a search for similar names.
+/// Reads the words of a line. If the first one names nothing, no similar names are searched for.
 fn read_words(alloc: Global, words: &[&str]) -> Result<Line, AllocError>
     ensures { IfOk result (Says (map (λ word. word.now) words.now)) }
 {
@@ -76,7 +73,6 @@ fn read_words(alloc: Global, words: &[&str]) -> Result<Line, AllocError>
     parse_words(alloc, words)
 }
 
-/// Reads the words of a command line by means of the parser clap, which is given the table of commands.
 fn parse_words(alloc: Global, words: &[&str]) -> Result<Line, AllocError>
     ensures { IfOk result (Says (map (λ word. word.now) words.now)) }
 {
@@ -90,7 +86,6 @@ fn parse_words(alloc: Global, words: &[&str]) -> Result<Line, AllocError>
     }
 }
 
-/// The flag with this name, which is written after `--`.
 fn flag<'a>(alloc: Global, name: &'a str) -> Arg<'a>
     ensures rule { rule_of result ≡ words.flag name.now }
     ensures local { result.global ≡ false }
@@ -98,14 +93,13 @@ fn flag<'a>(alloc: Global, name: &'a str) -> Arg<'a>
     Arg::new(alloc, name).long(name).action(ArgAction::SetTrue)
 }
 
-/// The program with all its commands, as the parser clap needs it.
+/// The commands for clap.
 fn table<'a>(alloc: Global) -> Result<Command<'a>, AllocError>
     ensures { IfOk result (λ command. app_of command ≡ words.table) }
 {
     with_commands(alloc, usages())
 }
 
-/// The program with the given commands, as the parser clap needs it.
 fn with_commands<'a>(alloc: Global, usages: &[Usage<'a>]) -> Result<Command<'a>, AllocError>
     ensures { IfOk result (λ command. app_of command ≡ words.with_commands words.program
         (map usage_of usages.now)) }
@@ -117,7 +111,7 @@ fn with_commands<'a>(alloc: Global, usages: &[Usage<'a>]) -> Result<Command<'a>,
     Ok(psyn)
 }
 
-/// The program without commands, as the parser clap needs it. The first word of a line is not the program's name.
+/// The program without commands. Its name begins no line.
 fn program<'a>(alloc: Global) -> Command<'a>
     ensures { app_of result ≡ words.program }
 {
@@ -126,7 +120,6 @@ fn program<'a>(alloc: Global) -> Command<'a>
         .disable_help_subcommand(true)
 }
 
-/// Adds a command with flags of its own to the program.
 fn with_command<'a>(
     alloc: Global,
     psyn: Command<'a>,
@@ -139,7 +132,6 @@ fn with_command<'a>(
     psyn.subcommand(command_with(alloc, name, flags)?)
 }
 
-/// A command with flags of its own.
 fn command_with<'a>(
     alloc: Global,
     name: &'a str,
@@ -154,7 +146,6 @@ fn command_with<'a>(
     Ok(command)
 }
 
-/// The command line as a `Line`, from its parsed words.
 fn line_of(matches: &ArgMatches) -> Line
     ensures { result ≡ line_said (subcommand_rows_of matches.now) }
 {
@@ -164,7 +155,6 @@ fn line_of(matches: &ArgMatches) -> Line
     }
 }
 
-/// The `Line` that a command's name and the given flags mean.
 fn line_named(name: &str, flags: &ArgMatches) -> Line
     ensures { result ≡ words.line_named name.now (λ flag. words.is_given flag (rows_of (found_of flags.now))) }
 {
@@ -174,14 +164,13 @@ fn line_named(name: &str, flags: &ArgMatches) -> Line
     }
 }
 
-/// The command that has the given name.
 fn usage_named<'a>(usages: &'a [Usage<'a>], name: &str) -> Option<&'a Usage<'a>>
     ensures { option_copied result ≡ find (λ usage. bytes_eq usage.name.now name.now) usages.now }
 {
     usages.iter().find(|usage| usage.name == name)
 }
 
-/// The role of the circuit: an environment if the flag `--env` is given, and otherwise a controller.
+/// A controller, or with `--env` an environment.
 pub fn role_given(flags: &ArgMatches) -> Role
     ensures { result ≡ words.role_given (λ name. words.is_given name (rows_of (found_of flags.now))) }
 {
@@ -192,8 +181,7 @@ pub fn role_given(flags: &ArgMatches) -> Role
     }
 }
 
-/// What `lasso` asks for: an automaton's verdict or, if the flag `--tlsf` is given, whether a specification is
-/// satisfied.
+/// `lasso`, or with `--tlsf` the same by a specification.
 pub fn lasso_given(flags: &ArgMatches) -> Line
     ensures { result ≡ words.lasso_given (λ name. words.is_given name (rows_of (found_of flags.now))) }
 {
@@ -205,8 +193,8 @@ pub fn lasso_given(flags: &ArgMatches) -> Line
     }
 }
 
-/// What `verify` asks for: the judgement by an automaton or, if the flag `--tlsf` is given, by a specification. A
-/// specification states the order of moves, so `--moore` and `--tlsf` exclude each other.
+/// `verify`, or with `--tlsf` the same by a specification, which states the order of moves, so that `--moore` is
+/// refused.
 pub fn verify_given(flags: &ArgMatches) -> Line
     ensures { result ≡ words.verify_given (λ name. words.is_given name (rows_of (found_of flags.now))) }
 {
@@ -221,8 +209,8 @@ pub fn verify_given(flags: &ArgMatches) -> Line
     }
 }
 
-/// What `synth` asks for: a circuit for an automaton or, if the flag `--tlsf` is given, for a specification. A
-/// specification states the order of moves, and only its circuit is printed, so `--tlsf` excludes each other flag.
+/// `synth`, or with `--tlsf` the same for a specification. Other flags are refused with it: a specification states the
+/// order of moves, and only the circuit is printed.
 pub fn synth_given(flags: &ArgMatches) -> Line
     ensures { result ≡ words.synth_line_given (λ name. words.is_given name (rows_of (found_of flags.now))) }
 {
@@ -236,7 +224,6 @@ pub fn synth_given(flags: &ArgMatches) -> Line
     }
 }
 
-/// Which circuit `synth` is asked for, and what is printed with it.
 fn asked_given(flags: &ArgMatches) -> SynthLine
     ensures { result ≡ words.synth_given (λ name. words.is_given name (rows_of (found_of flags.now))) }
 {
@@ -248,7 +235,7 @@ fn asked_given(flags: &ArgMatches) -> SynthLine
     }
 }
 
-/// The order of moves: outputs before inputs if the flag `--moore` is given, and otherwise inputs before outputs.
+/// Inputs before outputs, or with `--moore` outputs before inputs.
 pub fn order_given(flags: &ArgMatches) -> Order
     ensures { result ≡ words.order_given (λ name. words.is_given name (rows_of (found_of flags.now))) }
 {

@@ -1,4 +1,4 @@
-//! The commands: how each is called, what it reads, and which function answers it.
+//! The commands: how each is called, and what it reads. Each also fails if memory runs out.
 
 ghost use Rattle.std.specs.Prelude.{◌≡◌, map};
 ghost use Rattle.clap.specs.Matches.{found_of};
@@ -10,6 +10,7 @@ ghost use Rattle.ps_program.specs.Program.{AnswersLine};
 ghost use Rattle.ps_program.specs.Replies.{reply_of};
 ghost use Rattle.ps_program.specs.Solvers.{solvers_of};
 
+pub mod agree;
 pub mod cert;
 pub mod check;
 pub mod game;
@@ -21,6 +22,7 @@ pub mod sim;
 pub mod solve;
 pub mod synth;
 pub mod synth_tlsf;
+pub mod translate;
 pub mod verify;
 pub mod verify_tlsf;
 
@@ -34,206 +36,207 @@ use ps_simulate::Role;
 use ps_specification::OwnTranslator;
 use std::alloc::Global;
 
-/// What the first line of the input asks for.
+/// What a first line asks for.
 #[derive(Clone, Copy)]
 pub enum Line {
-    /// No command: a line that is not a command's name with flags of that command, each given at most once, or a line
-    /// with flags that exclude each other.
+    /// Anything but a command's name with flags of its own, each once at most, of which none exclude each other.
     Refused,
-    /// The input's first line asks for the help text.
+    /// The help text.
     Help,
-    /// The input's first line asks whether a certificate is closed: each winner's move is an edge that stays in the
-    /// winner's region, and so does each edge of a vertex that the loser owns.
+    /// Whether a certificate is closed: each winner's move is an edge that stays in the winner's region, and so does
+    /// each edge of a vertex that the loser owns.
     Closed,
-    /// The input's first line asks whether a certificate of a game is valid.
+    /// Whether a certificate of a game is valid.
     Check,
-    /// The input's first line asks for the certificate that a solution of a game gives.
+    /// The certificate that a solution gives.
     Judge {
-        /// Whether the certificate is printed as a compact text.
+        /// Whether its text is compact.
         compact: bool,
     },
-    /// The input's first line asks for the trace of a circuit at given letters.
+    /// The trace of a circuit at given letters.
     Sim,
-    /// The input's first line asks whether an automaton accepts the word that a circuit (a controller or an
-    /// environment) produces on a stem and a repeated lap.
+    /// Whether an automaton accepts the word of a circuit in this role on a stem and a repeated lap.
     Lasso(Role),
-    /// The input's first line asks whether the word that a circuit (a controller or an environment) produces on a stem
-    /// and a repeated lap satisfies a specification.
+    /// The same by a specification.
     LassoTlsf(Role),
-    /// The input's first line asks whether an automaton accepts each lasso trace of a circuit that is a controller, or
-    /// no lasso trace of a circuit that is an environment.
+    /// Whether an automaton accepts each lasso trace of a controller, or none of an environment.
     Verify {
-        /// Who moves first.
         order: Order,
-        /// The role of the circuit.
         role: Role,
     },
-    /// The input's first line asks whether each lasso trace of a circuit that is a controller satisfies a
-    /// specification, or no lasso trace of a circuit that is an environment does.
+    /// The same by a specification.
     VerifyTlsf(Role),
-    /// The input's first line asks for a circuit that wins as a given one does, and is not larger.
+    /// A circuit that wins as a given one does, and is not larger.
     Shrink {
-        /// Who moves first.
         order: Order,
-        /// The role of the circuit.
         role: Role,
     },
-    /// The input's first line asks for a certificate of a game.
+    /// Whether an automaton accepts just the words that satisfy a specification.
+    Agree,
+    /// An automaton that does.
+    Translate,
+    /// A certificate of a game.
     Solve {
-        /// Whether the certificate is printed as a compact text.
         compact: bool,
     },
-    /// The input's first line asks for the game of an automaton, in this order of moves.
+    /// The game of an automaton, in this order of moves.
     Game(Order),
-    /// The input's first line asks for a certificate of the game of an automaton.
+    /// A certificate of this game.
     Cert {
-        /// Who moves first.
         order: Order,
-        /// Whether the certificate is printed as a compact text.
         compact: bool,
     },
-    /// The input's first line asks for a circuit for an automaton.
+    /// A circuit for an automaton.
     Synth(SynthLine),
-    /// The input's first line asks for a circuit for a specification.
+    /// A circuit for a specification.
     SynthTlsf,
 }
 
-/// Which circuit the command `synth` is asked for, and what is printed with the circuit.
+/// What `synth` makes and prints.
 #[derive(Clone, Copy)]
 pub struct SynthLine {
-    /// Whether the game and its certificate are printed too.
+    /// Whether the game and its certificate are printed.
     pub full: bool,
-    /// Whether a certificate of the game follows the automaton in the input, and is used instead of the solver.
+    /// Whether a certificate follows the automaton, and takes the solver's place.
     pub cert: bool,
     /// Who moves first.
     pub order: Order,
-    /// Whether the certificate is printed as a compact text.
+    /// Whether the certificate's text is compact.
     pub compact: bool,
 }
 
 /// A kind of input text.
 #[derive(Clone, Copy)]
 pub enum TextKind {
-    /// An automaton, as an HOA text.
+    /// As an HOA text.
     Automaton,
-    /// A specification in temporal logic, as a TLSF text.
+    /// In temporal logic, as a TLSF text.
     Specification,
-    /// A game.
+    /// A parity game.
     Game,
-    /// A certificate of a game.
+    /// Of a game.
     Certificate,
-    /// A solution of a game.
+    /// Of a game.
     Solution,
-    /// A circuit.
+    /// As an AIGER text.
     Circuit,
-    /// Letters for the inputs of a circuit.
+    /// Letters for a circuit's inputs.
     Stimulus,
 }
 
 /// How a command is used.
 #[derive(Clone, Copy)]
 pub struct Usage<'a> {
-    /// The name of the command.
+    /// Its name.
     pub name: &'a str,
-    /// The flags of the command, each of which is written after `--`.
+    /// Its flags, each without `--`.
     pub flags: &'a [&'a str],
-    /// The kinds of the texts that the command reads, in their order.
+    /// The kinds of its texts, in their order.
     pub texts: &'a [TextKind],
-    /// Flags with which the command reads a further text, and the kind of this text.
+    /// Flags with which it reads one more text.
     pub added: &'a [(&'a str, TextKind)],
-    /// Flags with which the first text is of another kind, and this kind.
+    /// Flags with which its first text is of this kind.
     pub replaced: &'a [(&'a str, TextKind)],
-    /// The `Line` that the command means if no flag is given.
+    /// What it means without flags.
     pub line: Line,
-    /// What `help` says about the command, after the kinds of the command's input texts.
+    /// What `help` says after the kinds of its texts.
     pub says: &'a str,
 }
 
-/// The flag which states that the circuit is an environment.
+/// The circuit is an environment.
 pub const ENV_FLAG: &str = "env";
 
-/// The flag which states that a specification stands in the place of the automaton.
+/// A specification stands in the place of the automaton.
 pub const TLSF_FLAG: &str = "tlsf";
 
-/// The flag which states that outputs come before inputs (Moore).
+/// Outputs move before inputs.
 pub const MOORE_FLAG: &str = "moore";
 
-/// The flag which asks for a certificate as a compact text.
+/// The certificate is a compact text.
 pub const COMPACT_FLAG: &str = "compact";
 
-/// The flag which asks `synth` to print the game and its certificate, too.
+/// `synth` prints the game and its certificate, too.
 pub const FULL_FLAG: &str = "full";
 
-/// The flag which states that a certificate follows the automaton and is used instead of the solver.
+/// `synth` reads a certificate after the automaton.
 pub const CERT_FLAG: &str = "cert";
 
-/// What `help` says about `closed`, after the kinds of the command's input texts.
+/// What `help` says of `closed`.
 pub const ON_CLOSED: &str = "\
-: `closed` where each path that follows the moves
-         stays with its winner, else the first flaw";
+: does each path that follows its moves stay with its
+           winner? `closed`, or the first flaw";
 
-/// What `help` says about `check`, after the kinds of the command's input texts.
+/// Of `check`.
 pub const ON_CHECK: &str = "\
-: `valid` where, besides, the counts show that
-         the winner wins each loop, else the first flaw";
+: is the certificate right? `valid`: it is closed, and
+           its counts show that the winner wins each loop; or the first flaw";
 
-/// What `help` says about `judge`, after the kinds of the command's input texts.
-pub const ON_JUDGE: &str = " of it, as a solver found it: the certificate with
-         these winners and moves, if they hold, else a wrong move or edge, or
-         a cycle that its player loses; --compact";
+/// Of `judge`.
+pub const ON_JUDGE: &str = "\
+: is a solver's solution right? A certificate with its
+           winners and moves; or a wrong move or edge, or a cycle that its player
+           loses; --compact: only the counts above 0, each as priority:count";
 
-/// What `help` says about `sim`, after the kinds of the command's input texts.
+/// Of `sim`.
 pub const ON_SIM: &str = "\
-: a line for each letter, with the latches before
-         it, the inputs and the outputs";
+: what does the circuit do? A line for each letter:
+           the latches before it, the inputs, the outputs";
 
-/// What `help` says about `lasso`, after the kinds of the command's input texts.
-pub const ON_LASSO: &str = " with a line - between a stem and
-         a lap: whether the automaton accepts what the circuit does on the stem
-         and then on the lap again and again; the circuit is a controller, or
-         with the flag --env an environment; --tlsf: whether that satisfies a
-         specification, which is the first text in the automaton's place";
+/// Of `lasso`.
+pub const ON_LASSO: &str = "\
+: does the automaton accept
+           what the circuit does? A line - divides the stimulus into a stem and a
+           lap, which is repeated for ever; the circuit is a controller, or with
+           --env an environment; --tlsf: a specification in the automaton's place";
 
-/// What `help` says about `verify`, after the kinds of the command's input texts.
+/// Of `verify`.
 pub const ON_VERIFY: &str = "\
-: `wins` where the automaton accepts each lasso
-         trace of the circuit, or with --env none; else `loses`, and a stimulus
-         on which that is not so; --moore; --tlsf: by a specification, which is
-         the first text in the automaton's place, and names the order of moves";
+: does the automaton accept all that the circuit
+           can do, or with --env nothing of it? `wins`; or `loses`, and a stimulus
+           that shows it; --moore: outputs move before inputs; --tlsf: a
+           specification in the automaton's place, which names the order of moves";
 
-/// What `help` says about `shrink`, after the kinds of the command's input texts.
+/// Of `shrink`.
 pub const ON_SHRINK: &str = "\
-: a circuit that wins too, and is not larger; or
-         `loses`, and what `verify` prints behind it; --env, --moore";
+: is there a smaller circuit that wins too? One
+           that is not larger; or `loses`, and a stimulus; --env, --moore";
 
-/// What `help` says about `solve`, after the kinds of the command's input texts.
+/// Of `agree`.
+pub const ON_AGREE: &str = "\
+: does the automaton accept just the words
+           that satisfy the specification? `agrees`; or `accepts` or `rejects`,
+           and a word that the automaton accepts or rejects wrongly";
+
+/// Of `translate`.
+pub const ON_TRANSLATE: &str = "\
+: which automaton accepts just the words that satisfy
+           it? Its HOA text";
+
+/// Of `solve`.
 pub const ON_SOLVE: &str = "\
-: a certificate that says who wins each vertex, by which moves;
-         --compact: only the counts that are not 0, each as priority:count";
+: who wins each vertex, and by which moves? A certificate; --compact";
 
-/// What `help` says about `game`, after the kinds of the command's input texts.
+/// Of `game`.
 pub const ON_GAME: &str = "\
-: the game in which its inputs move before its outputs, or
-         with the flag --moore after them";
+: which parity game do inputs and outputs play? Inputs move
+           first, or with --moore last";
 
-/// What `help` says about `cert`, after the kinds of the command's input texts.
-pub const ON_CERT: &str = ": a certificate of that game; --moore, --compact";
+/// Of `cert`.
+pub const ON_CERT: &str = ": who wins that game? A certificate of it; --moore, --compact";
 
-/// What `help` says about `synth`, after the kinds of the command's input texts.
+/// Of `synth`.
 pub const ON_SYNTH: &str = "\
-: REALIZABLE and the circuit of a controller whose traces
-         the automaton accepts, or UNREALIZABLE and that of an environment
-         against which each trace is rejected; --moore;
-         --full: then a line %%, the game, a line %%, its certificate, with
-         --compact as a compact text;
-         --cert: by the certificate of that game that is its second text;
-         --tlsf, without another flag: a circuit for a specification in the
-         automaton's place, which names the order of moves";
+: is there a controller whose traces it all accepts?
+           REALIZABLE and a circuit of one, or UNREALIZABLE and the circuit of an
+           environment against which each trace is rejected; --moore;
+           --full: then a line %%, the game, a line %% and its certificate, with
+           --compact as a compact text;
+           --cert: by a certificate of the game, which is the second text;
+           --tlsf, without another flag: a specification in the automaton's place";
 
-/// What `help` says about `help`, after the kinds of the command's input texts.
+/// Of `help`.
 pub const ON_HELP: &str = "this text";
 
-/// The commands, in the order in which `help` lists them.
 const COMMANDS: &[Usage<'static>] = &[
     Usage {
         name: "closed",
@@ -305,6 +308,24 @@ const COMMANDS: &[Usage<'static>] = &[
         says: ON_SHRINK,
     },
     Usage {
+        name: "agree",
+        flags: &[],
+        texts: &[TextKind::Specification, TextKind::Automaton],
+        added: &[],
+        replaced: &[],
+        line: Line::Agree,
+        says: ON_AGREE,
+    },
+    Usage {
+        name: "translate",
+        flags: &[],
+        texts: &[TextKind::Specification],
+        added: &[],
+        replaced: &[],
+        line: Line::Translate,
+        says: ON_TRANSLATE,
+    },
+    Usage {
         name: "solve",
         flags: &[COMPACT_FLAG],
         texts: &[TextKind::Game],
@@ -359,7 +380,7 @@ const COMMANDS: &[Usage<'static>] = &[
     },
 ];
 
-/// The commands, in the order in which `help` lists them.
+/// All commands, in the order of the help text.
 pub(crate) fn usages() -> &'static [Usage<'static>]
     ensures { map usage_of result.now ≡ commands }
 {
@@ -367,7 +388,7 @@ pub(crate) fn usages() -> &'static [Usage<'static>]
 }
 
 impl Line {
-    /// The `Line` that a command means if the given flags are added to it.
+    /// What a command means with these flags.
     pub(crate) fn with(self, flags: &ArgMatches) -> Line
         ensures { result ≡ with_flags self (λ name. is_given name (rows_of (found_of flags.now))) }
     {
@@ -395,11 +416,7 @@ impl Line {
     }
 }
 
-/// The answer to a command line, given the texts that follow it in the input.
-///
-/// # Errors
-///
-/// Fails with the fault that the command reports, or if memory runs out.
+/// The answer to a command line with the texts that follow it, or the command's fault.
 pub(crate) fn answer_line<S: Solver, T: Solver>(
     alloc: Global,
     line: Line,
@@ -424,6 +441,8 @@ pub(crate) fn answer_line<S: Solver, T: Solver>(
         Line::Verify { order, role } => verify::verify(alloc, order, role, texts),
         Line::VerifyTlsf(role) => verify_tlsf::verify_tlsf(alloc, role, texts),
         Line::Shrink { order, role } => shrink::shrink(alloc, order, role, texts),
+        Line::Agree => agree::agree(alloc, texts),
+        Line::Translate => translate::translate(alloc, texts, &OwnTranslator),
         Line::Solve { compact } => solve::solve(alloc, texts, built_in, compact),
         Line::Game(order) => game::game(alloc, order, texts),
         Line::Cert { order, compact } => cert::cert(alloc, order, texts, built_in, compact),

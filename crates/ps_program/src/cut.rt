@@ -1,4 +1,4 @@
-//! Cuts the input into its first line and its texts.
+//! Cuts an input into its first line and its texts.
 
 ghost use Rattle.std.specs.Prelude.{◌≡◌, ◌==◌, ◌≤◌, ◌<◌, length, slice_index, IfSome, IfNone};
 ghost use Rattle.std.specs.List.{before_first, after_first, position_or_len};
@@ -7,7 +7,7 @@ ghost use Rattle.ps_program.specs.Cut.{is_separator, ends_line_at, Cuts, HasNoSe
 
 use memchr::memchr;
 
-/// The first line of an input, without its newline, and the rest of the input after that newline.
+/// The first line without its newline, and what follows the newline.
 pub fn first_line(input: &[u8]) -> (&[u8], &[u8])
     ensures line { result.0.now ≡ before_first (λ byte. byte == 10) input.now }
     ensures rest { result.1.now ≡ after_first (λ byte. byte == 10) input.now }
@@ -17,7 +17,6 @@ pub fn first_line(input: &[u8]) -> (&[u8], &[u8])
     (&input[..end], &input[behind..])
 }
 
-/// The number of bytes before the first newline, or the number of all bytes if there is no newline.
 fn line_length(input: &[u8]) -> usize
     ensures within { result ≤ length input.now }
     ensures length { result ≡ position_or_len (λ byte. byte == 10) input.now }
@@ -30,7 +29,7 @@ fn line_length(input: &[u8]) -> usize
     input.len()
 }
 
-/// The part of a text before its first line `%%`, and the part after that line.
+/// What stands before the first line `%%`, and after it.
 pub fn cut(texts: &[u8]) -> Option<(&[u8], &[u8])>
     ensures found { IfSome result (λ parts. Cuts texts.now parts.0.now parts.1.now) }
     ensures missing { IfNone result (HasNoSeparator texts.now) }
@@ -46,7 +45,7 @@ pub fn cut(texts: &[u8]) -> Option<(&[u8], &[u8])>
     None
 }
 
-/// The offset of the first byte `%` that is not before the offset `from`.
+/// The offset of the first `%` at `from` or later.
 fn next_percent(texts: &[u8], from: usize) -> Option<usize>
     requires { from ≤ length texts.now }
     ensures { IsFirst (Passes (is_byte 37) texts.now) from (length texts.now) result }
@@ -55,7 +54,7 @@ fn next_percent(texts: &[u8], from: usize) -> Option<usize>
     Some(from + distance)
 }
 
-/// Whether a line `%%` begins at the offset `place`.
+/// Whether a line `%%` begins at this offset.
 fn begins_separator(texts: &[u8], place: usize) -> bool
     requires { place < length texts.now }
     ensures { result ≡ is_separator texts.now place }
@@ -67,7 +66,6 @@ fn begins_separator(texts: &[u8], place: usize) -> bool
         && is_line_end(texts, place + 2)
 }
 
-/// Whether the given byte is at the offset `place`.
 fn is_byte(text: &[u8], place: usize, byte: u8) -> bool
     requires { 0 < byte }
     ensures { result ≡ (slice_index text.now place == byte) }
@@ -75,7 +73,6 @@ fn is_byte(text: &[u8], place: usize, byte: u8) -> bool
     place < text.len() && text[place] == byte
 }
 
-/// Whether the text or one of its lines ends at the offset `place`.
 fn is_line_end(text: &[u8], place: usize) -> bool
     ensures { result ≡ ends_line_at text.now place }
 {

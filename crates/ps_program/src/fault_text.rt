@@ -1,4 +1,4 @@
-//! The bytes of the line that reports a fault.
+//! The line that reports a fault.
 
 ghost use Rattle.std.specs.Prelude.{Some};
 ghost use Rattle.ps_program.specs.Faults.{fault_text, ids_text, place_text};
@@ -6,7 +6,7 @@ ghost use Rattle.ps_program.specs.Faults.{fault_text, ids_text, place_text};
 use crate::fault::{FaultLine, Place};
 use std::fmt;
 
-/// Numbers that are written with a space before each.
+/// Numbers, each after a space.
 #[derive(Clone, Copy)]
 struct Ids<'a>(&'a [u64]);
 
@@ -21,7 +21,7 @@ impl fmt::Display for Ids<'_> {
     }
 }
 
-/// Writes the place of a fault after a space, or nothing if the fault has no place.
+/// After a space, or nothing if there is no place.
 impl fmt::Display for Place {
     ghost output = { λ place. Some (place_text place) };
 
@@ -56,7 +56,7 @@ impl fmt::Display for Place {
     }
 }
 
-/// Writes the line that reports a fault, without the newline that ends the line.
+/// Without a newline.
 impl fmt::Display for FaultLine {
     ghost output = { λ line. Some (fault_text line) };
 

@@ -8,7 +8,7 @@ ghost use Rattle.ps_program.specs.Inner.Usages.{usage_of};
 use crate::commands::{TextKind, Usage, usages};
 use std::alloc::{AllocError, Global};
 
-/// The text above the list of commands.
+/// What stands above the list of commands.
 pub const ABOUT: &str = "\
 psyn answers one command, which it reads from standard input.
 
@@ -17,7 +17,7 @@ two of them.
 
 ";
 
-/// The text below the list of commands.
+/// What stands below it.
 pub const FORMATS: &str = "\n\
 A game has an entry for each vertex: its id, its priority, its owner (0 or 1),
 its successors, a name if it has one, and a semicolon. A certificate lists the
@@ -81,8 +81,7 @@ lists the faults, with an example of each and how to mend it; tools/psyn, which
 takes files by name, explains them.
 ";
 
-/// The width of the column with the commands' names in the help text.
-const COLUMN: usize = 9;
+const COLUMN: usize = 11;
 
 /// The whole text. Fails if memory runs out.
 pub(crate) fn help_text(alloc: Global) -> Result<String, AllocError>
@@ -94,7 +93,6 @@ pub(crate) fn help_text(alloc: Global) -> Result<String, AllocError>
     Ok(text)
 }
 
-/// Appends the line of the help text for each of the given commands. Fails if memory runs out.
 fn push_usages(text: &mut String, usages: &[Usage<'_>]) -> Result<(), AllocError>
     ensures { OnOk result (string_bytes text.new ≡ string_bytes text.old ++
         flat_map words.usage_text (map usage_of usages.now)) }
@@ -105,7 +103,7 @@ fn push_usages(text: &mut String, usages: &[Usage<'_>]) -> Result<(), AllocError
     Ok(())
 }
 
-/// Appends the line of the help text for a command. Fails if memory runs out.
+/// Appends a command's lines.
 fn push_usage(text: &mut String, usage: &Usage<'_>) -> Result<(), AllocError>
     ensures { OnOk result (string_bytes text.new ≡ string_bytes text.old ++
         words.usage_text (usage_of usage.now)) }
@@ -117,7 +115,6 @@ fn push_usage(text: &mut String, usage: &Usage<'_>) -> Result<(), AllocError>
     text.push_str("\n")
 }
 
-/// Appends the given number of spaces. Fails if memory runs out.
 fn push_blanks(text: &mut String, count: usize) -> Result<(), AllocError>
     ensures { OnOk result (string_bytes text.new ≡ string_bytes text.old ++ replicate count 32) }
 {
@@ -127,7 +124,7 @@ fn push_blanks(text: &mut String, count: usize) -> Result<(), AllocError>
     Ok(())
 }
 
-/// Appends the kinds of a command's texts, separated by commas. Fails if memory runs out.
+/// Appends the kinds of texts, between commas.
 fn push_kinds(text: &mut String, kinds: &[TextKind]) -> Result<(), AllocError>
     ensures { OnOk result (string_bytes text.new ≡ string_bytes text.old ++ words.kinds_text kinds.now) }
 {
@@ -140,7 +137,6 @@ fn push_kinds(text: &mut String, kinds: &[TextKind]) -> Result<(), AllocError>
     }
 }
 
-/// Appends the kinds of a command's texts after the first, each with a comma before it. Fails if memory runs out.
 fn push_further_kinds(text: &mut String, kinds: &[TextKind]) -> Result<(), AllocError>
     ensures { OnOk result (string_bytes text.new ≡ string_bytes text.old ++ words.further_kinds kinds.now) }
 {
@@ -151,7 +147,6 @@ fn push_further_kinds(text: &mut String, kinds: &[TextKind]) -> Result<(), Alloc
     Ok(())
 }
 
-/// The words by which the help text names a kind of input text.
 fn kind_text(kind: TextKind) -> &'static str
     ensures { result.now ≡ words.kind_text kind }
 {

@@ -1,26 +1,29 @@
-//! What the program psyn reads, what it answers with the solvers that it is given, and what it writes.
+//! What the program psyn reads, answers and writes. It calls two solvers: `built_in` solves games, `replay` is fed
+//! the text of a certificate.
 //!
 //! | Call | What it gives |
 //! |---|---|
-//! | `read_input(source)` | the whole input, of at most `INPUT_LIMIT` bytes, or the reason why there is none |
-//! | `send(sink, text)` | writes a text and flushes, or a `WriteFault`, after which nothing is written |
-//! | `Watched::new` | a [`Source`] or a [`Sink`] made from a reader or a writer of std |
-//! | `first_line`, `read_line` | the first line of an input, and the rest; the [`Line`] that the first line says |
-//! | `answer_to(input, built_in, replay)` | the [`Answer`] to an input: what is written, with its exit status |
+//! | `read_input(source)` | the whole input, of at most `INPUT_LIMIT` bytes |
+//! | `send(sink, text)` | writes a text and flushes, or a `WriteFault` |
+//! | `Watched::new` | a [`Source`] or a [`Sink`] of std |
+//! | `first_line`, `read_line` | an input, cut after its first line; what this asks for, as a [`Line`] |
+//! | `answer_to(input, built_in, replay)` | the [`Answer`] to an input: what is written, and the exit status |
 //! | `closed`, `check`, `judge`, `sim`, `lasso`, `verify`, `shrink`, `game` | answers without a solver |
-//! | `lasso_tlsf`, `verify_tlsf` | answers by a specification in the place of the automaton |
-//! | `solve`, `cert`, `synth`, `synth_tlsf` | the answers of commands that use a solver |
-//! | `lines_are_read`, `missing_text_is_told` | laws: how command lines are read; a command needs each of its texts |
-//! | `one_answer` | a law: an input has one answer, except for what a solver may choose |
-//! | `some_answer`, `own_solvers_may_answer` | laws: an input has an answer; of `verify`, `shrink` nothing is said |
-//! | `fitting_texts_are_printed` | a law: what `synth` prints can be parsed again if its numbers fit in 64 bits |
-//! | `losing_stimulus_is_read`, `circuits_are_verified` | laws: what `verify` and `synth` print is read |
-//! | `losing_stimulus_is_confirmed` | a law: `lasso --tlsf` confirms a stimulus that `verify --tlsf` prints |
-//! | `specified_circuits_are_verified` | a law: `verify --tlsf` answers `wins` for what `synth --tlsf` prints |
-//! | `smaller_circuits_are_verified` | a law: `verify` answers `wins` for a circuit that `shrink` prints |
-//! | `certificates_are_checked` | a law: `check` answers `valid` for a certificate that another command prints |
+//! | `lasso_tlsf`, `verify_tlsf`, `agree`, `translate` | answers about a specification |
+//! | `solve`, `cert`, `synth`, `synth_tlsf` | answers by a solver |
+//! | `two_texts`, `read_game`, `read_game_of`, `certify`, `print`, `settle` | what these answers are made with |
+//! | `lines_are_read`, `missing_text_is_told` | laws: how command lines are read; a missing text is told |
+//! | `one_answer` | a law: an input has at most one answer, unless its command may choose |
+//! | `some_answer` | a law: an input has an answer; of five commands nothing is said |
+//! | `own_solvers_may_answer` | a law: psyn's own solvers are as `some_answer` needs them |
+//! | `fitting_texts_are_printed` | a law: what `synth` prints can be parsed if its numbers fit in 64 bits |
+//! | `losing_stimulus_is_read` | a law: `lasso` reads the stimulus that `verify` prints |
+//! | `losing_stimulus_is_confirmed` | a law: `lasso --tlsf` confirms that of `verify --tlsf` |
+//! | `circuits_are_verified`, `smaller_circuits_are_verified` | laws: what `synth`, `shrink` print wins by `verify` |
+//! | `specified_circuits_are_verified` | a law: what `synth --tlsf` prints wins by `verify --tlsf` |
+//! | `certificates_are_checked` | a law: printed 64-bit certificates are valid by `check` |
 //!
-//! The file `specs/Program.antt` defines the answer to an input, with one case for each command.
+//! The file `specs/Program.antt` defines the answer to an input, by command.
 #![tactic(auto)]
 
 mod answer;
@@ -45,6 +48,7 @@ pub use answer::{
     Answer, FAULT, OUT_OF_MEMORY, READ_FAULT, REALIZABLE, Refusal, UNREALIZABLE, settle,
 };
 pub use command_line::{lines_are_read, read_line};
+pub use commands::agree::agree;
 pub use commands::cert::cert;
 pub use commands::check::{check, closed};
 pub use commands::game::{game, read_game_of};
@@ -56,6 +60,7 @@ pub use commands::sim::sim;
 pub use commands::solve::{certify, solve};
 pub use commands::synth::synth;
 pub use commands::synth_tlsf::synth_tlsf;
+pub use commands::translate::translate;
 pub use commands::verify::verify;
 pub use commands::verify_tlsf::verify_tlsf;
 pub use commands::{Line, SynthLine, TextKind};

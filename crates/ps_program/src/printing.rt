@@ -1,4 +1,4 @@
-//! Prints a solved synthesis problem.
+//! Prints what `synth` made.
 
 ghost use Rattle.std.specs.Prelude.{◌≡◌, ◌<◌, ◌++◌, codes, length, IfOk, OnOk};
 ghost use Rattle.ps_certificate.specs.Certificates.{Fits};
@@ -19,11 +19,9 @@ use ps_game::NamedGame;
 use ps_synthesis::{Synthesis, certificate_text};
 use std::alloc::{AllocError, Global};
 
-/// The line `%%`, which separates the parts of an answer.
 const DIVIDER: &[u8] = b"%%\n";
 
-/// What is printed for a solved game: the winner, the winner's circuit and, if they are asked for, the game and its
-/// certificate. Fails if memory runs out.
+/// The winner, the winner's circuit and, if they are asked for, the game and its certificate. Fails if memory runs out.
 pub fn print(
     alloc: Global,
     asked: SynthLine,
@@ -46,7 +44,7 @@ pub fn print(
     Ok(answer)
 }
 
-/// The line that states the winner, and then the winner's circuit. Fails if memory runs out.
+/// The winner's line and circuit. Fails if memory runs out.
 pub(crate) fn print_circuit(
     alloc: Global,
     realizable: bool,
@@ -62,7 +60,6 @@ pub(crate) fn print_circuit(
     Ok(Answer { text, status })
 }
 
-/// The line that states the winner, and the exit status of the answer with that line.
 fn verdict(realizable: bool) -> (&'static str, u8)
     ensures word { result.0.now ≡ verdict_line realizable }
     ensures status { result.1 ≡ verdict_status realizable }
@@ -74,7 +71,6 @@ fn verdict(realizable: bool) -> (&'static str, u8)
     }
 }
 
-/// Appends the game and its certificate, each after a line `%%`.
 fn add_proof(
     alloc: Global,
     text: &mut Vec<u8>,
@@ -94,7 +90,7 @@ fn add_proof(
     add_certificate(alloc, text, game, certificate, compact)
 }
 
-/// Appends a line `%%` and the text of the game.
+/// Appends a line `%%` and the game.
 fn add_game(alloc: Global, text: &mut Vec<u8>, game: &NamedGame) -> Result<(), AllocError>
     requires { 0 < vertex_count game.now.game }
     ensures text { OnOk result (text.new.items ≡ text.old.items ++ codes "%%\n" ++ game_text game.now) }
@@ -104,7 +100,7 @@ fn add_game(alloc: Global, text: &mut Vec<u8>, game: &NamedGame) -> Result<(), A
     text.extend_from_slice(&ps_pgsolver::write(alloc, game)?)
 }
 
-/// Appends a line `%%` and the plain or the compact text of a certificate of the game.
+/// Appends a line `%%` and the certificate.
 fn add_certificate(
     alloc: Global,
     text: &mut Vec<u8>,

@@ -12,13 +12,8 @@ use crate::cut::first_line;
 use ps_machine::Solver;
 use std::alloc::{AllocError, Global};
 
-/// The program's answer to an input, which consists of a command line and texts. The second solver is used if the input
-/// contains a certificate.
-///
-/// # Errors
-///
-/// Fails if memory runs out. A fault other than lack of memory is reported in the answer, and is no failure of this
-/// function.
+/// The answer to an input, which is a command line with texts. Fails only if memory runs out; any other fault is
+/// reported in the answer.
 pub fn answer_to<S: Solver, T: Solver>(
     alloc: Global,
     input: &[u8],

@@ -1,4 +1,4 @@
-//! Reads the program's whole input.
+//! Reads the whole input.
 
 ghost use Rattle.std.specs.Prelude.{◌≡◌, ◌+◌, ◌≤◌, ℕ, List, length, false};
 ghost use Rattle.std.specs.Io.KnownBytes.{Consumes};
@@ -7,16 +7,15 @@ ghost use Rattle.ps_program.specs.Input.{ConsumesAtMost, ReadsInput, input_limit
 use crate::stream::Source;
 use std::alloc::{AllocError, Global};
 
-/// The largest number of bytes that an input may have.
+/// The greatest length of an input, in bytes.
 pub const INPUT_LIMIT: usize = 67_108_864;
 
-/// The number of bytes that each read asks for.
 const CHUNK: usize = 8192;
 
-/// Why the program's input could not be read.
+/// Why the input was not read.
 #[derive(Debug, Drop, thiserror::Error)]
 pub enum InputFault {
-    /// A read failed, or the input has more than `INPUT_LIMIT` bytes.
+    /// A read failed, or the input is too long.
     #[error("the input can't be read, or is too long")]
     Unreadable,
     /// Memory ran out.
@@ -34,12 +33,7 @@ impl From<AllocError> for InputFault {
     }
 }
 
-/// Reads the whole input.
-///
-/// # Errors
-///
-/// Stops with [`InputFault::Unreadable`] at the first read that fails, or at the first byte past the limit. Fails if
-/// memory runs out.
+/// Reads the whole input. Fails at the first read that fails or the first byte beyond the limit, or if memory runs out.
 pub fn read_input<R: Source>(alloc: Global, reader: &mut R) -> Result<Vec<u8>, InputFault>
     requires { R.has_failed reader.old ≡ false }
     ensures read { ReadsInput (R.remaining reader.old) (R.has_failed reader.new) result }

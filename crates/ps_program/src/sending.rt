@@ -6,16 +6,12 @@ ghost use Rattle.ps_program.specs.Streams.{AppendsSome, Breaks};
 
 use crate::stream::Sink;
 
-/// Why an answer was not written whole: a write or the flush failed, or a write accepted no bytes.
+/// A write or the flush failed, or a write accepted no bytes.
 #[derive(Debug, Drop, thiserror::Error)]
 #[error("the answer could not be written whole")]
 pub struct WriteFault;
 
-/// Writes all of `text`, and then flushes. Nothing is written after a fault, or after a write that accepted no bytes.
-///
-/// # Errors
-///
-/// Fails if a write or the flush fails, or if a write accepts no bytes.
+/// Writes all of `text`, and then flushes. Nothing is written after a fault.
 pub fn send<W: Sink>(writer: &mut W, text: &[u8]) -> Result<(), WriteFault>
     requires sound { W.has_failed writer.old ≡ false }
     requires moving { W.has_stalled writer.old ≡ false }

@@ -1,4 +1,4 @@
-//! The program reports the faults of synthesis by lines, or as lack of memory.
+//! Faults of synthesis as lines, or as lack of memory.
 
 use crate::answer::Refusal;
 use crate::fault::{FaultLine, Place};
@@ -6,8 +6,7 @@ use ps_automaton::AutomatonFault;
 use ps_specification::SpecificationFault;
 use ps_synthesis::SynthFault;
 
-/// What the program prints if a file has no automaton: a line that reports the reason. If the reason is lack of memory,
-/// the result is that memory ran out.
+/// Why a file has no automaton.
 impl From<AutomatonFault> for Refusal {
     ghost use Rattle.ps_program.specs.StageFaults.{IsAutomatonTold};
 
@@ -35,7 +34,7 @@ impl From<AutomatonFault> for Refusal {
     }
 }
 
-/// The reason why synthesis made no certificate, no circuit or no report is reported by a line, or as lack of memory.
+/// Why synthesis made no certificate, circuit or report.
 impl From<SynthFault> for Refusal {
     ghost use Rattle.ps_program.specs.StageFaults.{IsTold};
 
@@ -60,7 +59,7 @@ impl From<SynthFault> for Refusal {
     }
 }
 
-/// The reason why a specification gets no circuit is reported by a line, or as lack of memory.
+/// Why a specification gets no circuit.
 impl From<SpecificationFault> for Refusal {
     ghost use Rattle.ps_program.specs.SynthesisTlsf.{IsSpecificationTold};
 

@@ -1,4 +1,5 @@
-//! Parses the texts that commands read, and makes the lines that report faults of these texts.
+//! Parses the texts that commands read, and tells their faults. Parsing fails with a text's first error, or if memory
+//! runs out.
 
 ghost use Rattle.std.specs.Prelude.{◌≡◌, ◌<◌, false, length, map, All, IfOk};
 ghost use Rattle.ps_circuit.specs.Circuits.{IsCircuit};
@@ -25,7 +26,6 @@ use ps_simulate::{Letters, Stimulus};
 use ps_tlsf::Specification;
 use std::alloc::Global;
 
-/// The line that reports a missing text.
 fn missing_text() -> FaultLine
     ensures { fault_text result ≡ missing_text }
 {
@@ -36,7 +36,7 @@ fn missing_text() -> FaultLine
     }
 }
 
-/// The two texts of an input. Fails if a text is missing.
+/// The two texts of an input. Fails if one is missing.
 pub fn two_texts(texts: &[u8]) -> Result<(&[u8], &[u8]), Refusal>
     ensures { Gives (λ parts. (parts.0.now, parts.1.now)) (CutsInTwo texts.now) result }
 {
@@ -46,8 +46,7 @@ pub fn two_texts(texts: &[u8]) -> Result<(&[u8], &[u8]), Refusal>
     }
 }
 
-/// The three texts that two lines `%%` divide, as the command `lasso` reads them. Fails if a text is missing, even if
-/// another text has an error.
+/// Three texts. Fails if one is missing, even if another has an error.
 pub fn three_texts(texts: &[u8]) -> Result<(&[u8], &[u8], &[u8]), Refusal>
     ensures { Gives (λ parts. (parts.0.now, parts.1.now, parts.2.now)) (CutsInThree texts.now) result }
 {
@@ -59,14 +58,13 @@ pub fn three_texts(texts: &[u8]) -> Result<(&[u8], &[u8], &[u8]), Refusal>
     Err(Refusal::Fault(missing_text()))
 }
 
-/// Parses a text as a game. Fails with the first error of the text, or if memory runs out.
+/// Parses a game.
 pub fn read_game(alloc: Global, text: &[u8]) -> Result<NamedGame, Refusal>
     ensures { Gives (λ game. game) (ReadsGameText text.now) result }
 {
     Ok(ps_pgsolver::read(alloc, text)?)
 }
 
-/// Parses a text as a certificate of the given game.
 fn read_certificate(alloc: Global, game: &NamedGame, text: &[u8]) -> Result<Certificate, Refusal>
     ensures read { Gives (λ certificate. certificate) (ReadsCertificateText game.now text.now) result }
     ensures fits { IfOk result (Fits game.now.game) }
@@ -74,12 +72,8 @@ fn read_certificate(alloc: Global, game: &NamedGame, text: &[u8]) -> Result<Cert
     Ok(ps_certificate::read(alloc, text, game)?)
 }
 
-/// A game and a certificate of it.
-///
-/// # Errors
-///
-/// Fails with the first of these faults: a missing text, an error in the game's text, an error in the certificate's
-/// text. Fails at any time if memory runs out.
+/// A game and a certificate of it. Fails with the first of: a missing text, an error in the game's text, one in the
+/// certificate's.
 pub fn read_certified(alloc: Global, texts: &[u8]) -> Result<(NamedGame, Certificate), Refusal>
     ensures read { Gives (λ both. (both.0, both.1)) (ReadsCertified texts.now) result }
     ensures fits { IfOk result (λ both. Fits both.0.game both.1) }
@@ -90,7 +84,7 @@ pub fn read_certified(alloc: Global, texts: &[u8]) -> Result<(NamedGame, Certifi
     Ok((game, certificate))
 }
 
-/// Parses a text as a specification. Fails with the first error of the text, or if memory runs out.
+/// Parses a specification.
 pub fn read_specification(alloc: Global, text: &[u8]) -> Result<Specification, Refusal>
     ensures read { Gives specification_data (ReadsSpecificationText text.now) result }
     ensures roots { IfOk result HasRoots }
@@ -100,19 +94,14 @@ pub fn read_specification(alloc: Global, text: &[u8]) -> Result<Specification, R
     Ok(ps_tlsf::read(alloc, text)?)
 }
 
-/// Parses a text as a circuit. Fails with the first error of the text, or if memory runs out.
+/// Parses a circuit.
 pub fn read_circuit(alloc: Global, text: &[u8]) -> Result<Circuit, Refusal>
     ensures { Gives (λ circuit. circuit) (ReadsCircuitText text.now) result }
 {
     Ok(ps_circuit::read(alloc, text)?)
 }
 
-/// Parses a text as a stimulus for a circuit with the given number of inputs. The flag states whether the text must
-/// have a line `-`, which divides its stem from its lap.
-///
-/// # Errors
-///
-/// Fails with the first error of the text, or if memory runs out.
+/// Parses a stimulus for so many inputs. If it is `split`, a line `-` must divide stem from lap.
 pub fn read_stimulus(
     alloc: Global,
     text: &[u8],
@@ -124,19 +113,15 @@ pub fn read_stimulus(
     Ok(ps_simulate::parse_stimulus(alloc, text, width, split)?)
 }
 
-/// Parses a text as a stimulus that has only a stem, for a circuit with the given number of inputs.
+/// Parses a stimulus that has only a stem.
 fn read_letters(alloc: Global, text: &[u8], width: usize) -> Result<Letters, Refusal>
     ensures { Gives stem_of (ReadsStimulusText width false text.now) result }
 {
     Ok(ps_simulate::parse_letters(alloc, text, width)?)
 }
 
-/// A circuit and a stimulus for it.
-///
-/// # Errors
-///
-/// Fails with the first of these faults: a missing text, an error in the circuit's text, an error in the stimulus.
-/// Fails at any time if memory runs out.
+/// A circuit and a stimulus for it. Fails with the first of: a missing text, an error in the circuit's text, one in the
+/// stimulus.
 pub fn read_simulated(alloc: Global, texts: &[u8]) -> Result<(Circuit, Letters), Refusal>
     ensures read { Gives (λ both. (both.0, stem_of both.1)) (ReadsSimulated texts.now) result }
     ensures fits { IfOk result (λ both. All (λ letter. length letter ≡ length both.0.inputs) both.1) }
@@ -149,7 +134,7 @@ pub fn read_simulated(alloc: Global, texts: &[u8]) -> Result<(Circuit, Letters),
     Ok((circuit, letters))
 }
 
-/// The line that reports a certificate's flaw, in which vertices are named by their ids.
+/// The line of a flaw, with the ids of vertices.
 pub fn flaw_line(game: &NamedGame, flaw: Flaw) -> FaultLine
     requires { NamesVertices (vertex_count game.now.game) flaw }
     ensures { fault_text result ≡ flaw_text game.now flaw }

@@ -1,4 +1,4 @@
-//! Makes the program's input or output from a reader or a writer of std.
+//! Makes input and output from a reader and a writer of std.
 
 ghost use Rattle.std.specs.Prelude.{◌≡◌, ⊤, ℕ, List, Option, OnOk, is_err, false, true, Some, min, length, drop};
 ghost use Rattle.std.specs.Io.{ReadsAtMost, WritesAtMost};
@@ -10,12 +10,10 @@ use crate::stream::{Sink, Source};
 use std::io;
 use std::io::{Read, Write};
 
-/// A reader of std, and a relation, `read_gives`, between the states before and after each call. The trait requires
-/// nothing of the relation `read_gives`, so only code that knows the reader can learn from the relation what a call
-/// did.
+/// A reader of std, with a relation between the states before and after a call, from which only code that knows the
+/// reader learns something.
 pub trait Reader: Read {
-    // Whether a call of `read` may return this count, and leave the reader and the buffer in this state. A call of
-    // `read` that fails returns no count.
+    // Whether `read` may return this count, or none if it fails, and leave the reader and the buffer in this state.
     ghost read_gives: { Self → List ℕ → Option ℕ → Self → List ℕ → Type 0 };
 
     /// Calls `read` once.
@@ -25,13 +23,12 @@ pub trait Reader: Read {
         ensures call { read_gives self.old buf.old (answered result) self.new buf.new };
 }
 
-/// A writer of std, and relations between the states before and after each write or flush.
+/// A writer of std, with such relations.
 pub trait Writer: Write {
-    // Whether a call of `write` may return this count, and leave the writer in this state. A write that fails returns
-    // no count.
+    // The same of `write`.
     ghost write_gives: { Self → List ℕ → Option ℕ → Self → Type 0 };
 
-    // Whether a call of `flush` may return this result, and leave the writer in this state.
+    // The same of `flush`.
     ghost flush_gives: { Self → Option (Unit {0}) → Self → Type 0 };
 
     /// Calls `write` once.
@@ -46,8 +43,7 @@ pub trait Writer: Write {
         ensures call { flush_gives self.old (answered result) self.new };
 }
 
-/// Each reader of std is a `Reader`. For an arbitrary reader, `read_gives` says only that the returned count is at most
-/// the length of the buffer.
+/// For an arbitrary reader, the count is at most the length of the buffer.
 impl<R: Read> Reader for R {
     ghost read_gives = { λ _ _ count _ after. CountsWithin after count };
 
@@ -56,8 +52,7 @@ impl<R: Read> Reader for R {
     }
 }
 
-/// Each writer of std is a `Writer`. For an arbitrary writer, `write_gives` says only that the returned count is at
-/// most the length of the buffer.
+/// For an arbitrary writer, likewise.
 impl<W: Write> Writer for W {
     ghost write_gives = { λ _ buf count _. CountsWithin buf count };
 
@@ -72,8 +67,8 @@ impl<W: Write> Writer for W {
     }
 }
 
-/// A reader or a writer of std, with a record of whether one of its calls has failed, and whether a write accepted no
-/// bytes.
+/// A reader or a writer of std. It records whether a call has failed, and whether a write has stalled (accepted no
+/// bytes).
 #[derive(Drop)]
 pub struct Watched<T> {
     inner: T,
@@ -83,8 +78,7 @@ pub struct Watched<T> {
 }
 
 impl<T> Watched<T> {
-    /// Starts the record for a reader or a writer. At first, the record states that no call has failed, and that no
-    /// write has stalled (accepted none of its bytes).
+    /// At first, nothing has failed or stalled.
     pub fn new(inner: T) -> Self
         ensures inner { watched_inner result ≡ inner }
         ensures fresh { watched_failed result ≡ false }
@@ -100,7 +94,7 @@ impl<T> Watched<T> {
 }
 
 impl<T> Watched<T> {
-    /// Returns the reader or writer of std to which the record belongs.
+    /// The reader or writer of std.
     pub fn inner(&self) -> &T
         ensures { result.now ≡ watched_inner self.now }
     {

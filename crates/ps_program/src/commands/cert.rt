@@ -1,4 +1,4 @@
-//! The command that prints a certificate of the game of an automaton.
+//! The command `cert`.
 
 ghost use Rattle.std.specs.Prelude.{◌≡◌};
 ghost use Rattle.ps_program.specs.Games.{AnswersCert};
@@ -11,11 +11,8 @@ use crate::commands::solve::certify;
 use ps_machine::{Order, Solver};
 use std::alloc::Global;
 
-/// The text of a certificate of the game of an automaton, in the given order of moves.
-///
-/// # Errors
-///
-/// Fails with the first error of the text, or because the file has no automaton, or else as `certify` does.
+/// The text of a certificate of the game of an automaton. Fails with the text's first error, because the file has no
+/// automaton, or else as `certify` does.
 pub fn cert<S: Solver>(
     alloc: Global,
     order: Order,

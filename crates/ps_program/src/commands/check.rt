@@ -1,4 +1,4 @@
-//! The commands that test a certificate of a game.
+//! The commands `closed` and `check`.
 
 ghost use Rattle.std.specs.Prelude.{◌≡◌, IfErr};
 ghost use Rattle.ps_game.specs.Games.{vertex_count};
@@ -13,13 +13,8 @@ use ps_certificate::Flaw;
 use ps_game::NamedGame;
 use std::alloc::Global;
 
-/// Whether a certificate is closed: each winner's move is an edge that stays in the winner's region, and so does each
-/// edge of a vertex that the loser owns.
-///
-/// # Errors
-///
-/// Fails with the first of these faults: a missing text, an error in the game's text, an error in the certificate's
-/// text, a flaw of the certificate. Fails at any time if memory runs out.
+/// Whether a certificate is closed (see `Line::Closed`). Fails with the first of: a missing text, an error in the
+/// game's text, one in the certificate's, a flaw of the certificate.
 pub fn closed(alloc: Global, texts: &[u8]) -> Result<Answer, Refusal>
     ensures { Gives reply_of (AnswersClosed texts.now) result }
 {
@@ -28,11 +23,7 @@ pub fn closed(alloc: Global, texts: &[u8]) -> Result<Answer, Refusal>
     tell(alloc, &game, "closed", outcome)
 }
 
-/// Whether the certificate is valid.
-///
-/// # Errors
-///
-/// Fails like `closed`, and also if the certificate is closed but some of its counts are wrong.
+/// Whether the certificate is valid. Fails like `closed`, and also if it is closed but some of its counts are wrong.
 pub fn check(alloc: Global, texts: &[u8]) -> Result<Answer, Refusal>
     ensures { Gives reply_of (AnswersCheck texts.now) result }
 {
@@ -41,8 +32,6 @@ pub fn check(alloc: Global, texts: &[u8]) -> Result<Answer, Refusal>
     tell(alloc, &game, "valid", outcome)
 }
 
-/// What is printed after a test of a certificate: the given word if the test found no flaw, and otherwise the line that
-/// reports the flaw.
 fn tell(
     alloc: Global,
     game: &NamedGame,

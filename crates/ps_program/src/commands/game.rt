@@ -1,4 +1,4 @@
-//! The command that prints the game of an automaton.
+//! The command `game`.
 
 ghost use Rattle.std.specs.Prelude.{◌<◌, IfOk};
 ghost use Rattle.ps_automaton.specs.Automata.{IsBuiltFrom};
@@ -16,11 +16,7 @@ use ps_game::NamedGame;
 use ps_machine::{Order, game_of};
 use std::alloc::Global;
 
-/// The text of the game of an automaton, in the given order of moves.
-///
-/// # Errors
-///
-/// Fails like `read_game_of`.
+/// The text of the game of an automaton. Fails like `read_game_of`.
 pub fn game(alloc: Global, order: Order, text: &[u8]) -> Result<Answer, Refusal>
     ensures { Gives reply_of (AnswersGameText order text.now) result }
 {
@@ -28,11 +24,7 @@ pub fn game(alloc: Global, order: Order, text: &[u8]) -> Result<Answer, Refusal>
     Ok(Answer::text(ps_pgsolver::write(alloc, &game)?))
 }
 
-/// The game of the automaton of an HOA text.
-///
-/// # Errors
-///
-/// Fails with the first error of the text, or because the file has no automaton; fails at any time if memory runs out.
+/// The game of the automaton of an HOA text. Fails with the text's first error, or because the file has no automaton.
 pub fn read_game_of(alloc: Global, order: Order, text: &[u8]) -> Result<NamedGame, Refusal>
     ensures game { Gives (λ game. game) (ReadsGameOf order text.now) result }
     ensures some { IfOk result (λ game. 0 < vertex_count game.game) }
@@ -41,7 +33,6 @@ pub fn read_game_of(alloc: Global, order: Order, text: &[u8]) -> Result<NamedGam
     make_game(alloc, order, &automaton)
 }
 
-/// The game of an automaton.
 fn make_game(alloc: Global, order: Order, automaton: &Automaton) -> Result<NamedGame, Refusal>
     ensures game { (file : FileData) (chain : Chain) → IsBuiltFrom file chain automaton.now →
         Gives (λ game. game) (MakesGame order file) result }

@@ -1,4 +1,4 @@
-//! The command that judges a solution of a game.
+//! The command `judge`.
 
 ghost use Rattle.std.specs.Prelude.{◌≡◌, ◌<◌, IfOk};
 ghost use Rattle.std.specs.List.{All};
@@ -17,13 +17,9 @@ use ps_solution::Solution;
 use ps_synthesis::{certificate_text, ids_of};
 use std::alloc::Global;
 
-/// The certificate for the winners and moves that a solution of a game states, with the least counts that are valid for
-/// them.
-///
-/// # Errors
-///
-/// Fails with the first of these faults: a missing text, an error in the game's or the solution's text, a wrong move or
-/// edge, a cycle on which a player who follows the solution loses. Fails at any time if memory runs out.
+/// The certificate for a solution's winners and moves, with the least counts that are valid for them. Fails with the
+/// first of: a missing text, an error in the game's or the solution's text, a wrong move or edge, a cycle on which a
+/// player who follows the solution loses.
 pub fn judge(alloc: Global, compact: bool, texts: &[u8]) -> Result<Answer, Refusal>
     ensures { Gives reply_of (AnswersJudge compact texts.now) result }
 {
@@ -31,7 +27,6 @@ pub fn judge(alloc: Global, compact: bool, texts: &[u8]) -> Result<Answer, Refus
     judged(alloc, compact, &game, &solution)
 }
 
-/// The certificate that a solution of a game gives, or the reason why the solution is refused.
 fn judged(
     alloc: Global,
     compact: bool,
@@ -48,12 +43,6 @@ fn judged(
     }
 }
 
-/// A game and a solution of it.
-///
-/// # Errors
-///
-/// Fails with the first of these faults: a missing text, an error in the game's text, an error in the solution's text.
-/// Fails at any time if memory runs out.
 fn read_solved(alloc: Global, texts: &[u8]) -> Result<(NamedGame, Solution), Refusal>
     ensures read { Gives (λ both. (both.0, both.1)) (ReadsSolved texts.now) result }
     ensures places { IfOk result (λ both. HasPlaces both.0 both.1) }
@@ -64,7 +53,6 @@ fn read_solved(alloc: Global, texts: &[u8]) -> Result<(NamedGame, Solution), Ref
     Ok((game, solution))
 }
 
-/// Parses a text as a solution of the game.
 fn read_solution(alloc: Global, game: &NamedGame, text: &[u8]) -> Result<Solution, Refusal>
     ensures read { Gives (λ solution. solution) (ReadsSolutionText game.now text.now) result }
     ensures places { IfOk result (HasPlaces game.now) }
@@ -75,7 +63,7 @@ fn read_solution(alloc: Global, game: &NamedGame, text: &[u8]) -> Result<Solutio
     }
 }
 
-/// The line that reports why a solution is refused, in which vertices are named by their ids.
+/// Why a solution is refused, with the ids of vertices.
 fn refused(alloc: Global, game: &NamedGame, fault: JudgeFault) -> Refusal
     requires { Names (vertex_count game.now.game) fault }
     ensures { IsTold game.now fault result }
@@ -87,7 +75,6 @@ fn refused(alloc: Global, game: &NamedGame, fault: JudgeFault) -> Refusal
     }
 }
 
-/// The line that reports a cycle: a player who follows the solution loses if a play repeats this cycle for ever.
 fn cycle_refusal(alloc: Global, game: &NamedGame, cycle: &[usize]) -> Refusal
     requires { All (λ v. v < vertex_count game.now.game) cycle.now }
     ensures { IsCycleTold game.now cycle.now result }

@@ -1,5 +1,4 @@
-//! The command that runs a circuit on a stem and a repeated lap, and states whether an automaton accepts the resulting
-//! word.
+//! The command `lasso`.
 
 ghost use Rattle.std.specs.Prelude.{◌≡◌, ◌++◌, codes, length, All, IfOk};
 ghost use Rattle.ps_circuit.specs.Circuits.{IsCircuit};
@@ -19,13 +18,9 @@ use ps_circuit::Circuit;
 use ps_simulate::{LassoFault, Role, Stimulus, Verdict};
 use std::alloc::{AllocError, Global};
 
-/// Whether an automaton accepts the word that a circuit (a controller or an environment) produces on a stem and a
-/// repeated lap.
-///
-/// # Errors
-///
-/// Fails with the first of these faults: a missing text, a fault of the automaton, an error in the circuit's text or
-/// the stimulus, an empty lap of the stimulus, symbols that the role forbids. Fails at any time if memory runs out.
+/// Whether an automaton accepts the word of a circuit in this role on a stem and a repeated lap. Fails with the first
+/// of: a missing text, a fault of the automaton, an error in the circuit's text or the stimulus, an empty lap, symbols
+/// that the role forbids.
 pub fn lasso(alloc: Global, role: Role, texts: &[u8]) -> Result<Answer, Refusal>
     ensures { Gives reply_of (AnswersLasso role texts.now) result }
 {
@@ -34,7 +29,6 @@ pub fn lasso(alloc: Global, role: Role, texts: &[u8]) -> Result<Answer, Refusal>
     run_circuit(alloc, role, &automaton, aag, letters)
 }
 
-/// Parses a circuit and a stimulus, runs the circuit on the stimulus, and states the automaton's verdict.
 fn run_circuit(
     alloc: Global,
     role: Role,
@@ -51,8 +45,7 @@ fn run_circuit(
     tell(alloc, role, automaton, &circuit, &stimulus)
 }
 
-/// The automaton's verdict on a circuit's run on a stimulus, or the fault that the stimulus has an empty lap or the
-/// circuit has wrong symbols.
+/// The verdict, or the fault `EmptyLap` or `Symbols`.
 fn tell(
     alloc: Global,
     role: Role,
@@ -85,7 +78,6 @@ fn tell(
     }
 }
 
-/// The line that states whether a lasso was accepted, and the lengths of its stem and lap.
 fn verdict_line(alloc: Global, verdict: Verdict) -> Result<Vec<u8>, AllocError>
     ensures { IfOk result (λ line. line.items ≡ verdict_text verdict ++ codes "\n") }
 {

@@ -1,5 +1,4 @@
-//! The command `lasso --tlsf`. It runs a circuit on a stem and a repeated lap, and states whether the resulting word
-//! satisfies a specification.
+//! The command `lasso --tlsf`.
 
 ghost use Rattle.std.specs.Prelude.{◌≡◌, ◌++◌, ◌<◌, codes, length, map, All, IfErr, IfOk};
 ghost use Rattle.ps_circuit.specs.Circuits.{IsCircuit};
@@ -23,13 +22,8 @@ use ps_simulate::{LassoFault, Role, Stimulus, TraceWord, trace_word};
 use ps_tlsf::{Specification, names_of, outputs_of};
 use std::alloc::{AllocError, Global};
 
-/// Whether the word that a circuit (a controller or an environment) produces on a stem and a repeated lap satisfies a
-/// specification.
-///
-/// # Errors
-///
-/// Fails with the first of these faults: a missing text, an error in the specification's text, the circuit's text or
-/// the stimulus, an empty lap of the stimulus, symbols that the role forbids. Fails at any time if memory runs out.
+/// Does what `lasso` does, but by a specification, and fails with an error in its text in place of the automaton's
+/// fault.
 pub fn lasso_tlsf(alloc: Global, role: Role, texts: &[u8]) -> Result<Answer, Refusal>
     ensures { Gives reply_of (AnswersLassoTlsf role texts.now) result }
 {
@@ -38,8 +32,6 @@ pub fn lasso_tlsf(alloc: Global, role: Role, texts: &[u8]) -> Result<Answer, Ref
     run_circuit(alloc, role, &specification, aag, letters)
 }
 
-/// Parses a circuit and a stimulus, runs the circuit on the stimulus, and states whether the specification is
-/// satisfied.
 fn run_circuit(
     alloc: Global,
     role: Role,
@@ -57,8 +49,6 @@ fn run_circuit(
     tell(alloc, role, specification, &circuit, &stimulus)
 }
 
-/// Whether a circuit's run on a stimulus satisfies a specification, or the fault that the stimulus has an empty lap or
-/// the circuit has wrong symbols.
 fn tell(
     alloc: Global,
     role: Role,
@@ -86,11 +76,8 @@ fn tell(
     }
 }
 
-/// The word of a circuit's run on a stimulus, whose letters have a bit for each proposition of a specification.
-///
-/// # Errors
-///
-/// Fails with the first of `Width`, `EmptyLap` and `Symbols` that applies, or if memory runs out.
+/// The word of the circuit's run, with a bit for each proposition. Fails with the first of `Width`, `EmptyLap` and
+/// `Symbols` that applies, or if memory runs out.
 fn word_of(
     alloc: Global,
     role: Role,
@@ -123,7 +110,6 @@ fn word_of(
     )
 }
 
-/// The line that states whether a word satisfies a specification, as an answer.
 fn told(
     alloc: Global,
     specification: &Specification,
@@ -139,7 +125,6 @@ fn told(
     Ok(Answer::text(satisfaction_line(alloc, satisfied, word)?))
 }
 
-/// The line that states whether a word satisfies a specification, and the lengths of the word's stem and lap.
 fn satisfaction_line(
     alloc: Global,
     satisfied: bool,

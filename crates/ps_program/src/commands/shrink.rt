@@ -1,5 +1,4 @@
-//! The command `shrink`. The answer of `shrink` is a circuit that wins, as the given one does, and is not larger; or the
-//! answer of `verify`, if the given circuit loses.
+//! The command `shrink`.
 
 ghost use Rattle.ps_automaton.specs.Automata.{IsBuiltFrom};
 ghost use Rattle.ps_automaton.specs.Chains.{Chain};
@@ -22,16 +21,11 @@ use ps_shrink::{Reduction, shrunk};
 use ps_simulate::Role;
 use std::alloc::Global;
 
-/// How many changes of a circuit are tried.
+/// How many changes are tried.
 const STEPS: u32 = 100_000;
 
-/// A circuit that wins and is not larger than the given one; if the given circuit loses, a stimulus on which it loses.
-///
-/// # Errors
-///
-/// Fails with the first of these faults: a missing text, a fault of the automaton, an error in the circuit's text,
-/// wrong symbols for its role (`Symbols`), outputs that depend on inputs which come later (`Timing`). Fails at any time
-/// if memory runs out.
+/// A circuit that wins and is not larger than the given one; if that loses, a stimulus on which it does. Fails as
+/// `verify` does.
 pub fn shrink(alloc: Global, order: Order, role: Role, texts: &[u8]) -> Result<Answer, Refusal>
     ensures { Gives reply_of (AnswersShrink order role texts.now) result }
 {
@@ -40,7 +34,6 @@ pub fn shrink(alloc: Global, order: Order, role: Role, texts: &[u8]) -> Result<A
     shrink_text(alloc, order, role, &automaton, aag)
 }
 
-/// Parses a text as a circuit, and makes the circuit smaller.
 fn shrink_text(
     alloc: Global,
     order: Order,
@@ -55,8 +48,7 @@ fn shrink_text(
     tell(alloc, order, role, automaton, circuit)
 }
 
-/// The smaller circuit, or the stimulus on which the circuit loses, or a fault: the circuit's symbols are wrong, or the
-/// circuit moves first but its outputs depend on its inputs.
+/// The smaller circuit, the stimulus, or a fault as in `verify`.
 fn tell(
     alloc: Global,
     order: Order,

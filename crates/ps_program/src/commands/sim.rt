@@ -1,4 +1,4 @@
-//! The command that runs a circuit.
+//! The command `sim`.
 
 ghost use Rattle.std.specs.Prelude.{◌≡◌, ◌++◌, ◌∷◌, [], length, All, OnOk, IfOk};
 ghost use Rattle.ps_simulate.specs.StimulusTexts.{digits_of};
@@ -12,12 +12,8 @@ use ps_circuit::Circuit;
 use ps_simulate::{Letters, Simulator};
 use std::alloc::{AllocError, Global};
 
-/// The trace of a circuit at given letters.
-///
-/// # Errors
-///
-/// Fails with the first of these faults: a missing text, an error in the circuit's text, an error in the stimulus.
-/// Fails at any time if memory runs out.
+/// The trace of a circuit at given letters. Fails with the first of: a missing text, an error in the circuit's text,
+/// one in the stimulus.
 pub fn sim(alloc: Global, texts: &[u8]) -> Result<Answer, Refusal>
     ensures { Gives reply_of (AnswersSim texts.now) result }
 {
@@ -26,7 +22,7 @@ pub fn sim(alloc: Global, texts: &[u8]) -> Result<Answer, Refusal>
     Ok(Answer::text(text))
 }
 
-/// The trace as a text, with a line for each letter.
+/// The trace, a line for each letter.
 fn trace_text(alloc: Global, circuit: &Circuit, letters: &Letters) -> Result<Vec<u8>, AllocError>
     requires { All (λ letter. length letter ≡ length circuit.now.inputs) letters.now }
     ensures { IfOk result (λ text. PrintsTrace circuit.now letters.now text.items) }
@@ -41,7 +37,7 @@ fn trace_text(alloc: Global, circuit: &Circuit, letters: &Letters) -> Result<Vec
     Ok(text)
 }
 
-/// Makes the circuit's step at an input letter, and appends a line for this step.
+/// Makes a step, with a line for it.
 fn write_step(
     text: &mut Vec<u8>,
     simulator: &mut Simulator,
@@ -59,7 +55,7 @@ fn write_step(
     write_bits(text, outputs, b'\n')
 }
 
-/// Appends a digit for each bit, and then the byte `end`.
+/// Appends a digit for each bit, and then `end`.
 pub(crate) fn write_bits(text: &mut Vec<u8>, bits: &[bool], end: u8) -> Result<(), AllocError>
     ensures { OnOk result (text.new.items ≡ text.old.items ++ digits_of bits.now ++ end ∷ []) }
 {

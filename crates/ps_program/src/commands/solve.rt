@@ -1,4 +1,4 @@
-//! The command that solves a game.
+//! The command `solve`.
 
 ghost use Rattle.std.specs.Prelude.{◌≡◌};
 ghost use Rattle.ps_program.specs.Outcomes.{Gives};
@@ -12,11 +12,8 @@ use ps_machine::Solver;
 use ps_synthesis::{certificate_text, certified};
 use std::alloc::Global;
 
-/// The text of a certificate of a game, which states who wins each vertex, and by which moves.
-///
-/// # Errors
-///
-/// Fails with the first error of the game's text, or else as `certify` does.
+/// The text of a certificate of a game, which states who wins each vertex, and by which moves. Fails with the first
+/// error of the game's text, or else as `certify` does.
 pub fn solve<S: Solver>(
     alloc: Global,
     text: &[u8],
@@ -30,12 +27,8 @@ pub fn solve<S: Solver>(
     certify(alloc, &game, solver, compact)
 }
 
-/// The text of a certificate of a game.
-///
-/// # Errors
-///
-/// Fails with the solver's fault, or because the solver's certificate does not fit the game or is not valid; fails at
-/// any time if memory runs out.
+/// The text of a certificate of a game. Fails with the solver's fault, or because its certificate does not fit the game
+/// or is not valid.
 pub fn certify<S: Solver>(
     alloc: Global,
     game: &NamedGame,

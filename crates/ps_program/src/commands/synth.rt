@@ -1,4 +1,4 @@
-//! The command that makes a circuit for an automaton.
+//! The command `synth`.
 
 ghost use Rattle.std.specs.Prelude.{◌≡◌, ℕ, List};
 ghost use Rattle.ps_program.specs.Outcomes.{Gives};
@@ -15,12 +15,8 @@ use ps_machine::Solver;
 use ps_synthesis::Problem;
 use std::alloc::Global;
 
-/// The circuit for the automaton of a text. If a certificate follows this text in the input, the second solver is fed
-/// the certificate's text.
-///
-/// # Errors
-///
-/// Fails if a text is missing, or with the fault that synthesis returns; fails at any time if memory runs out.
+/// The circuit for the automaton of a text. If a certificate follows, the second solver is fed it. Fails if a text is
+/// missing, or with the fault of synthesis.
 pub fn synth<S: Solver, T: Solver>(
     alloc: Global,
     asked: SynthLine,
@@ -40,8 +36,7 @@ pub fn synth<S: Solver, T: Solver>(
     }
 }
 
-/// The circuit for the automaton of a text, made with the given solver, which is fed the certificate's text that
-/// follows in the input.
+/// The circuit by the certificate that follows in the input.
 fn report_by_certificate<S: Solver>(
     alloc: Global,
     asked: SynthLine,
@@ -56,7 +51,6 @@ fn report_by_certificate<S: Solver>(
     report(alloc, asked, text, solver)
 }
 
-/// The circuit for the automaton of a text, made with the given solver.
 fn report<S: Solver>(
     alloc: Global,
     asked: SynthLine,
@@ -72,7 +66,6 @@ fn report<S: Solver>(
     answer
 }
 
-/// The circuit for the automaton of a problem, made with the given solver.
 fn solution<S: Solver>(
     alloc: Global,
     asked: SynthLine,

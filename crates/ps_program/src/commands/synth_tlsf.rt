@@ -1,4 +1,4 @@
-//! The command `synth --tlsf`, which makes a circuit for a specification.
+//! The command `synth --tlsf`.
 
 ghost use Rattle.std.specs.Prelude.{◌≡◌, IfOk};
 ghost use Rattle.ps_circuit.specs.Written.{text_of};
@@ -14,12 +14,7 @@ use ps_simulate::Role;
 use ps_specification::{Translator, Winner, synthesise_specification};
 use std::alloc::{AllocError, Global};
 
-/// The circuit for the specification of a text, made with the given translator and solver, and judged by the
-/// specification.
-///
-/// # Errors
-///
-/// Fails with the fault of synthesis for the specification, or if memory runs out.
+/// The circuit for the specification of a text, judged by it. Fails with the fault of synthesis.
 pub fn synth_tlsf<T: Translator, S: Solver>(
     alloc: Global,
     text: &[u8],
@@ -34,7 +29,7 @@ pub fn synth_tlsf<T: Translator, S: Solver>(
     Ok(print_winner(alloc, &winner)?)
 }
 
-/// The line that states the winner, and then the winner's circuit. Fails if memory runs out.
+/// The line that states the winner, and the circuit.
 fn print_winner(alloc: Global, winner: &Winner) -> Result<Answer, AllocError>
     ensures answer { IfOk result (λ answer. reply_of answer ≡ winner_reply winner.now.role winner.now.circuit) }
     ensures printed { IfOk result (λ _. PrintsCircuit (text_of winner.now.circuit) winner.now.circuit) }
@@ -42,7 +37,6 @@ fn print_winner(alloc: Global, winner: &Winner) -> Result<Answer, AllocError>
     print_circuit(alloc, is_controller(winner.role), &winner.circuit)
 }
 
-/// Whether the circuit is a controller.
 fn is_controller(role: Role) -> bool
     ensures { result ≡ is_controller role }
 {

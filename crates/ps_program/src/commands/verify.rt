@@ -1,5 +1,4 @@
-//! The command `verify`. The answer of `verify` states whether an automaton accepts each lasso trace of a controller,
-//! or no lasso trace of an environment.
+//! The command `verify`.
 
 ghost use Rattle.std.specs.Prelude.{◌≡◌, ◌++◌, IfOk, OnOk};
 ghost use Rattle.ps_automaton.specs.Automata.{IsBuiltFrom};
@@ -26,13 +25,8 @@ use ps_verify::{Judgement, verified};
 use std::alloc::{AllocError, Global};
 
 /// Whether an automaton accepts each lasso trace of a controller, or none of an environment; if not, a stimulus on
-/// which the circuit loses.
-///
-/// # Errors
-///
-/// Fails with the first of these faults: a missing text, a fault of the automaton, an error in the circuit's text,
-/// wrong symbols for its role (`Symbols`), outputs that depend on inputs which come later (`Timing`). Fails at any time
-/// if memory runs out.
+/// which the circuit loses. Fails with the first of: a missing text, a fault of the automaton, an error in the
+/// circuit's text, wrong symbols for its role (`Symbols`), outputs that depend on inputs which come later (`Timing`).
 pub fn verify(alloc: Global, order: Order, role: Role, texts: &[u8]) -> Result<Answer, Refusal>
     ensures { Gives reply_of (AnswersVerify order role texts.now) result }
 {
@@ -41,7 +35,6 @@ pub fn verify(alloc: Global, order: Order, role: Role, texts: &[u8]) -> Result<A
     verify_text(alloc, order, role, &automaton, aag)
 }
 
-/// Parses a text as a circuit, and judges the circuit.
 fn verify_text(
     alloc: Global,
     order: Order,
@@ -56,8 +49,7 @@ fn verify_text(
     tell(alloc, order, role, automaton, &circuit)
 }
 
-/// The judgement on a circuit, or a fault: the circuit's symbols are wrong, or the circuit moves first but its outputs
-/// depend on its inputs.
+/// The judgement, or the fault `Symbols` or `Timing`.
 fn tell(
     alloc: Global,
     order: Order,
@@ -81,7 +73,7 @@ fn tell(
     }
 }
 
-/// The word `loses`, and the stimulus on which the circuit loses.
+/// `loses`, and the stimulus on which the circuit does.
 pub(crate) fn losing_text(alloc: Global, stimulus: &Stimulus) -> Result<Vec<u8>, AllocError>
     ensures { IfOk result (λ text. text.items ≡ verifying.losing_text stimulus.now) }
 {
@@ -92,7 +84,7 @@ pub(crate) fn losing_text(alloc: Global, stimulus: &Stimulus) -> Result<Vec<u8>,
     Ok(text)
 }
 
-/// Appends each letter of a stimulus as a line of bits.
+/// Appends each letter as a line of bits.
 fn write_letters(text: &mut Vec<u8>, letters: &[Vec<bool>]) -> Result<(), AllocError>
     ensures { OnOk result (text.new.items ≡ text.old.items ++ letter_lines (letters_of letters.now)) }
 {

@@ -1,5 +1,4 @@
-//! The command `verify --tlsf`. The answer of `verify --tlsf` states whether each lasso trace of a controller satisfies a
-//! specification, or no lasso trace of an environment does.
+//! The command `verify --tlsf`.
 
 ghost use Rattle.std.specs.Prelude.{map};
 ghost use Rattle.ps_circuit.specs.Circuits.{IsCircuit};
@@ -23,14 +22,8 @@ use ps_tlsf::Specification;
 use ps_verify::Judgement;
 use std::alloc::Global;
 
-/// Whether each lasso trace of a controller satisfies a specification, or none of an environment; if not, a stimulus on
-/// which the circuit loses.
-///
-/// # Errors
-///
-/// Fails with the first of these faults: a missing text, an error in the specification's text, an error in the
-/// circuit's text, wrong symbols for its role (`Symbols`), outputs that depend on inputs which come later (`Timing`).
-/// Fails at any time if memory runs out.
+/// Does what `verify` does, but by a specification, and fails with an error in its text in place of the automaton's
+/// fault.
 pub fn verify_tlsf(alloc: Global, role: Role, texts: &[u8]) -> Result<Answer, Refusal>
     ensures { Gives reply_of (AnswersVerifyTlsf role texts.now) result }
 {
@@ -39,7 +32,6 @@ pub fn verify_tlsf(alloc: Global, role: Role, texts: &[u8]) -> Result<Answer, Re
     verify_text(alloc, role, &specification, aag)
 }
 
-/// Parses a text as a circuit, and judges the circuit.
 fn verify_text(
     alloc: Global,
     role: Role,
@@ -54,8 +46,7 @@ fn verify_text(
     tell(alloc, role, specification, &circuit)
 }
 
-/// The judgement on a circuit, or a fault: the circuit's symbols are wrong, or the circuit moves first but its outputs
-/// depend on its inputs.
+/// The judgement, or the fault `Symbols` or `Timing`.
 fn tell(
     alloc: Global,
     role: Role,

@@ -1,0 +1,11 @@
+use Rattle.std.proofs.Common.{◌≡◌, ◌<◌, ◌^◌, arith}
+use Rattle.std.specs.Int.{bit_at}
+use Rattle.std.proofs.lemmas.Nat.Bits.{bit_at_above}
+use Rattle.ps_program.proofs.commands.agree.has_bit.Goals as goal
+
+pub returns-else-place-lt64 : goal.returns-else-place-lt64
+returns-else-place-lt64 c =
+    let small : c.args.letter < 2 ^ 64 = omega arith in
+    let none : bit_at c.args.letter c.args.place ≡ 0 =
+    bit_at_above c.args.letter 64 c.args.place small c.if-place-lt64.false in
+    grind arith
