@@ -1,17 +1,15 @@
-//! Tests of automata: the lassos that automata accept, and the letters at which labels are true.
+//! Which lassos automata accept, and where labels are true.
 
 use ps_automaton::Automaton;
 use std::alloc::Global;
 use std::test::Fail;
 
-/// The automaton of an HOA text.
 fn automaton_of(alloc: Global, text: &str) -> Result<Automaton, Fail> {
     let file = ps_hoa::read(alloc, text.as_bytes())?;
     Ok(Automaton::build(alloc, &file)?)
 }
 
-/// Two states. The automaton requires that each request is granted, at once or later. State 1 means that a request is
-/// pending.
+/// Each request must be granted, at once or later. In state 1 a request is pending.
 const TWO_STATES: &str = "HOA: v1
 States: 2
 Start: 0
@@ -28,7 +26,7 @@ State: 1
 --END--
 ";
 
-/// Whether an automaton over two propositions accepts each of two fixed lassos.
+/// Whether an automaton over two propositions accepts each of two lassos.
 fn verdicts(automaton: &Automaton) -> Result<[bool; 2], Fail> {
     if automaton.names().len() != 2 {
         return Ok([false; 2]);
@@ -39,7 +37,6 @@ fn verdicts(automaton: &Automaton) -> Result<[bool; 2], Fail> {
     ])
 }
 
-/// Whether the automaton of a text accepts each of the two lassos.
 fn verdicts_of(alloc: Global, text: &str) -> Result<[bool; 2], Fail> {
     let automaton = automaton_of(alloc, text)?;
     verdicts(&automaton)
@@ -51,7 +48,7 @@ fn lassos_are_accepted(rt: HostRuntime) -> Result<(), Fail> {
     Ok(())
 }
 
-/// Each of 32 states has one edge with a random label.
+/// 32 states, each with one edge, whose label is random.
 const DRAWN: &str =
     "HOA: v1 Start: 0 AP: 4 \"a\" \"b\" \"c\" \"d\" controllable-AP: Acceptance: 0 t --BODY--
     State: 0 [!!0&(1|3|0)|!!1&(1&1&f|!f|3&1&1)&((3&1)&0&3)] 32
@@ -88,7 +85,7 @@ const DRAWN: &str =
     State: 31 [!(!2&3&1&1&1&1)|(!(2|2|2)&(1&!3))|(!3&2&3&1&0&(!3&!3&!0))] 32
     --END--";
 
-/// The truth table of each state's label, as another program computed it: bit k is the truth value at the letter k.
+/// The truth table of each label, as another program computed it: bit k is the truth value at the letter k.
 const TRUTHS: [u16; 32] = [
     0xAAAA, 0x0202, 0xFFFE, 0x3333, 0x0500, 0xF5FF, 0x5555, 0x0F0F, 0xF0F0, 0x80C0, 0xCC44, 0xE5A0,
     0xCCC0, 0x00FF, 0x77FF, 0xFFBF, 0x0070, 0xCCCC, 0xAA00, 0xCFCF, 0x3330, 0xFBFB, 0x8888, 0xFDFC,
@@ -108,7 +105,7 @@ fn truths(automaton: &Automaton, state: u32) -> u16 {
     truths
 }
 
-/// The first state of `DRAWN` whose label has another truth table than `TRUTHS` states.
+/// The first state of `DRAWN` whose label has another truth table.
 fn first_wrong(alloc: Global) -> Result<Option<u32>, Fail> {
     let automaton = automaton_of(alloc, DRAWN)?;
     Ok((0..32).find(|state| truths(&automaton, *state) != TRUTHS[*state as usize]))

@@ -1,4 +1,4 @@
-//! Tests that call, with ample memory, operations on decision diagrams that allocate memory.
+//! Operations on decision diagrams that allocate memory, with ample memory.
 
 use indexmap::IndexSet;
 use ps_diagram::{OverlayError, Store};
@@ -6,8 +6,8 @@ use ps_label::{Label, Labels};
 use std::alloc::{AllocError, Global};
 use std::test::Fail;
 
-/// The leaves at the letter 0 of three diagrams. The operations `relabel` and `guard` each make a diagram from the leaf
-/// 2, and `fill` makes one from the diagram that has no leaf at any letter.
+/// The leaves at the letter 0 of three diagrams: `relabel` and `guard` make theirs from the leaf 2, and `fill` from the
+/// diagram without leaves.
 fn changed(store: &mut Store) -> Result<[Option<u64>; 3], AllocError> {
     let two = store.leaf(2)?;
     let relabelled = store.relabel(two, &[4, 5, 6])?;
@@ -21,7 +21,7 @@ fn changed(store: &mut Store) -> Result<[Option<u64>; 3], AllocError> {
     ])
 }
 
-/// The leaf of the diagram that `relabel_from` makes, in a new store, from the leaf 2 of the given store.
+/// The leaf of what `relabel_from` makes, in a new store, from the leaf 2 of this one.
 fn relabelled_from(alloc: Global, store: &mut Store) -> Result<Option<u64>, AllocError> {
     if store.propositions() != 2 {
         return Ok(None);
@@ -32,7 +32,7 @@ fn relabelled_from(alloc: Global, store: &mut Store) -> Result<Option<u64>, Allo
     Ok(made.eval(relabelled, 0))
 }
 
-/// Whether `overlay` reports that, at the same letter, one diagram has the leaf 4 and the other the leaf 1.
+/// Whether `overlay` reports a clash of the leaves 4 and 1.
 fn clashes(store: &mut Store) -> Result<bool, AllocError> {
     let first = store.leaf(4)?;
     let second = store.leaf(1)?;
@@ -45,7 +45,7 @@ fn clashes(store: &mut Store) -> Result<bool, AllocError> {
     ))
 }
 
-/// The smallest letter at which the diagram of a label has the leaf 1.
+/// The least letter at which the diagram of a label has the leaf 1.
 fn least_letter(alloc: Global, store: &mut Store) -> Result<Option<u64>, AllocError> {
     if store.propositions() != 2 {
         return Ok(None);
@@ -54,8 +54,8 @@ fn least_letter(alloc: Global, store: &mut Store) -> Result<Option<u64>, AllocEr
     store.path_to(node, 1)
 }
 
-/// Two numbers for the diagram that has a leaf 1 only at the letter 3: the number of its leaves, and the number of
-/// classes of letters that `classes_in_copy` computes for it.
+/// How many leaves a diagram has that has a leaf 1 only at the letter 3, and how many classes of letters
+/// `classes_in_copy` finds.
 fn leaves_and_classes(store: &mut Store) -> Result<(usize, usize), AllocError> {
     if store.propositions() != 2 {
         return Ok((0, 0));
@@ -67,8 +67,8 @@ fn leaves_and_classes(store: &mut Store) -> Result<(usize, usize), AllocError> {
     Ok((leaves, classes.list.len()))
 }
 
-/// The leaves of two diagrams, each at the letters 1 and 0. The first diagram has the leaf 4 where the first
-/// proposition is true, and otherwise the leaf 5. The second diagram is that of the first proposition's negation.
+/// The leaves at the letters 1 and 0 of two diagrams: one has the leaf 4 where the first proposition is true, and else
+/// 5; the other is that of the negation.
 fn chosen(store: &mut Store) -> Result<[Option<u64>; 4], AllocError> {
     if store.propositions() != 2 {
         return Ok([None; 4]);
@@ -86,9 +86,8 @@ fn chosen(store: &mut Store) -> Result<[Option<u64>; 4], AllocError> {
     ])
 }
 
-/// Joins two diagrams: the diagram of the first proposition, and the leaf 7. Each leaf of the joined diagram is the
-/// index, in `pairs`, of a pair of their leaves. Returns the leaves of the joined diagram at the letters 1 and 0, and
-/// the number of pairs.
+/// Joins the diagram of the first proposition and the leaf 7. A leaf of the result is the index of a pair of their
+/// leaves. Gives those at the letters 1 and 0, and the number of pairs.
 fn paired(alloc: Global, store: &mut Store) -> Result<([Option<u64>; 2], usize), AllocError> {
     if store.propositions() != 2 {
         return Ok(([None; 2], 0));
@@ -100,7 +99,7 @@ fn paired(alloc: Global, store: &mut Store) -> Result<([Option<u64>; 2], usize),
     Ok(([store.eval(paired, 1), store.eval(paired, 0)], pairs.len()))
 }
 
-/// The results of the tested operations on decision diagrams, with two propositions.
+/// What the operations give.
 #[derive(Debug, Drop, PartialEq, Eq)]
 struct Answered {
     changed: [Option<u64>; 3],
@@ -113,7 +112,6 @@ struct Answered {
     copied_propositions: u32,
 }
 
-/// The results of all tested operations on a store of decision diagrams.
 fn answers_of(alloc: Global, store: &mut Store) -> Result<Answered, AllocError> {
     Ok(Answered {
         changed: changed(store)?,
@@ -127,8 +125,8 @@ fn answers_of(alloc: Global, store: &mut Store) -> Result<Answered, AllocError> 
     })
 }
 
-/// The results of all tested operations on a new store of decision diagrams. If an allocation failed, as in a run of
-/// `rt try --test --fail-alloc N`, the operations are repeated on the same store.
+/// What they give on a new store. If an allocation failed, as with `rt try --test --fail-alloc N`, they are repeated on
+/// it.
 fn answers(alloc: Global) -> Result<Answered, AllocError> {
     let mut store = Store::new(alloc, 2);
     match answers_of(alloc, &mut store) {

@@ -1,18 +1,17 @@
-//! Tests of the values that the parser stores for texts of the Hanoi Omega-Automata format.
+//! What the parser of HOA texts keeps.
 
 use ps_hoa::read;
 use ps_label::Label;
 use std::alloc::{AllocError, Global};
 use std::test::Fail;
 
-/// The debug output of the value that the parser returns for an HOA text.
+/// The debug output of what the parser gives.
 fn kept(alloc: Global, text: &str) -> Result<String, Fail> {
     let file = read(alloc, text.as_bytes())?;
     Ok(format!(in alloc; "{file:?}")?)
 }
 
-/// The first of the given strings that the debug output of a parsed text lacks, or None if the output contains all of
-/// them.
+/// The first of these strings that the debug output lacks.
 fn lacking(
     alloc: Global,
     text: &str,
@@ -22,13 +21,13 @@ fn lacking(
     Ok(parts.iter().find(|part| !kept.contains(**part)).copied())
 }
 
-/// An HOA text with header items in an unusual order, comments in comments, acceptance sets, and edges without labels.
+/// Header items in an unusual order, comments in comments, acceptance sets, and edges without labels.
 const UNUSUAL: &str =
     "HOA: v1 /*a/*b*/c*/ controllable-AP: 1 0 1 acc-name: x 1 \"y\" Alias: @x 0 Alias: @y @x&!1
     tool: \"a\" \"b\" name: \"c\" Acceptance: 2 Fin(!1) AP: 2 \"a\\\"\" \"b\" Start: 3 States: 5
     --BODY-- State: 2 {1 0 1} 3 4 {1} 0 1 State: [t] 3 {0} 3 --END--";
 
-/// Strings that the debug output of the parsed text `UNUSUAL` must contain.
+/// What its debug output must contain.
 const PARTS_OF_UNUSUAL: [&str; 11] = [
     "states: 5, start: 3,",
     "[97, 34]",
@@ -43,14 +42,13 @@ const PARTS_OF_UNUSUAL: [&str; 11] = [
     "Edge { guard: OfState, target: 3, marks: [] }",
 ];
 
-/// An HOA text whose labels nest conjunctions and disjunctions of propositions and aliases, and whose acceptance
-/// condition is nested too.
+/// Labels and an acceptance condition that are nested.
 const NESTED: &str =
     "HOA: v1 Start: 0 AP: 2 \"a\" \"b\" controllable-AP: Alias: @x 0 Alias: @y 1 Acceptance: 3
     Inf(0)&Fin(!1)|(f|Fin(2)) --BODY--
     State: 0 [@y|t] 0 [@x&!0] 0 [0&1|f] 0 [0|1|(0|1)] 0 [!(0&1)&1] 0 --END--";
 
-/// Strings that the debug output of the parsed text `NESTED` must contain.
+/// What its debug output must contain.
 const PARTS_OF_NESTED: [&str; 6] = [
     "Stated(Either([Named(1), Truth(true)]))",
     "Stated(Both([Named(0), Negated(0)]))",
@@ -67,18 +65,18 @@ fn each_part_of_a_text_is_kept(rt: HostRuntime) -> Result<(), Fail> {
     Ok(())
 }
 
-/// An HOA text with an alias of a proposition, and an alias that uses it.
+/// An alias of a proposition, and an alias that uses it.
 const ALIASES: &str = "HOA: v1 Start: 0 AP: 1 \"a\" controllable-AP: Alias: @x 0 Alias: @y @x&!0
     Acceptance: 0 t --BODY-- State: 0 [@y|t] 0 --END--";
 
-/// The debug output of the aliases of an HOA text, each without the two forms of labels that are there for speed.
+/// The debug output of the aliases, without the two forms of labels that are there for speed.
 fn plain_aliases(alloc: Global, text: &str) -> Result<String, Fail> {
     let file = read(alloc, text.as_bytes())?;
     let plain = each_plain(alloc, file.aliases().as_slice())?;
     Ok(format!(in alloc; "{plain:?}")?)
 }
 
-/// Each of the labels, without the two forms that are there for speed.
+/// The labels without these two forms.
 fn each_plain(alloc: Global, labels: &[Label]) -> Result<Vec<Label>, AllocError> {
     let mut plain = Vec::new(alloc);
     for label in labels {

@@ -1,6 +1,6 @@
-//! Tests of labels, of automata, of decision diagrams, and of the parser of HOA texts. The tests check what no contract
-//! states, such as that the tested calls succeed if there is ample memory. What the program prints for automata is
-//! tested in `examples/rows/libraries-automata.toml`.
+//! Tests of what no contract states of labels, automata, decision diagrams and the parser of HOA texts, such as that
+//! calls succeed with ample memory. What the program prints for automata is tested in
+//! `examples/rows/libraries-automata.toml`.
 #![tactic(auto)]
 
 #[cfg(test)]

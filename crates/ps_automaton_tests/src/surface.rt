@@ -1,6 +1,6 @@
-//! The types, fields, variants and calls that users of the libraries for automata name, each with its type. This file
-//! compiles only as long as they stay as they are: a value is taken apart by a pattern that names all its parts, and is
-//! put together again.
+//! The types, fields, variants and calls that users of the libraries for automata name, each with its type. It compiles
+//! only as long as they stay as they are: a value is taken apart by a pattern that names all its parts, and put
+//! together again.
 
 use ps_automaton::{Automaton, AutomatonFault, Step};
 use ps_diagram::{Class, Classes, Node, OverlayError, Store};
@@ -15,7 +15,7 @@ fn typed<T>(value: T) -> T {
     value
 }
 
-/// Labels have these forms.
+/// The forms of labels.
 fn label(label: Label) -> Label {
     match label {
         Label::Truth(value) => Label::Truth(typed::<bool>(value)),
@@ -29,7 +29,7 @@ fn label(label: Label) -> Label {
     }
 }
 
-/// A constant is true or false at every letter, whatever the aliases are.
+/// A constant, whatever the aliases are.
 fn constant(labels: &Labels, letter: u64, scratch: &mut [bool]) -> Option<bool> {
     if scratch.len() == labels.as_slice().len() {
         Some(labels.eval(&Label::Truth(true), letter, scratch))
@@ -38,7 +38,7 @@ fn constant(labels: &Labels, letter: u64, scratch: &mut [bool]) -> Option<bool> 
     }
 }
 
-/// A token has a kind, its bytes, and the offsets at which it begins and ends.
+/// A token's kind, its bytes, and where it begins and ends.
 fn token<'a>(tokens: &mut Tokens<'a>) -> (Kind, &'a [u8], usize, usize) {
     let Token {
         kind,
@@ -49,12 +49,11 @@ fn token<'a>(tokens: &mut Tokens<'a>) -> (Kind, &'a [u8], usize, usize) {
     (kind, text, start, stop)
 }
 
-/// The parser takes the bytes of a text.
 fn file(alloc: Global, text: &[u8]) -> Result<HoaFile, HoaFault> {
     read(alloc, text)
 }
 
-/// What the header of a text states.
+/// What a header states.
 fn header(file: &HoaFile) -> (u32, u32, &[Vec<u8>], &[u32], &Labels, u32, &Cond) {
     (
         file.states(),
@@ -67,12 +66,12 @@ fn header(file: &HoaFile) -> (u32, u32, &[Vec<u8>], &[u32], &Labels, u32, &Cond)
     )
 }
 
-/// What the body of a text states.
+/// What a body states.
 fn body(file: &HoaFile, state: u32) -> (&[Row], Option<&Row>) {
     (file.rows(), file.row(state))
 }
 
-/// A row has a state, a label if the text gives one, marks and edges.
+/// A row's state, label, marks and edges.
 fn row(row: Row) -> (u32, Option<Label>, Marks, Vec<Edge>) {
     let Row {
         state,
@@ -83,7 +82,7 @@ fn row(row: Row) -> (u32, Option<Label>, Marks, Vec<Edge>) {
     (state, label, marks, edges)
 }
 
-/// An edge has a guard, a target and marks.
+/// An edge's guard, target and marks.
 fn edge(edge: Edge) -> (Guard, u32, Marks) {
     let Edge {
         guard,
@@ -93,7 +92,7 @@ fn edge(edge: Edge) -> (Guard, u32, Marks) {
     (guard, target, marks)
 }
 
-/// Guards have these forms.
+/// The forms of guards.
 fn guard(guard: Guard) -> Guard {
     match guard {
         Guard::Stated(label) => Guard::Stated(typed::<Label>(label)),
@@ -102,12 +101,12 @@ fn guard(guard: Guard) -> Guard {
     }
 }
 
-/// Marks are numbers of acceptance sets.
+/// The numbers of acceptance sets.
 fn sets(marks: &Marks) -> &[u32] {
     marks.as_slice()
 }
 
-/// Acceptance conditions have these forms.
+/// The forms of acceptance conditions.
 fn condition(condition: Cond) -> Cond {
     match condition {
         Cond::Always => Cond::Always,
@@ -119,7 +118,7 @@ fn condition(condition: Cond) -> Cond {
     }
 }
 
-/// The fault of a text has one of these causes, or memory ran out.
+/// The causes of a text's fault.
 fn cause(fault: HoaFault) -> Option<HoaCause> {
     match fault {
         HoaFault::Text { cause, offset: _ } => match cause {
@@ -160,21 +159,21 @@ fn divided(store: &mut Store, leaf: u64, split: u64) -> Result<(Option<u64>, Cla
     Ok((least, store.classes(node, split)?))
 }
 
-/// The classes of letters are listed, each by its least letter.
+/// The least letter of a class.
 fn least_letters(classes: &Classes) -> Option<(u64, Node)> {
     let list: &Vec<Class> = &classes.list;
     let Class { letter, rest } = list.first()?;
     Some((*letter, *rest))
 }
 
-/// Joining two diagrams gives a diagram, or two leaves that differ.
+/// Two diagrams, joined.
 fn joined(store: &mut Store, first: u64, second: u64) -> Result<Node, OverlayError> {
     let one = store.leaf(first)?;
     let other = store.leaf(second)?;
     store.overlay(one, other)
 }
 
-/// Two diagrams clash by two leaves, or memory ran out.
+/// Two leaves that clash.
 fn clash(error: OverlayError) -> Option<(u64, u64)> {
     match error {
         OverlayError::Clash { first, second } => Some((first, second)),
@@ -182,12 +181,11 @@ fn clash(error: OverlayError) -> Option<(u64, u64)> {
     }
 }
 
-/// An automaton is built from a file.
 fn built(alloc: Global, file: &HoaFile) -> Result<Automaton, AutomatonFault> {
     Automaton::build(alloc, file)
 }
 
-/// A file has no automaton for one of these reasons.
+/// Why a file has no automaton.
 fn refusal(fault: AutomatonFault) -> Option<(u32, usize, usize)> {
     match fault {
         AutomatonFault::Nondeterministic {
@@ -200,7 +198,7 @@ fn refusal(fault: AutomatonFault) -> Option<(u32, usize, usize)> {
     }
 }
 
-/// A step leads to a state, by an edge with a priority.
+/// The state and the priority of a step.
 fn step(automaton: &Automaton, letter: u64) -> (u32, u64) {
     let Step { state, priority } = automaton.step(automaton.start(), letter);
     (state, priority)

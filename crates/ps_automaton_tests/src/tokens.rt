@@ -1,4 +1,4 @@
-//! Tests of the tokens of the Hanoi Omega-Automata format.
+//! Tests of the tokens of HOA texts.
 
 use ps_hoa::{Kind, Tokens};
 

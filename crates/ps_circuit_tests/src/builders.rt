@@ -1,11 +1,9 @@
-//! Tests of the gates that a circuit builder makes, with a case for each kind of multiplexer (constant, equal or other
-//! inputs).
+//! The gates of a circuit builder, with each kind of multiplexer (constant, equal or other inputs).
 
 use ps_aiger::{Builder, EncodeFault, Literal};
 use std::alloc::Global;
 
-/// The number of the literal that the builder's `mux` returns, or `None` if an argument's variable does not exist or
-/// the call fails.
+/// What `mux` returns, or `None` if it fails or an argument's variable does not exist.
 fn mux(builder: &mut Builder, s: u32, high: u32, low: u32) -> Option<u32> {
     let (s, high, low) = (Literal::new(s), Literal::new(high), Literal::new(low));
     let most = builder.variables();
@@ -16,8 +14,7 @@ fn mux(builder: &mut Builder, s: u32, high: u32, low: u32) -> Option<u32> {
     Some(literal.number())
 }
 
-/// Whether each multiplexer gives the expected literal, and the builder then has the expected number of variables. Each
-/// new gate adds one variable.
+/// Whether each multiplexer gives the expected literal, and the builder then has the expected number of variables.
 fn choices_are_right(alloc: Global) -> bool {
     let mut builder = Builder::new(alloc, 3);
     for (high, low, literal, variables) in [
@@ -42,7 +39,7 @@ fn each_row_of_the_table_of_choices(rt: HostRuntime) {
     assert!(rt; choices_are_right(rt.alloc()));
 }
 
-/// What the builder's `and` returns: the literal's number, or a fault; `None` if an argument's variable does not exist.
+/// What `and` returns, or `or`; `None` if an argument's variable does not exist.
 fn and(builder: &mut Builder, x: u32, y: u32) -> Option<Result<u32, EncodeFault>> {
     let (x, y) = (Literal::new(x), Literal::new(y));
     let most = builder.variables();
@@ -52,7 +49,6 @@ fn and(builder: &mut Builder, x: u32, y: u32) -> Option<Result<u32, EncodeFault>
     Some(builder.and(x, y).map(Literal::number))
 }
 
-/// What the builder's `or` returns: the literal's number, or a fault; `None` if an argument's variable does not exist.
 fn or(builder: &mut Builder, x: u32, y: u32) -> Option<Result<u32, EncodeFault>> {
     let (x, y) = (Literal::new(x), Literal::new(y));
     let most = builder.variables();
@@ -62,8 +58,7 @@ fn or(builder: &mut Builder, x: u32, y: u32) -> Option<Result<u32, EncodeFault>>
     Some(builder.or(x, y).map(Literal::number))
 }
 
-/// Whether several conjunctions and a disjunction over two variables have the expected literals, and the builder makes
-/// only one gate for all of them.
+/// Whether conjunctions and a disjunction over two variables are as expected, with one gate for all.
 fn gates_are_right(builder: &mut Builder) -> bool {
     for (x, y, literal) in [(2, 4, 6), (4, 2, 6), (2, 3, 0), (2, 2, 2), (1, 4, 4)] {
         if and(builder, x, y) != Some(Ok(literal)) {
@@ -73,8 +68,7 @@ fn gates_are_right(builder: &mut Builder) -> bool {
     or(builder, 3, 5) == Some(Ok(7)) && builder.gates().len() == 1
 }
 
-/// Whether `gates_are_right` returns true for a new builder. If `gates_are_right` returns false, it is called again
-/// with the same builder, since an allocation may have failed, as in a run of `rt try --test --fail-alloc N`.
+/// The same for a new builder, and again if it fails, as an allocation may with `rt try --test --fail-alloc N`.
 fn new_gates_are_right(alloc: Global) -> bool {
     let mut builder = Builder::new(alloc, 2);
     gates_are_right(&mut builder) || gates_are_right(&mut builder)
@@ -85,8 +79,7 @@ fn a_gate_is_made_once(rt: HostRuntime) {
     assert!(rt; new_gates_are_right(rt.alloc()));
 }
 
-/// Whether a builder with one variable left makes one more gate, and then rejects a further gate because no variable is
-/// left.
+/// Whether a builder with one variable left makes just one more gate.
 fn last_gates_are_right(alloc: Global) -> bool {
     let mut builder = Builder::new(alloc, 2147483646);
     and(&mut builder, 2, 4) == Some(Ok(4294967294))

@@ -1,21 +1,19 @@
-//! Tests of the parser and the writer of circuits.
+//! The parser and the writer of circuits.
 
 use ps_aiger::{Circuit, read, write};
 use std::alloc::Global;
 use std::test::Fail;
 
-/// An AIGER text in which gates are listed before the gates that they read, with a name for one input, one latch and
-/// one output.
+/// Gates before those that they read, with a name for one input, one latch and one output.
 const TWISTED: &str =
     "aag 5 1 1 3 3\n2\n4 10 1\n4\n10\n1\n10 9 7\n8 5 3\n6 4 2\ni0 r\nl0 q\no2 g\n";
 
-/// The text that the writer produces for the circuit that is parsed from a text.
+/// The text that is written after one is read.
 fn rewritten(alloc: Global, text: &str) -> Result<Vec<u8>, Fail> {
     let circuit = read(alloc, text.as_bytes())?;
     Ok(write(alloc, &circuit)?)
 }
 
-/// Whether parsing a text and writing the circuit gives the expected text.
 fn is_rewritten(alloc: Global, text: &str, wanted: &str) -> Result<bool, Fail> {
     Ok(rewritten(alloc, text)?.as_slice() == wanted.as_bytes())
 }
@@ -28,7 +26,7 @@ fn written_as_it_was_read(rt: HostRuntime) -> Result<(), Fail> {
     Ok(())
 }
 
-/// Whether the gates of the circuit that is parsed from a text are evaluated in the expected order.
+/// Whether the gates are evaluated in this order.
 fn is_ordered(alloc: Global, text: &str, wanted: &[usize]) -> Result<bool, Fail> {
     let circuit = read(alloc, text.as_bytes())?;
     Ok(circuit.order() == wanted)
@@ -40,7 +38,7 @@ fn gates_are_worked_out_behind_those_that_they_read(rt: HostRuntime) -> Result<(
     Ok(())
 }
 
-/// Whether the prefix of the given length of an AIGER text can be parsed as a circuit.
+/// Whether the first `length` bytes are a circuit.
 fn is_read(alloc: Global, text: &[u8], length: usize) -> bool {
     length <= text.len() && read(alloc, &text[..length]).is_ok()
 }

@@ -1,19 +1,17 @@
-//! Tests that compare the simulator of many runs in parallel, each in a lane of bits, with the simulator of a single
-//! run.
+//! The simulator of many runs, each in a lane of bits, against that of a single run.
 
 use ps_aiger::{Circuit, read};
 use ps_simulate::{LaneSimulator, Simulator};
 use std::alloc::{AllocError, Global};
 use std::test::Fail;
 
-/// An AIGER text of a circuit with one input, one latch whose first value is 1, and three gates. The circuit's first
-/// gate reads the two gates that are listed after it.
+/// The first of three gates reads those that follow. The latch is 1 at first.
 const FORWARD: &[u8] = b"aag 5 1 1 3 3\n2\n4 10 1\n4\n10\n1\n10 9 7\n8 5 3\n6 4 2\n";
 
-/// The result of a simulated step: the three outputs, and the value of the latch after the step.
+/// The three outputs of a step, and the latch after it.
 type Step = ([bool; 3], bool);
 
-/// The first step of the circuit in the simulator of a single run.
+/// The first step of a single run.
 fn plain_step(alloc: Global, circuit: &Circuit, input: bool) -> Result<Option<Step>, AllocError> {
     if circuit.inputs().len() != 1 || circuit.outputs().len() != 3 || circuit.latches().len() != 1 {
         return Ok(None);
@@ -24,8 +22,7 @@ fn plain_step(alloc: Global, circuit: &Circuit, input: bool) -> Result<Option<St
     Ok(Some((outputs, simulator.latch(0))))
 }
 
-/// The first step in the simulator of many runs: in the first lane, where the input is true, and in the last lane,
-/// where the input is false.
+/// That of many runs, with the input true in the first lane and false in the last.
 fn lane_steps(alloc: Global, circuit: &Circuit) -> Result<[Option<Step>; 2], AllocError> {
     if circuit.inputs().len() != 1 || circuit.outputs().len() != 3 || circuit.latches().len() != 1 {
         return Ok([None; 2]);
@@ -42,10 +39,9 @@ fn lane_steps(alloc: Global, circuit: &Circuit) -> Result<[Option<Step>; 2], All
     ])
 }
 
-/// The steps in the simulator of a single run, and those in two lanes of the simulator of many runs.
 type Steps = ([Option<Step>; 2], [Option<Step>; 2]);
 
-/// The first step of a circuit for each input, in the simulator of a single run and in that of many runs.
+/// The first step of a circuit for each input, by both simulators.
 fn steps(alloc: Global, circuit: &Circuit) -> Result<Steps, Fail> {
     let plain = [
         plain_step(alloc, circuit, true)?,
@@ -54,8 +50,6 @@ fn steps(alloc: Global, circuit: &Circuit) -> Result<Steps, Fail> {
     Ok((plain, lane_steps(alloc, circuit)?))
 }
 
-/// The first step of the circuit that is parsed from a text, for each input, in the simulator of a single run and in
-/// that of many runs.
 fn steps_of(alloc: Global, text: &[u8]) -> Result<Steps, Fail> {
     let circuit = read(alloc, text)?;
     steps(alloc, &circuit)

@@ -1,6 +1,5 @@
-//! Tests of circuits, machines, solvers and simulators. The tests check behaviour that no contract states. When no
-//! allocation fails, the tests also make library calls that the program psyn never makes. What the program psyn prints
-//! for circuits is tested by the rows of `examples/rows/libraries-circuits.toml`.
+//! Tests of what no contract states of circuits, machines, solvers and simulators, and of calls that psyn never makes.
+//! What the program prints for circuits is tested in `examples/rows/libraries-circuits.toml`.
 #![tactic(auto)]
 
 #[cfg(test)]

@@ -1,5 +1,4 @@
-//! Tests of the machine with finite memory that is extracted for the winner of an example automaton's game, and of that
-//! machine's circuit.
+//! The machine of the winner of an automaton's game, and its circuit.
 
 ghost use Rattle.std.specs.Prelude.{IfOk};
 ghost use Rattle.ps_machine.specs.Solving.{IsCertified};
@@ -13,13 +12,11 @@ use ps_synthesis::read_automaton;
 use std::alloc::Global;
 use std::test::Fail;
 
-/// The specification as an automaton: a grant must be given exactly when there is a request. In these tests the
-/// controller moves first, so the environment wins: it sees the grant, and makes a request exactly when there is no
-/// grant.
+/// A grant must be given exactly when there is a request. The controller moves first here, so the environment wins: it
+/// requests exactly when there is no grant.
 const EXACT: &[u8] =
     b"HOA: v1 Start: 0 AP: 2 \"r\" \"g\" controllable-AP: 1 Acceptance: 0 t --BODY-- State: 0 [0&1 | !0&!1] 0 --END--";
 
-/// The certificate that psyn's built-in solver computes for a game.
 fn solved(alloc: Global, game: &NamedGame) -> Result<Certificate, Fail>
     ensures { IfOk result (IsCertified game.now) }
 {
@@ -29,21 +26,20 @@ fn solved(alloc: Global, game: &NamedGame) -> Result<Certificate, Fail>
     }
 }
 
-/// The machine by which the winner of an automaton's game wins.
+/// The machine of the winner.
 fn machine_for(alloc: Global, automaton: &Automaton, order: Order) -> Result<Machine, Fail> {
     let game = game_of(alloc, automaton, order)?;
     let certificate = solved(alloc, &game)?;
     Ok(extract(alloc, automaton, order, &game, &certificate)?)
 }
 
-/// The winner's machine for an automaton's text, if the controller moves first.
+/// The same for a text, if the controller moves first.
 fn machine_of(alloc: Global, text: &[u8]) -> Result<Machine, Fail> {
     let automaton = read_automaton(alloc, text)?;
     machine_for(alloc, &automaton, Order::Moore)
 }
 
-/// The next memory state of a machine, and the letter that it outputs, or `None` if the given memory state does not
-/// exist.
+/// The next memory state and the letter, or `None` if there is no such memory state.
 fn step(machine: &Machine, memory: usize, letter: u64) -> Option<(usize, u64)> {
     if memory >= machine.memories() {
         return None;
@@ -52,7 +48,7 @@ fn step(machine: &Machine, memory: usize, letter: u64) -> Option<(usize, u64)> {
     Some((row.memory, row.letter))
 }
 
-/// The steps of the winner's machine from each of its first two memory states, with each value of the grant.
+/// The steps from the first two memory states, with each value of the grant.
 fn steps_of(alloc: Global, text: &[u8]) -> Result<[Option<(usize, u64)>; 4], Fail> {
     let machine = machine_of(alloc, text)?;
     Ok([
@@ -70,19 +66,16 @@ fn a_machine_remembers_and_plays(rt: HostRuntime) -> Result<(), Fail> {
     Ok(())
 }
 
-/// The AIGER text of the circuit that is made for a machine.
 fn circuit_text(alloc: Global, machine: &Machine) -> Result<Vec<u8>, Fail> {
     let circuit = encode(alloc, machine)?;
     Ok(write(alloc, &circuit)?)
 }
 
-/// The AIGER text of the circuit that is made for the winner's machine.
 fn circuit_text_of(alloc: Global, text: &[u8]) -> Result<Vec<u8>, Fail> {
     let machine = machine_of(alloc, text)?;
     circuit_text(alloc, &machine)
 }
 
-/// Whether the circuit of the winner's machine has the expected text.
 fn has_circuit(alloc: Global, text: &[u8], wanted: &[u8]) -> Result<bool, Fail> {
     Ok(circuit_text_of(alloc, text)?.as_slice() == wanted)
 }

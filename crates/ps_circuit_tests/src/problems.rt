@@ -1,4 +1,4 @@
-//! Tests that go from an automaton's text to the winner's circuit, written as a user of the library would write them.
+//! From an automaton's text to the winner's circuit, as a user of the library would write it.
 
 use ps_certificate::Certificate;
 use ps_game::{Arena, NamedGame};
@@ -7,12 +7,11 @@ use ps_synthesis::{Problem, Report, synthesise_by};
 use std::alloc::{AllocError, Global};
 use std::test::Fail;
 
-/// The specification as an automaton: a grant must be given exactly when there is a request.
+/// A grant must be given exactly when there is a request.
 const GRANTS: &[u8] =
     b"HOA: v1 Start: 0 AP: 2 \"r\" \"g\" controllable-AP: 1 Acceptance: 0 t --BODY-- State: 0 [0&1 | !0&!1] 0 --END--";
 
-/// The answer to a synthesis problem: the winner, and the texts that prove who wins. The function parses the problem
-/// from a text, solves its game, and makes a report from the certificate.
+/// Parses a problem, solves its game, and makes a report from the certificate.
 fn answer(alloc: Global, text: &[u8]) -> Result<Report, Fail> {
     let problem = Problem::read(alloc, text, Order::Mealy)?;
     let report = answer_to(alloc, &problem);
@@ -20,7 +19,7 @@ fn answer(alloc: Global, text: &[u8]) -> Result<Report, Fail> {
     report
 }
 
-/// The report on a synthesis problem, made from the certificate of psyn's built-in solver.
+/// The report by psyn's built-in solver.
 fn answer_to(alloc: Global, problem: &Problem) -> Result<Report, Fail> {
     let certificate = BuiltIn::new(alloc).solve(problem.game())?;
     Ok(problem.report(alloc, &certificate, false)?)
@@ -34,8 +33,7 @@ fn a_controller_grants_what_is_requested(rt: HostRuntime) -> Result<(), Fail> {
     Ok(())
 }
 
-/// A solver that records the number of vertices of the last game that it was given, and passes the game to another
-/// solver.
+/// Passes games to another solver, and records how many vertices the last one had.
 #[derive(Drop)]
 struct Noting<S> {
     vertices: usize,

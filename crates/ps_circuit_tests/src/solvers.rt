@@ -1,4 +1,4 @@
-//! Tests of the solver `Replay`, which is given the text of a certificate instead of computing one.
+//! The solver `Replay`, which is fed the text of a certificate.
 
 use ps_game::NamedGame;
 use ps_machine::{Replay, SolveFault, Solver};
@@ -6,14 +6,12 @@ use ps_pgsolver::{PgFault, read};
 use std::alloc::{AllocError, Global};
 use std::test::Fail;
 
-/// A game with two vertices, both owned by player 1, in PGSolver's format.
+/// Two vertices of player 1.
 const GAME: &[u8] = b"7 0 1 9; 9 1 1 9;";
 
-/// What a solver returned: the number of the certificate's entries, or the offset at which the certificate's text is
-/// rejected, or `None` for any other fault.
+/// The number of the certificate's entries, or the offset at which its text is rejected, or `None` for any other fault.
 type Answer = Result<usize, Option<usize>>;
 
-/// What the solver returns for a game, after it was given the text of a certificate.
 fn answer(solver: &mut Replay, game: &NamedGame) -> Answer {
     match solver.solve(game) {
         Ok(certificate) => Ok(certificate.entries.len()),
@@ -22,8 +20,7 @@ fn answer(solver: &mut Replay, game: &NamedGame) -> Answer {
     }
 }
 
-/// What the solver returns for a game, after it was given the text of a certificate. If the solver fails for a reason
-/// other than the text, it is called again, since an allocation may have failed, as in a run of `rt try --test
+/// The answer, or after a fault without an offset a second one: an allocation may have failed, by `rt try --test
 /// --fail-alloc N`.
 fn answer_again(solver: &mut Replay, game: &NamedGame) -> Answer {
     match answer(solver, game) {
@@ -32,7 +29,7 @@ fn answer_again(solver: &mut Replay, game: &NamedGame) -> Answer {
     }
 }
 
-/// Gives the text of a certificate to a solver, and tries again if an allocation failed.
+/// Feeds a text, and tries again if an allocation failed.
 fn feed(solver: &mut Replay, text: &[u8]) -> Result<(), AllocError> {
     match solver.feed(text) {
         Ok(()) => Ok(()),
@@ -40,11 +37,9 @@ fn feed(solver: &mut Replay, text: &[u8]) -> Result<(), AllocError> {
     }
 }
 
-/// What the solver returns before it is given any text, after a text that ends early, and after a complete text.
+/// Before any text, after one that ends early, and after a whole one.
 type Answers = [Answer; 3];
 
-/// What a new solver returns for a game before it is given any text, after a text that ends early, and after a complete
-/// text.
 fn answers_for(alloc: Global, game: &NamedGame) -> Result<Answers, Fail> {
     let mut solver = Replay::new(alloc);
     let none = answer_again(&mut solver, game);
@@ -57,8 +52,7 @@ fn answers_for(alloc: Global, game: &NamedGame) -> Result<Answers, Fail> {
     Ok([none, early, answer_again(&mut solver, game)])
 }
 
-/// The game that is parsed from a text in PGSolver's format. If parsing fails, the text is parsed again, since an
-/// allocation may have failed.
+/// The game of a text, parsed again after any failure.
 fn game_of(alloc: Global, text: &[u8]) -> Result<NamedGame, PgFault> {
     match read(alloc, text) {
         Ok(game) => Ok(game),
@@ -66,7 +60,6 @@ fn game_of(alloc: Global, text: &[u8]) -> Result<NamedGame, PgFault> {
     }
 }
 
-/// The results (`Answers`) of a new solver for the game that is parsed from a text.
 fn answers_of(alloc: Global, text: &[u8]) -> Result<Answers, Fail> {
     let game = game_of(alloc, text)?;
     answers_for(alloc, &game)

@@ -1,7 +1,6 @@
 //! The types, fields, variants and calls that users of the libraries for machines and circuits name, each with its
-//! type. This file compiles only as long as they stay as they are: a value is taken apart by a pattern that names all
-//! its parts. The calls of a `Builder` are named in `builders`, `extract` in `machines`, and the steps of a simulator
-//! in `lanes`.
+//! type. It compiles only as long as they stay as they are: a value is taken apart by a pattern that names all its
+//! parts. More calls are named in `builders`, `machines` and `lanes`.
 
 use ps_aiger::{
     AigCause, AigFault, Circuit, EncodeFault, Gate, Latch, Literal, encode, read, write,
@@ -17,14 +16,13 @@ use ps_simulate::{
 use ps_synthesis::{Report, SynthFault, synthesise_by};
 use std::alloc::{AllocError, Global};
 
-/// The game of an automaton, in an order of moves.
 fn game(alloc: Global, automaton: &Automaton, order: Order) -> Result<NamedGame, AllocError> {
     match order {
         Order::Mealy | Order::Moore => game_of(alloc, automaton, order),
     }
 }
 
-/// A step of a machine gives its next memory state and the letter that it outputs.
+/// A step's next memory state and letter.
 fn step(machine: &Machine, memory: usize, letter: u64) -> Option<(usize, u64)> {
     if memory >= machine.memories() {
         return None;
@@ -33,7 +31,6 @@ fn step(machine: &Machine, memory: usize, letter: u64) -> Option<(usize, u64)> {
     Some((memory, letter))
 }
 
-/// A solver is fed a text, and is asked for a certificate.
 fn asked<S: Solver>(
     solver: &mut S,
     text: &[u8],
@@ -43,12 +40,11 @@ fn asked<S: Solver>(
     Ok(solver.solve(game))
 }
 
-/// The two solvers.
 fn solvers(alloc: Global) -> (BuiltIn, Replay) {
     (BuiltIn::new(alloc), Replay::new(alloc))
 }
 
-/// A solver gives no certificate for one of these reasons, or memory ran out.
+/// Why there is no certificate.
 fn unsolved(fault: SolveFault) -> Option<Result<Vec<usize>, (CertCause, usize)>> {
     match fault {
         SolveFault::BadCycle(cycle) => Some(Ok(cycle)),
@@ -57,12 +53,11 @@ fn unsolved(fault: SolveFault) -> Option<Result<Vec<usize>, (CertCause, usize)>>
     }
 }
 
-/// The circuit of a machine.
 fn encoded(alloc: Global, machine: &Machine) -> Result<Circuit, EncodeFault> {
     encode(alloc, machine)
 }
 
-/// A machine has no circuit for one of these reasons.
+/// Why there is no circuit.
 fn is_too_large(fault: EncodeFault) -> bool {
     match fault {
         EncodeFault::CircuitTooLarge => true,
@@ -70,7 +65,6 @@ fn is_too_large(fault: EncodeFault) -> bool {
     }
 }
 
-/// What the lines of a circuit state.
 fn lines(circuit: &Circuit) -> (u32, &[Literal], &[Latch], &[Literal], &[Gate]) {
     (
         circuit.most(),
@@ -81,7 +75,7 @@ fn lines(circuit: &Circuit) -> (u32, &[Literal], &[Latch], &[Literal], &[Gate]) 
     )
 }
 
-/// A latch has a literal, the literal of its next value, and its first value.
+/// A latch's literal, that of its next value, and its first value.
 fn latch(latch: Latch) -> (Literal, Literal, bool) {
     let Latch {
         literal,
@@ -91,7 +85,7 @@ fn latch(latch: Latch) -> (Literal, Literal, bool) {
     (literal, next, reset)
 }
 
-/// A gate has a literal and those of its two inputs.
+/// A gate's literal and its inputs'.
 fn gate(gate: Gate) -> [Literal; 3] {
     let Gate {
         literal,
@@ -101,7 +95,6 @@ fn gate(gate: Gate) -> [Literal; 3] {
     [literal, first, second]
 }
 
-/// The symbol of the first input.
 fn input_symbol(circuit: &Circuit) -> Option<&[u8]> {
     if circuit.inputs().len() == 0 {
         return None;
@@ -109,7 +102,6 @@ fn input_symbol(circuit: &Circuit) -> Option<&[u8]> {
     circuit.input_name(0)
 }
 
-/// The symbol of the first latch.
 fn latch_symbol(circuit: &Circuit) -> Option<&[u8]> {
     if circuit.latches().len() == 0 {
         return None;
@@ -117,7 +109,6 @@ fn latch_symbol(circuit: &Circuit) -> Option<&[u8]> {
     circuit.latch_name(0)
 }
 
-/// The symbol of the first output.
 fn output_symbol(circuit: &Circuit) -> Option<&[u8]> {
     if circuit.outputs().len() == 0 {
         return None;
@@ -125,17 +116,14 @@ fn output_symbol(circuit: &Circuit) -> Option<&[u8]> {
     circuit.output_name(0)
 }
 
-/// The parser takes the bytes of a text, and the writer gives them.
 fn circuit(alloc: Global, text: &[u8]) -> Result<Circuit, AigFault> {
     read(alloc, text)
 }
 
-/// The text of a circuit.
 fn text_of(alloc: Global, circuit: &Circuit) -> Result<Vec<u8>, AllocError> {
     write(alloc, circuit)
 }
 
-/// The fault of a circuit text has one of these causes, or memory ran out.
 fn circuit_cause(fault: AigFault) -> Option<AigCause> {
     match fault {
         AigFault::Text { cause, offset: _ } => match cause {
@@ -151,12 +139,11 @@ fn circuit_cause(fault: AigFault) -> Option<AigCause> {
     }
 }
 
-/// A simulator runs a circuit.
 fn simulator<'a>(alloc: Global, circuit: &'a Circuit) -> Result<Simulator<'a>, AllocError> {
     Simulator::new(alloc, circuit)
 }
 
-/// A stimulus is a stem and a lap of letters.
+/// A stem and a lap of letters.
 fn stimulus(
     alloc: Global,
     text: &[u8],
@@ -166,7 +153,6 @@ fn stimulus(
     Ok((stem, lap))
 }
 
-/// The fault of a stimulus has one of these causes, or memory ran out.
 fn stimulus_cause(fault: StimulusFault) -> Option<StimulusCause> {
     match fault {
         StimulusFault::Text { cause, offset: _ } => match cause {
@@ -176,7 +162,7 @@ fn stimulus_cause(fault: StimulusFault) -> Option<StimulusCause> {
     }
 }
 
-/// Whether an automaton accepts what a circuit, in a role, makes of a lasso, with the lengths of the trace.
+/// The verdict on a lasso, and the lengths of the trace.
 fn verdict(
     alloc: Global,
     (circuit, automaton): (&Circuit, &Automaton),
@@ -194,7 +180,7 @@ fn verdict(
     Ok((accepted, stem, lap))
 }
 
-/// There is no verdict for one of these reasons, or memory ran out.
+/// Why there is no verdict.
 fn has_no_verdict(fault: LassoFault) -> bool {
     match fault {
         LassoFault::Width | LassoFault::EmptyLap | LassoFault::Symbols => true,
@@ -202,7 +188,7 @@ fn has_no_verdict(fault: LassoFault) -> bool {
     }
 }
 
-/// A report says whether the controller wins, and has the texts of the circuit, the game and the certificate.
+/// The winner, with the texts of circuit, game and certificate.
 fn report<S: Solver>(
     alloc: Global,
     text: &[u8],
@@ -217,7 +203,7 @@ fn report<S: Solver>(
     Ok((realizable, circuit_text, game_text, certificate_text))
 }
 
-/// A text has no report for one of these reasons. The first two kinds name a byte of a text.
+/// Why a text has no report. The first two kinds name a byte.
 fn refusal(fault: SynthFault) -> (Option<usize>, Option<AutomatonFault>, Option<Vec<u64>>) {
     match fault {
         SynthFault::Text { cause: _, offset } => (Some(offset), None, None),

@@ -29,7 +29,7 @@
 //! These calls keep every node of the store with its leaves, even if they fail (`Keeps`). So does
 //! `classes(node, split)`, which divides the letters over the propositions of `split` into classes: two are in one
 //! exactly if the node has the same leaf for both, whatever the other propositions' values (`AreClasses`).
-//! `classes_in_copy(other, node, split)` does this for a node of a store `other` that this one began as a copy of
+//! `classes_in_copy(other, node, split)` does this for a node of a store `other` of which this one began as a copy
 //! (`copy`). `eval`, `same` and `view` read a node without memory, and `product_of` a label, if it is a conjunction of
 //! literals. `len` counts the nodes, which are numbered from 0 (`Node::number`); `leaves` lists a node's leaves with
 //! their least letters, and `path_to` finds this for one leaf.
@@ -38,13 +38,13 @@
 //! indexed by the leaf. But for the first few results, which are not kept, `negated`, `guard`, `fill` and the three
 //! that relabel visit each node once; `overlay` and `both`, each reachable pair; `choose`, each triple. `composed_from`
 //! may visit a node again if the function that replaces its proposition is constant, since it then needs one side
-//! alone. `leaves` does not keep nodes that test one of the last three propositions.
+//! alone. `leaves` may revisit nodes that test one of the last three propositions.
 //!
-//! Besides the nodes of the leaf and of none, `of_letter` makes one for each proposition, and `of_label`, for a
-//! product, at most one for each literal; it joins the operands of another disjunction half by half, and negates such a
-//! join for another conjunction. `of_cases` splits the list at one proposition after another; it makes no node if cases
-//! that differ are true at one letter, or if it needs more than 256 steps for each case on average. `classes` first
-//! copies the store.
+//! Besides the nodes of the leaf and of none, `of_letter` makes one for each proposition, and `of_label_by`, for a
+//! product, at most one for each literal; other disjunctions are joined half by half, and other conjunctions as negated
+//! disjunctions. `of_cases` splits the list at one proposition after another; it returns no node if cases that differ
+//! are true at one letter, or if it needs more than 256 steps for each case on average. `classes` first copies the
+//! store.
 #![tactic(auto)]
 
 mod both;

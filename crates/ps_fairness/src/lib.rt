@@ -11,7 +11,7 @@
 //! A closed walk is within one strongly connected component, and edges of one component can be joined to a closed walk.
 //! So the search looks in each component for an edge with the first mark, then for one with the second, until a mark is
 //! missing. The time is at most proportional to the number of vertices, and to that of slots times that of marks; the
-//! walk has at most as many edges as the component has vertices, times the number of marks, or 1.
+//! walk has at most as many edges as the component has vertices, times the marks, or times 1.
 #![tactic(auto)]
 
 mod cycles;

@@ -15,10 +15,10 @@
 //! | `NamedGame::new`, `game`, `id`, `name` | a game with ids and optional names |
 //! | `NamedGame::with_first_names`, `with_names` | the same with names for the first vertices only, or for all |
 //! | `Names::with_capacity`, `push`, `get` | a list of names in one buffer; adds a name; the name with an index |
-//! | `FlatGame::of` | the same game with numbers of 4 or 8 bytes, in four arrays; also an `Arena` |
+//! | `FlatGame::of` | the same game in four arrays, two of them of 4 or 8 bytes; also an `Arena` |
 //! | `fits_narrow` | whether 4 bytes hold the numbers of vertices and edges; 8 bytes always do |
 //! | `Player::of_number`, `of_priority` | the player with a number, 0 or 1; the player who wins a priority |
-//! | `Player::opponent`, `owns`, `number` | the other player; who moves; the number of a player |
+//! | `Player::opponent`, `owns`, `number` | the other player; whether it owns a vertex; its number |
 //! | `Region::empty`, `full`, `insert`, `remove`, `contains`, `count` | a set of vertices, one bit each |
 //! | `Strategy::empty`, `set`, `get` | a move, or none, for each vertex |
 //! | `Subgame::whole`, `find`, `known`, `region` | a region whose vertices have successors in it; `find` checks this |
@@ -27,8 +27,8 @@
 //! | `GameFault::number`, `name` | the number and name of a fault in psyn's list of faults |
 //!
 //! `Counts` tells how much work a solver did; a `NonzeroCount` is one of a certificate's counts. A player holds a set
-//! by a table if it stays there and wins each loop of its plays. A history table moves by the whole path so far, up to
-//! a length. Each law is a theorem, stated as the contract of a function with an empty body:
+//! by a table if it stays there and wins each loop of its plays. A history table gives a move for each path, up to a
+//! length. Each law is a theorem, stated as the contract of a function with an empty body:
 //!
 //! | Law | What it states |
 //! |---|---|

@@ -1,6 +1,5 @@
-//! Tests of two solvers that stop without a result when their limit on work is used up: the budget of `regions_within`,
-//! or the fuel of `attempt`. The tests check whether a given budget or fuel suffices for a result, and whether the
-//! result has the same winning region as that of the exact solver `regions`.
+//! Two solvers that stop without a result when their limit on work is used up: the budget of `regions_within`, or the
+//! fuel of `attempt`. Tested is whether a limit suffices, and the winning region is that of the exact solver `regions`.
 
 use ps_game::{Counts, Game, Region, Strategy};
 use ps_improvement::{Attempted, attempt};
@@ -9,17 +8,16 @@ use ps_zielonka::{regions, regions_within};
 use std::alloc::{AllocError, Global};
 use std::test::Fail;
 
-/// Player 0 wins the vertices 0 and 1 by moving from 0 to 1. Player 1 wins the vertices 2 and 3 by moving from 3 to 2.
+/// Player 0 wins the vertices 0 and 1 by moving from 0 to 1, and player 1 the vertices 2 and 3 by moving from 3 to 2.
 /// Vertex 4 belongs to player 1 and leads to 1 and 2.
 const BOTH: &[u8] = b"0 1 0 0,1; 1 2 1 0; 2 3 0 3; 3 0 1 2,0; 4 5 1 1,2;";
 
-/// A game with the vertices 0 to 9 in several strongly connected components, and with vertex 10, which has an edge only
-/// to itself and is won by player 1.
+/// The vertices 0 to 9 in several strongly connected components, and vertex 10, which leads only to itself and is won
+/// by player 1.
 const RUNGS: &[u8] =
     b"0 1 1 1; 1 1 0 0,7; 2 4 1 1,3; 3 3 0 4; 4 5 0 6,3; 5 0 0 6; 6 0 1 5; 7 7 0 6,8; 8 6 1 9,3;
     9 8 1 8; 10 1 1 10;";
 
-/// Whether two regions have the same vertices.
 fn are_same(one: &Region, other: &Region) -> bool {
     if one.places() != other.places() {
         return false;
@@ -32,7 +30,7 @@ fn are_same(one: &Region, other: &Region) -> bool {
     true
 }
 
-/// Whether a result was found that has the same winning region as the result of the exact solver `regions`.
+/// Whether a result was found, with the right winning region.
 fn is_right(
     alloc: Global,
     game: &Game,
@@ -68,10 +66,9 @@ fn attempts_end_with_their_fuel(rt: HostRuntime) -> Result<(), Fail> {
     Ok(())
 }
 
-/// A path of 1,000 vertices of player 0. The last vertex leads to itself and has the priority 1. Every vertex except
-/// the last has an even priority, which is greater than the priority of the next vertex on the path. The value of a
-/// vertex has an entry for each priority that the play from this vertex meets, so the values of the 1,000 vertices
-/// would have about 500,000 entries in total.
+/// A path of 1,000 vertices of player 0. The last leads to itself and has the priority 1; each other has an even
+/// priority, greater than that of the next. A vertex's value has an entry for each priority that its play meets, so all
+/// values would have about 500,000 entries.
 #[test]
 fn attempts_end_where_there_is_no_room(rt: HostRuntime) -> Result<(), Fail> {
     let mut text = String::new(rt.alloc());

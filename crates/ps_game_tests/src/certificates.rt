@@ -1,4 +1,4 @@
-//! Tests that read and write certificates, and check certificates against a game in each data structure for games.
+//! Certificates are read, written, and checked against a game in each data structure.
 
 use ps_certificate::{Certificate, Flaw, check, closed, fits, read, write, write_compact};
 use ps_game::{Arena, FlatGame, Game, NamedGame, fits_narrow};
@@ -7,28 +7,26 @@ use std::alloc::{AllocError, Global};
 /// Two vertices of player 1, with the ids 7 and 9 and the priorities 0 and 1.
 const GAME: &[u8] = b"7 0 1 9; 9 1 1 9;";
 
-/// A text of a certificate of the game `GAME`.
+/// A certificate of this game.
 const TEXT: &[u8] = b"psyncert 1\nvertices 2\nodd 1\neven 0\n7 1 9 0\n9 1 - 12\n";
 
-/// The certificate of the text `TEXT`, written as a compact text.
+/// The same as a compact text.
 const COMPACT: &[u8] = b"psyncert 2\nvertices 2\nodd 1\neven 0\n7 1 9\n9 1 - 0:12\n";
 
-/// What a test expects of a certificate: the text that is written for it, or the flaw that is found in it.
+/// What a test expects of a certificate.
 #[derive(Clone, Copy)]
 enum Wanted<'a> {
-    /// Writing the certificate gives the given text.
+    /// It is written so.
     Text(&'a [u8]),
-    /// Writing the certificate compactly gives the given text.
+    /// It is written so compactly.
     CompactText(&'a [u8]),
-    /// The call `closed` finds no wrong move or edge in the certificate, but the call `check`, which also checks the
-    /// counts, reports the given flaw.
+    /// `closed` accepts it, but `check`, which also checks the counts, reports this flaw.
     Flaw(Flaw),
-    /// Like `Flaw`, but the game is stored in flat arrays.
+    /// The same with the game in flat arrays.
     FlawInArrays(Flaw),
 }
 
 impl Wanted<'_> {
-    /// Whether a certificate fits a game and meets this expectation.
     fn is_met(self, alloc: Global, game: &NamedGame, certificate: &Certificate) -> bool {
         if !fits(game.game(), certificate) {
             return false;
@@ -42,7 +40,6 @@ impl Wanted<'_> {
     }
 }
 
-/// Whether the wanted text was written.
 fn is_text(text: Result<Vec<u8>, AllocError>, wanted: &[u8]) -> bool {
     match text {
         Ok(text) => text.as_slice() == wanted,
@@ -50,14 +47,14 @@ fn is_text(text: Result<Vec<u8>, AllocError>, wanted: &[u8]) -> bool {
     }
 }
 
-/// Whether a certificate fits a game (`fits`), is accepted by `closed`, and is rejected by `check` with the given flaw.
+/// Whether a certificate fits a game, is closed, and has this flaw.
 fn has_flaw<A: Arena>(arena: &A, certificate: &Certificate, flaw: Flaw) -> bool {
     fits(arena, certificate)
         && closed(arena, certificate).is_ok()
         && check(arena, certificate) == Err(flaw)
 }
 
-/// Like `has_flaw`, but the game is stored in flat arrays.
+/// The same with the game in flat arrays.
 fn has_flaw_in_arrays(alloc: Global, game: &Game, certificate: &Certificate, flaw: Flaw) -> bool {
     if !fits_narrow(game) {
         return false;
@@ -68,7 +65,7 @@ fn has_flaw_in_arrays(alloc: Global, game: &Game, certificate: &Certificate, fla
     }
 }
 
-/// Whether the texts of a game and of its certificate can be read, and the certificate meets the expectation `wanted`.
+/// Whether two texts are a game and a certificate that is as wanted.
 fn is_read(alloc: Global, game: &[u8], certificate: &[u8], wanted: Wanted) -> bool {
     let Ok(game) = ps_pgsolver::read(alloc, game) else {
         return false;

@@ -1,5 +1,4 @@
-//! Tests of the strongly connected components, topological orders, paths and fair cycles of small graphs. The expected
-//! results were computed by hand.
+//! Strongly connected components, topological orders, paths and fair cycles of small graphs, computed by hand.
 
 ghost use Rattle.std.specs.Prelude.{◌≡◌, ℕ, ◌+◌, ◌*◌, ◌/◌, ◌<◌, ◌==◌, nat_lt, length, slice_index, Some, None, if◌then◌else◌};
 
@@ -7,8 +6,8 @@ use ps_components::{Arrangement, Graph, arrange, components_from, components_of,
 use ps_fairness::{Edge, Marked, fair_cycle};
 use std::alloc::Global;
 
-/// A graph as a list that has two entries for each vertex v, at the indices 2 v and 2 v + 1. An entry that is a vertex
-/// means a link from v to it; any other entry means no link.
+/// A graph as a list, in which vertex v has the entries 2 v and 2 v + 1. An entry that is a vertex is a link from v to
+/// it; any other is none.
 #[derive(Drop)]
 struct Table<'a> {
     targets: &'a [usize],
@@ -41,7 +40,7 @@ impl Graph for Table<'_> {
     }
 }
 
-/// An edge bears one of two marks: the one whose number is that of the edge's slot.
+/// An edge has the mark with the number of its slot.
 impl Marked for Table<'_> {
     ghost marks = { λ t. record { count = 2; has = λ v p m. p == m } };
 
@@ -54,11 +53,10 @@ impl Marked for Table<'_> {
     }
 }
 
-/// A graph of five vertices: 0 leads to 1 and 2; 1 leads to 0; 2 leads to itself and to 3; 3 leads nowhere; 4 leads to
-/// 0 and 3.
+/// 0 leads to 1 and 2; 1 leads to 0; 2 leads to itself and to 3; 3 leads nowhere; 4 leads to 0 and 3.
 const TARGETS: [usize; 10] = [1, 2, 0, 9, 2, 3, 9, 9, 0, 3];
 
-/// The number of each vertex's component in the graph `TARGETS`, or `None` if out of memory.
+/// The number of each vertex's component in `TARGETS`.
 fn numbers_of_all(alloc: Global) -> Option<[Option<usize>; 5]> {
     let found = components_of(alloc, &Table { targets: &TARGETS }).ok()?;
     Some([
@@ -70,8 +68,7 @@ fn numbers_of_all(alloc: Global) -> Option<[Option<usize>; 5]> {
     ])
 }
 
-/// The numbers of the components of the vertices 0 and 2 in the graph `TARGETS`, when components are computed only from
-/// the roots 3 and 2.
+/// Those of the vertices 0 and 2, with the roots 3 and 2 only.
 fn numbers_from_roots(alloc: Global) -> Option<[Option<usize>; 2]> {
     let found = components_from(alloc, &Table { targets: &TARGETS }, &[3, 2, 3]).ok()?;
     Some([found.number(0), found.number(2)])
@@ -84,7 +81,7 @@ fn numbers_of_components(rt: HostRuntime) {
     assert_eq!(rt; numbers_from_roots(rt.alloc()), Some([None, Some(1)]));
 }
 
-/// Whether `arrange` gives the wanted topological order of a graph's vertices.
+/// Whether `arrange` gives this topological order.
 fn is_order(alloc: Global, targets: &[usize], wanted: &[usize]) -> bool {
     match arrange(alloc, &Table { targets }) {
         Ok(Arrangement::Order(order)) => order.as_slice() == wanted,
@@ -92,7 +89,7 @@ fn is_order(alloc: Global, targets: &[usize], wanted: &[usize]) -> bool {
     }
 }
 
-/// The smallest vertex that lies on a cycle according to `arrange`, if there is one.
+/// The least vertex on a cycle according to `arrange`.
 fn knot(alloc: Global, targets: &[usize]) -> Option<usize> {
     match arrange(alloc, &Table { targets }) {
         Ok(Arrangement::Cyclic(vertex)) => Some(vertex),
@@ -100,7 +97,7 @@ fn knot(alloc: Global, targets: &[usize]) -> Option<usize> {
     }
 }
 
-/// Whether `way_back` gives the wanted path between two vertices, or `None` if no path is wanted.
+/// Whether `way_back` gives this path, or none.
 fn is_way_back(alloc: Global, start: usize, end: usize, wanted: Option<&[usize]>) -> bool {
     let graph = Table { targets: &TARGETS };
     if start >= graph.count() {
@@ -122,7 +119,7 @@ fn orders_and_trails(rt: HostRuntime) {
     assert!(rt; is_way_back(rt.alloc(), 2, 0, None));
 }
 
-/// Whether `fair_cycle` gives the wanted walk, or `None` if no walk is wanted.
+/// Whether `fair_cycle` gives this walk, or none.
 fn is_fair_cycle(alloc: Global, targets: &[usize], wanted: Option<&[Edge]>) -> bool {
     match fair_cycle(alloc, &Table { targets }) {
         Ok(Some(walk)) => wanted == Some(walk.as_slice()),
@@ -131,10 +128,10 @@ fn is_fair_cycle(alloc: Global, targets: &[usize], wanted: Option<&[Edge]>) -> b
     }
 }
 
-/// The edges of a walk from 0 to 1 and back.
+/// From 0 to 1 and back.
 const THERE_AND_BACK: [Edge; 2] = [Edge { vertex: 0, slot: 0 }, Edge { vertex: 1, slot: 1 }];
 
-/// The edges of a walk that goes from 0 to 1 and back twice, by each edge of the vertex 0.
+/// There and back twice, by each edge of the vertex 0.
 const TWICE: [Edge; 4] = [
     Edge { vertex: 0, slot: 0 },
     Edge { vertex: 1, slot: 0 },

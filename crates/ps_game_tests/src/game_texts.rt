@@ -1,10 +1,10 @@
-//! Tests that read and write texts of games, and tests of the messages of faults.
+//! Texts of games are read and written, and faults have their messages.
 
 use ps_game::Arena;
 use ps_pgsolver::{PgCause, PgFault, read, write};
 use std::alloc::Global;
 
-/// Reads the game of a text and writes it again; gives the written text, if reading and writing succeed.
+/// What is written after a text is read.
 fn written(alloc: Global, text: &[u8]) -> Option<Vec<u8>> {
     let game = read(alloc, text).ok()?;
     if game.game().count() > 0 {
@@ -14,7 +14,7 @@ fn written(alloc: Global, text: &[u8]) -> Option<Vec<u8>> {
     }
 }
 
-/// Whether reading the first text and writing its game gives the second text.
+/// Whether that is the second text.
 fn is_written_as(alloc: Global, text: &[u8], wanted: &[u8]) -> bool {
     match written(alloc, text) {
         Some(again) => again.as_slice() == wanted,
@@ -43,7 +43,6 @@ fn a_game_is_read(rt: HostRuntime) {
     assert!(rt; is_written_as(rt.alloc(), text, wanted));
 }
 
-/// Whether a fault has the wanted message.
 fn is_told(alloc: Global, fault: PgFault, wanted: &str) -> bool {
     match format!(in alloc; "{fault}") {
         Ok(told) => told.as_str() == wanted,

@@ -1,4 +1,4 @@
-//! Tests of games made by a builder, and of the same games in flat arrays.
+//! Games made by a builder, and the same games in flat arrays.
 
 ghost use Rattle.std.specs.Prelude.{◌≡◌, ◌<◌, OnOk};
 ghost use Rattle.ps_game.specs.Drafts.{with_edge, with_vertex};
@@ -8,10 +8,9 @@ use ps_game::{Arena, FlatGame, Game, GameBuilder, GameFault, Width, fits_narrow,
 use std::alloc::{AllocError, Global};
 use std::test::Fail;
 
-/// A vertex as the methods of an arena return it: its owner, its priority and its successors.
+/// A vertex: its owner, its priority and its successors.
 type Row<'a> = (u8, u64, &'a [usize]);
 
-/// Whether a vertex has the given successors, in this order.
 fn leads_to<A: Arena>(arena: &A, vertex: usize, successors: &[usize]) -> bool {
     if vertex >= arena.count() || arena.degree(vertex) != successors.len() {
         return false;
@@ -24,7 +23,7 @@ fn leads_to<A: Arena>(arena: &A, vertex: usize, successors: &[usize]) -> bool {
     true
 }
 
-/// Whether the methods of an arena return the given vertices.
+/// Whether an arena has these vertices.
 fn reads_as<A: Arena>(arena: &A, rows: &[Row]) -> bool {
     if arena.count() != rows.len() {
         return false;
@@ -40,7 +39,7 @@ fn reads_as<A: Arena>(arena: &A, rows: &[Row]) -> bool {
     true
 }
 
-/// Whether flat arrays were made without an error, and their methods return the given vertices.
+/// Whether flat arrays were made, and have these vertices.
 fn flat_reads_as<W: Width>(flat: Result<FlatGame<W>, AllocError>, rows: &[Row]) -> bool {
     match flat {
         Ok(flat) => reads_as(&flat, rows),
@@ -48,7 +47,7 @@ fn flat_reads_as<W: Width>(flat: Result<FlatGame<W>, AllocError>, rows: &[Row]) 
     }
 }
 
-/// Whether the methods of a game, and of its flat arrays of 4-byte and of 8-byte numbers, return the given vertices.
+/// Whether a game, and its flat arrays of 4-byte and of 8-byte numbers, have these vertices.
 fn all_read_as(alloc: Global, game: &Game, rows: &[Row]) -> bool {
     fits_narrow(game)
         && reads_as(game, rows)
@@ -56,8 +55,7 @@ fn all_read_as(alloc: Global, game: &Game, rows: &[Row]) -> bool {
         && flat_reads_as(FlatGame::<usize>::of(alloc, game), rows)
 }
 
-/// Adds one more vertex to a game builder. If an allocation fails, which `rt try --test --fail-alloc N` causes, the
-/// call is repeated once on the same builder.
+/// Adds a vertex. If an allocation fails, as with `rt try --test --fail-alloc N`, the call is repeated once.
 #[tactic(auto, unfolding(ps_game::specs::Games::vertex_count))]
 fn vertex(builder: &mut GameBuilder, owner: u8, priority: u64) -> Result<usize, AllocError>
     requires { owner < 2 }
@@ -69,7 +67,7 @@ fn vertex(builder: &mut GameBuilder, owner: u8, priority: u64) -> Result<usize, 
     }
 }
 
-/// Adds one more edge to a game builder. If an allocation fails, the call is repeated once on the same builder.
+/// Adds an edge in the same way.
 fn edge(builder: &mut GameBuilder, from: usize, successor: usize) -> Result<(), AllocError>
     requires { from < vertex_count builder.old }
     ensures { OnOk result (builder.new ≡ with_edge builder.old from successor) }
@@ -80,7 +78,7 @@ fn edge(builder: &mut GameBuilder, from: usize, successor: usize) -> Result<(), 
     }
 }
 
-/// A game of three vertices, in which two edges lead from vertex 0 to vertex 1.
+/// A game of three vertices, with two edges from vertex 0 to vertex 1.
 #[tactic(auto, unfolding(ps_game::specs::Games::vertex_count))]
 fn three_vertices(alloc: Global) -> Result<GameBuilder, AllocError> {
     let mut builder = GameBuilder::new(alloc);
@@ -95,8 +93,7 @@ fn three_vertices(alloc: Global) -> Result<GameBuilder, AllocError> {
     Ok(builder)
 }
 
-/// Two vertices. An unfinished game: no edge leaves vertex 1, and the edge from vertex 0 leads to a vertex that was not
-/// added.
+/// No edge leaves vertex 1, and the edge from vertex 0 leads to a vertex that was not added.
 #[tactic(auto, unfolding(ps_game::specs::Games::vertex_count))]
 fn a_bare_vertex(alloc: Global) -> Result<GameBuilder, AllocError> {
     let mut builder = GameBuilder::new(alloc);
@@ -106,7 +103,7 @@ fn a_bare_vertex(alloc: Global) -> Result<GameBuilder, AllocError> {
     Ok(builder)
 }
 
-/// An unfinished game: a vertex with two edges to vertices that were not added.
+/// A vertex with two edges to vertices that were not added.
 #[tactic(auto, unfolding(ps_game::specs::Games::vertex_count))]
 fn unknown_successors(alloc: Global) -> Result<GameBuilder, AllocError> {
     let mut builder = GameBuilder::new(alloc);
@@ -131,7 +128,7 @@ fn no_vertex_is_a_game(rt: HostRuntime) -> Result<(), Fail> {
     Ok(())
 }
 
-/// Whether a game has exactly the wanted priorities of one parity.
+/// Whether these are the priorities of one parity.
 fn are_priorities(alloc: Global, game: &Game, parity: u64, wanted: &[u64]) -> bool {
     match priorities_of(alloc, game, parity) {
         Ok(priorities) => priorities.as_slice() == wanted,

@@ -1,10 +1,10 @@
-//! Tests of lists of ids: ids that count up from the first one, and arbitrary ids.
+//! Ids that count up from the first one, and others.
 
 use ps_ids::Ids;
 use std::alloc::{AllocError, Global};
 use std::test::Fail;
 
-/// Makes `Ids` from a list of numbers. `Ids` stores no search tree for ids that count up from `first`.
+/// `Ids` of these numbers, without a search tree for those that count up from `first`.
 fn ids_of(alloc: Global, first: u64, numbers: &[u64]) -> Result<Ids, AllocError> {
     let mut ids = Ids::starting_at(alloc, first);
     for &id in numbers {
@@ -15,8 +15,7 @@ fn ids_of(alloc: Global, first: u64, numbers: &[u64]) -> Result<Ids, AllocError>
     Ok(ids)
 }
 
-/// Whether `Ids` lists the given numbers, gives each of them its index in the list, and gives no index to the number 6,
-/// which is not among them.
+/// Whether each number has its index, and the number 6, which is not there, has none.
 fn are_placed(ids: &Ids, numbers: &[u64]) -> bool {
     for (place, &id) in numbers.iter().enumerate() {
         if ids.place(id) != Some(place) {
@@ -26,7 +25,7 @@ fn are_placed(ids: &Ids, numbers: &[u64]) -> bool {
     ids.place(6).is_none() && ids.list() == numbers
 }
 
-/// Whether `Ids` gives each id its index, and lists the ids in the order in which they were added.
+/// Whether each id keeps its index, and all their order.
 fn are_kept(alloc: Global, first: u64, numbers: [u64; 5]) -> Result<bool, AllocError> {
     let ids = ids_of(alloc, first, &numbers)?;
     Ok(are_placed(&ids, &numbers) && ids.into_list().as_slice() == numbers.as_slice())

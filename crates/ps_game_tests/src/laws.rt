@@ -1,11 +1,11 @@
-//! Tests that the laws (theorems) of ps_text can be applied to a text format and to a lexicon.
+//! The laws of ps_text, applied to a text format and to a lexicon.
 
 ghost use Rattle.std.specs.Prelude.{◌≡◌, [], ◌∷◌, length};
 
 use ps_text::answers::{Format, one_answer};
 use ps_text::tokens::{Lexicon, one_tokenisation};
 
-/// A text format that accepts any bytes. The value of a text is its length, and no text is rejected.
+/// Any bytes, whose value is their number.
 struct Bytes;
 
 impl Format for Bytes {
@@ -22,7 +22,7 @@ impl Format for Bytes {
     ghost number = { λ cause. cause };
 }
 
-/// A lexicon in which each byte except the space is a token by itself.
+/// Each byte except the space is a token.
 struct Punctuation;
 
 impl Lexicon for Punctuation {

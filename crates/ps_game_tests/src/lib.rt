@@ -1,6 +1,5 @@
-//! Tests of psyn's library crates for games, one file for each topic. A crate that has tests is proved a second time
-//! with them, so the tests are in a crate of their own. The behaviour of psyn's commands is shown by the command lines
-//! listed in `examples/rows`, not by tests.
+//! Tests of the libraries for games, one file for each topic. A crate with tests is proved a second time with them, so
+//! they are in a crate of their own. What psyn's commands do is shown by `examples/rows`.
 #![tactic(auto)]
 
 #[cfg(test)]

@@ -1,4 +1,4 @@
-//! Tests of lists of numbers in 4 and in 8 bytes, and of tables of moves.
+//! Lists of numbers in 4 and in 8 bytes, and tables of moves.
 
 ghost use Rattle.std.specs.Prelude.{◌≤◌};
 
@@ -6,7 +6,7 @@ use ps_game::{Numbers, Strategy, Width};
 use std::alloc::{AllocError, Global};
 use std::test::Fail;
 
-/// The first three numbers of a list after numbers were appended and overwritten, and the list was truncated.
+/// The first three numbers of a list after some were appended and overwritten, and the list was truncated.
 fn some_numbers<W: Width>(alloc: Global, greatest: usize) -> Result<[usize; 3], AllocError>
     requires { greatest ≤ W.LIMIT }
 {
@@ -35,7 +35,7 @@ fn numbers_are_kept_at_each_width(rt: HostRuntime) -> Result<(), Fail> {
     Ok(())
 }
 
-/// The moves at three vertices, from a table of moves for 65 vertices.
+/// The moves at three of 65 vertices.
 fn some_moves(alloc: Global) -> Result<[Option<usize>; 3], AllocError> {
     let mut strategy = Strategy::empty(alloc, 65)?;
     strategy.set(64, 18_446_744_073_709_551_615);

@@ -1,14 +1,13 @@
-//! Regions are sets. The sizes of the tested regions are just below, at and just above multiples of the 64 bits of a
-//! word, and of the 512 bits of a group of eight words.
+//! Regions are sets. Their sizes here are just below, at and just above multiples of the 64 bits of a word, and of the
+//! 512 bits of a group of eight.
 
 use ps_game::Region;
 use std::alloc::{AllocError, Global};
 
-/// The sizes of the tested regions: how many vertices the game of each region has.
+/// The sizes: how many vertices each game has.
 const PLACES: [usize; 8] = [0, 1, 63, 64, 65, 511, 512, 513];
 
-/// The sets with which the tests compare regions. A vertex that is not less than the size `places` of a region is
-/// ignored.
+/// Sets to compare with. Vertices from `places` on are ignored.
 #[derive(Clone, Copy)]
 enum Set {
     None,
@@ -21,7 +20,6 @@ enum Set {
 }
 
 impl Set {
-    /// Whether a vertex is in the set.
     fn has(self, vertex: usize, places: usize) -> bool {
         let is_third = vertex % 3 == 0;
         let is_fifth = vertex % 5 == 0;
@@ -36,7 +34,7 @@ impl Set {
         }
     }
 
-    /// Whether a region has exactly the vertices of the set `self`, and its `count` is the number of its vertices.
+    /// Whether a region has just these vertices, and `count` is their number.
     fn is(self, region: &Region, places: usize) -> bool {
         let mut count: usize = 0;
         for vertex in 0..region.places() {
@@ -48,7 +46,7 @@ impl Set {
         region.places() == places && region.count() == count && region.is_empty() == (count == 0)
     }
 
-    /// Whether a region was made without an error, and has exactly the vertices of the set `self`.
+    /// Whether such a region was made.
     fn is_made(self, region: Result<Region, AllocError>, places: usize) -> bool {
         match region {
             Ok(region) => self.is(&region, places),
@@ -57,7 +55,6 @@ impl Set {
     }
 }
 
-/// A region with the vertices of a set.
 fn filled(alloc: Global, places: usize, set: Set) -> Result<Region, AllocError> {
     let mut region = Region::empty(alloc, places)?;
     for vertex in 0..places {
@@ -68,7 +65,7 @@ fn filled(alloc: Global, places: usize, set: Set) -> Result<Region, AllocError> 
     Ok(region)
 }
 
-/// The region of all multiples of 3 or 5, made as a union of two regions.
+/// The multiples of 3 or 5, as a union.
 fn united(alloc: Global, places: usize) -> Result<Region, AllocError> {
     let mut united = filled(alloc, places, Set::Thirds)?;
     let fifths = filled(alloc, places, Set::Fifths)?;
@@ -78,7 +75,7 @@ fn united(alloc: Global, places: usize) -> Result<Region, AllocError> {
     Ok(united)
 }
 
-/// The region of all multiples of 3 that are not multiples of 5, made as a difference of two regions.
+/// The multiples of 3 that are not of 5, as a difference.
 fn subtracted(alloc: Global, places: usize) -> Result<Region, AllocError> {
     let mut rest = filled(alloc, places, Set::Thirds)?.copy()?;
     let fifths = filled(alloc, places, Set::Fifths)?;
@@ -88,7 +85,7 @@ fn subtracted(alloc: Global, places: usize) -> Result<Region, AllocError> {
     Ok(rest)
 }
 
-/// The region of all vertices except the last one, made by removing the last vertex from the full region.
+/// All vertices but the last, which is removed.
 fn without_the_last(alloc: Global, places: usize) -> Result<Region, AllocError> {
     let mut region = Region::full(alloc, places)?;
     if places > 0 {

@@ -1,5 +1,5 @@
-//! Tests of attractors, winning regions and counts (progress measures) of small games, and of how much work a solver
-//! reports. The expected results were computed by hand.
+//! Attractors, winning regions and counts (progress measures) of small games, computed by hand, and how much work a
+//! solver reports.
 
 ghost use Rattle.std.specs.Prelude.{◌≤◌};
 
@@ -14,14 +14,13 @@ use ps_zielonka::{regions, regions_in};
 use std::alloc::{AllocError, Global};
 use std::test::Fail;
 
-/// Vertex 0 belongs to player 0 and leads to 1 and 2. Vertex 1 belongs to player 1 and leads to 0 and 3. Vertices 2 and
+/// Vertex 0 belongs to player 0 and leads to 1 and 2, vertex 1 belongs to player 1 and leads to 0 and 3. Vertices 2 and
 /// 3 lead to themselves.
 const FORK: &[u8] = b"0 0 0 1,2; 1 0 1 0,3; 2 0 1 2; 3 0 0 3;";
 
-/// A game of three vertices: 0 leads to 1, 1 leads to itself, and 2 leads to itself and to 0.
+/// 0 leads to 1, 1 leads to itself, and 2 leads to itself and to 0.
 const LOOPS: &[u8] = b"0 2 0 1; 1 1 1 1; 2 1 0 2,0;";
 
-/// Whether a region has exactly the given vertices.
 fn has_just(region: &Region, vertices: &[usize]) -> bool {
     for &vertex in vertices {
         if vertex >= region.places() || !region.contains(vertex) {
@@ -31,7 +30,6 @@ fn has_just(region: &Region, vertices: &[usize]) -> bool {
     region.count() == vertices.len()
 }
 
-/// Whether a table has the given moves.
 fn has_moves(strategy: &Strategy, wanted: &[Option<usize>]) -> bool {
     if strategy.places() != wanted.len() {
         return false;
@@ -44,7 +42,7 @@ fn has_moves(strategy: &Strategy, wanted: &[Option<usize>]) -> bool {
     true
 }
 
-/// The attractor to given vertices of an arena, within the whole arena.
+/// The attractor to these vertices, within the whole arena.
 fn attract_to<A: Arena>(
     alloc: Global,
     arena: &A,
@@ -61,8 +59,7 @@ fn attract_to<A: Arena>(
     attract(alloc, arena, &subgame, player, &target)
 }
 
-/// Whether the attractor of a player to the given vertices of the game `FORK` has the wanted vertices and the wanted
-/// moves.
+/// Whether a player's attractor to these vertices of `FORK` has the wanted vertices and moves.
 fn attracts(
     alloc: Global,
     player: Player,
@@ -112,7 +109,7 @@ fn attractors(rt: HostRuntime) {
     );
 }
 
-/// Whether numbers that are stored as integers of the type `W` are the wanted ones.
+/// Whether numbers in the type `W` are the wanted ones.
 fn are_kept<W: Width>(kept: &[W], wanted: &[usize]) -> bool {
     kept.len() == wanted.len()
         && kept
@@ -121,8 +118,7 @@ fn are_kept<W: Width>(kept: &[W], wanted: &[usize]) -> bool {
             .all(|(number, wanted)| number.number() == *wanted)
 }
 
-/// Whether `Sources` with integers of the type `W` gives the wanted predecessors of vertex 3 in a game of four
-/// vertices.
+/// Whether `Sources` gives the wanted predecessors of vertex 3.
 fn are_sources<W: Width>(alloc: Global, game: &Game, wanted: &[usize]) -> bool {
     if game.count() != 4 || !has_room::<Game, W>(game) {
         return false;
@@ -133,8 +129,7 @@ fn are_sources<W: Width>(alloc: Global, game: &Game, wanted: &[usize]) -> bool {
     }
 }
 
-/// Whether sorting the indices of a list by its numbers (`places_by_number`) gives the wanted indices, with integers of
-/// the type `W`.
+/// Whether `places_by_number` sorts indices as wanted.
 fn are_places<W: Width>(alloc: Global, wanted: &[usize]) -> Result<bool, AllocError>
     requires { 4 ≤ W.LIMIT }
 {
@@ -161,8 +156,7 @@ fn lists_by_number(rt: HostRuntime) -> Result<(), Fail> {
     Ok(())
 }
 
-/// Whether `regions` states that player 0 wins exactly the given vertices of a game, and that both players win by the
-/// given moves.
+/// Whether player 0 wins just these vertices, and both players by these moves.
 fn is_won(
     alloc: Global,
     game: &Game,
@@ -221,7 +215,7 @@ fn a_game_without_vertices_has_no_call(rt: HostRuntime) -> Result<(), Fail> {
     Ok(())
 }
 
-/// The region with only the given vertex, or with all vertices if none is given.
+/// Only this vertex, or all if none is given.
 fn region_of(alloc: Global, places: usize, only: Option<usize>) -> Result<Region, AllocError> {
     let Some(vertex) = only else {
         return Region::full(alloc, places);
@@ -233,7 +227,7 @@ fn region_of(alloc: Global, places: usize, only: Option<usize>) -> Result<Region
     Ok(region)
 }
 
-/// A table of moves with a move at only one vertex.
+/// A table with one move.
 fn moving(
     alloc: Global,
     places: usize,
@@ -246,18 +240,16 @@ fn moving(
     Ok(strategy)
 }
 
-/// The expected result of computing the least counts of a region: the counts, or a cycle that the player loses.
+/// The least counts of a region, or a cycle that the player loses.
 #[derive(Clone, Copy)]
 enum Wanted<'a> {
-    /// The only priority of the game that has the opponent's parity, and the count for this priority at each of three
-    /// vertices.
+    /// The only priority of the opponent's parity, and its count at each of three vertices.
     Counts(u64, [u64; 3]),
-    /// A cycle that the player loses.
+    /// Such a cycle.
     Cycle(&'a [usize]),
 }
 
 impl Wanted<'_> {
-    /// Whether a result of `ranks` is the expected one.
     fn is(self, alloc: Global, found: &Result<Ranks, MeasureFault>) -> bool {
         match (self, found) {
             (Wanted::Counts(priority, counts), Ok(ranks)) => {
@@ -271,7 +263,7 @@ impl Wanted<'_> {
     }
 }
 
-/// Whether a result of `ranks` has only the given priority, and the given counts at three vertices.
+/// Whether `ranks` gave only this priority, with these counts.
 fn are_counts(alloc: Global, ranks: &Ranks, priority: u64, counts: [u64; 3]) -> bool {
     ranks.priorities.as_slice() == [priority].as_slice()
         && ranks.counts.len() == 3
@@ -280,7 +272,7 @@ fn are_counts(alloc: Global, ranks: &Ranks, priority: u64, counts: [u64; 3]) -> 
         && is_count(alloc, ranks, 2, counts[2])
 }
 
-/// Whether the row of counts of a vertex has exactly one entry, the given count.
+/// Whether a vertex has just one count, this one.
 fn is_count(alloc: Global, ranks: &Ranks, vertex: usize, count: u64) -> bool {
     if vertex >= ranks.counts.len() {
         return false;
@@ -292,8 +284,7 @@ fn is_count(alloc: Global, ranks: &Ranks, vertex: usize, count: u64) -> bool {
     }
 }
 
-/// Whether `ranks` gives the expected result for a player's region, if the player's table has a move at only one
-/// vertex.
+/// Whether `ranks` gives what is wanted for a player with one move.
 fn is_ranked(
     alloc: Global,
     game: &Game,
@@ -313,8 +304,7 @@ fn is_ranked(
         )
 }
 
-/// Whether `ranks` gives the expected result for a player's region in the game `LOOPS`. The region is the vertex
-/// `only`, or all vertices if `only` is `None`.
+/// The same in `LOOPS`, for the vertex `only`, or for all if there is none.
 fn are_ranked(
     alloc: Global,
     (player, only): (Player, Option<usize>),
@@ -362,7 +352,7 @@ fn counts_of_a_region(rt: HostRuntime) {
     assert!(rt; are_ranked(rt.alloc(), (Player::EVEN, None), (2, 0), &mut counts, lost));
 }
 
-/// Appends the vertices of a region and the moves of a table to the list `found`.
+/// Appends a region and a table of moves.
 fn add_table(
     found: &mut Vec<Option<u64>>,
     region: &Region,
@@ -377,7 +367,7 @@ fn add_table(
     Ok(())
 }
 
-/// Appends a player's attractor of vertex 0 to the list `found`: its vertices, its moves and its ranks.
+/// Appends a player's attractor of vertex 0: vertices, moves and ranks.
 fn add_attracted<A: Arena>(
     alloc: Global,
     arena: &A,
@@ -392,8 +382,7 @@ fn add_attracted<A: Arena>(
     Ok(())
 }
 
-/// Appends to the list `found`: the winning region of player 0, the moves of both players, and each vertex's least
-/// counts (progress measure) for player 0's moves.
+/// Appends the winning region of player 0, both players' moves, and each vertex's least counts by player 0's moves.
 fn add_won<A: Arena>(
     alloc: Global,
     arena: &A,
@@ -412,7 +401,7 @@ fn add_won<A: Arena>(
     add_counts(alloc, &ranks.counts, found)
 }
 
-/// Appends the vertices of a region and the moves of both players' tables to the list `found`.
+/// Appends a region and both players' tables.
 fn add_tables(
     found: &mut Vec<Option<u64>>,
     won: &Region,
@@ -423,7 +412,7 @@ fn add_tables(
     add_table(found, won, second)
 }
 
-/// Appends the counts that a table has for each vertex to the list `found`.
+/// Appends each vertex's counts.
 fn add_counts(
     alloc: Global,
     counts: &CountTable,
@@ -439,7 +428,7 @@ fn add_counts(
     Ok(())
 }
 
-/// The results of all solvers for a game, in whatever data structure it is stored.
+/// What all solvers give, in whatever data structure the game is.
 fn found_in<A: Arena>(alloc: Global, arena: &A) -> Result<Vec<Option<u64>>, MeasureFault> {
     let mut found = Vec::new(alloc);
     add_attracted(alloc, arena, Player::EVEN, &mut found)?;
@@ -448,7 +437,7 @@ fn found_in<A: Arena>(alloc: Global, arena: &A) -> Result<Vec<Option<u64>>, Meas
     Ok(found)
 }
 
-/// The winning region and the moves of a game, computed with tables of integers of the type `W`.
+/// Region and moves, by tables in the type `W`.
 fn won_by_tables<W: Width>(alloc: Global, game: &Game) -> Result<Vec<Option<u64>>, AllocError> {
     if !has_room::<Game, W>(game) {
         return Ok(Vec::new(alloc));
@@ -457,7 +446,7 @@ fn won_by_tables<W: Width>(alloc: Global, game: &Game) -> Result<Vec<Option<u64>
     tables_of(alloc, &won, &first, &second)
 }
 
-/// The entries of a region and of both players' tables of moves, in one list.
+/// A region and both players' tables, in one list.
 fn tables_of(
     alloc: Global,
     won: &Region,
@@ -469,13 +458,12 @@ fn tables_of(
     Ok(found)
 }
 
-/// Whether tables of 4-byte and of 8-byte integers give the same results for the game of a text.
+/// Whether 4-byte and 8-byte tables give the same for a text.
 fn are_same_by_tables(alloc: Global, text: &[u8]) -> Result<bool, Fail> {
     let named = read(alloc, text)?;
     Ok(is_same_by_tables(alloc, named.game())?)
 }
 
-/// Whether tables of 4-byte and of 8-byte integers give the same results for a game.
 fn is_same_by_tables(alloc: Global, game: &Game) -> Result<bool, AllocError> {
     let narrow = won_by_tables::<u32>(alloc, game)?;
     let wide = won_by_tables::<usize>(alloc, game)?;
@@ -491,7 +479,7 @@ fn tables_of_each_width_have_the_same_answers(rt: HostRuntime) -> Result<(), Fai
     Ok(())
 }
 
-/// The results of all solvers for a game in flat arrays of 4-byte numbers, if the game fits into such arrays.
+/// What all solvers give in flat arrays of 4-byte numbers, if the game fits in.
 fn found_narrow(alloc: Global, game: &Game) -> Result<Vec<Option<u64>>, MeasureFault> {
     if !fits_narrow(game) {
         return Ok(Vec::new(alloc));
@@ -500,19 +488,18 @@ fn found_narrow(alloc: Global, game: &Game) -> Result<Vec<Option<u64>>, MeasureF
     found_in(alloc, &narrow)
 }
 
-/// The results of all solvers for a game in flat arrays of 8-byte numbers.
+/// The same of 8-byte numbers.
 fn found_wide(alloc: Global, game: &Game) -> Result<Vec<Option<u64>>, MeasureFault> {
     let wide = FlatGame::<usize>::of(alloc, game)?;
     found_in(alloc, &wide)
 }
 
-/// Whether flat arrays of 4-byte and of 8-byte numbers give the same results as the game of a text.
+/// Whether both give the same as the game of a text.
 fn are_same_in_arrays(alloc: Global, text: &[u8]) -> Result<bool, Fail> {
     let named = read(alloc, text)?;
     Ok(is_same_in_arrays(alloc, named.game())?)
 }
 
-/// Whether flat arrays of 4-byte and of 8-byte numbers give the same results as a game.
 fn is_same_in_arrays(alloc: Global, game: &Game) -> Result<bool, MeasureFault> {
     let found = found_in(alloc, game)?;
     Ok(

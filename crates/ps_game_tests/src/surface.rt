@@ -1,6 +1,6 @@
-//! The types, fields, variants and calls that users of the libraries for games name, each with its type. This file
-//! compiles only as long as they stay as they are: a value is taken apart by a pattern that names all its parts. The
-//! calls `GameBuilder::vertex` and `edge` are named in `games`, `attract` in `solvers`, and those of regions in
+//! The types, fields, variants and calls that users of the libraries for games name, each with its type. It compiles
+//! only as long as they stay as they are: a value is taken apart by a pattern that names all its parts.
+//! `GameBuilder::vertex` and `edge` are named in `games`, `attract` in `solvers`, and the calls of regions in
 //! `regions`.
 
 use ps_attractor::Attracted;
@@ -15,7 +15,7 @@ use ps_pgsolver::{PgCause, PgFault};
 use ps_zielonka::regions;
 use std::alloc::{AllocError, Global};
 
-/// A vertex has an owner, a priority and a number of successors.
+/// A vertex's owner, priority and number of successors.
 fn vertex<A: Arena>(arena: &A, vertex: usize) -> Option<(u8, u64, usize)> {
     let count: usize = arena.count();
     if vertex >= count {
@@ -28,7 +28,6 @@ fn vertex<A: Arena>(arena: &A, vertex: usize) -> Option<(u8, u64, usize)> {
     ))
 }
 
-/// The first successor of a vertex.
 fn first_successor<A: Arena>(arena: &A, vertex: usize) -> Option<usize> {
     if vertex < arena.count() && arena.degree(vertex) > 0 {
         Some(arena.successor(vertex, 0))
@@ -37,12 +36,11 @@ fn first_successor<A: Arena>(arena: &A, vertex: usize) -> Option<usize> {
     }
 }
 
-/// A builder ends with a game or a fault.
 fn finished(builder: GameBuilder) -> Result<Game, GameFault> {
     builder.finish()
 }
 
-/// A draft is no game for one of these reasons, or memory ran out.
+/// Why a draft is no game.
 fn draft_fault(fault: GameFault) -> Option<(usize, Option<usize>)> {
     match fault {
         GameFault::NoSuccessor { vertex } => Some((vertex, None)),
@@ -51,7 +49,7 @@ fn draft_fault(fault: GameFault) -> Option<(usize, Option<usize>)> {
     }
 }
 
-/// A named game is made of a game with ids and names, here none.
+/// A game with ids and names, here none.
 fn named(alloc: Global, game: Game) -> Option<NamedGame> {
     if game.count() > 0 {
         return None;
@@ -61,7 +59,7 @@ fn named(alloc: Global, game: Game) -> Option<NamedGame> {
     Some(NamedGame::new(game, ids, names))
 }
 
-/// A vertex of a named game has an id, and may have a name.
+/// A vertex's id, and its name if it has one.
 fn id_and_name(named: &NamedGame, vertex: usize) -> Option<(u64, Option<&[u8]>)> {
     let game: &Game = named.game();
     if vertex < game.count() {
@@ -71,7 +69,7 @@ fn id_and_name(named: &NamedGame, vertex: usize) -> Option<(u64, Option<&[u8]>)>
     }
 }
 
-/// A strategy has a move at a vertex, or none.
+/// A strategy's move, if there is one.
 fn choice(strategy: &Strategy, vertex: usize) -> Option<usize> {
     if vertex < strategy.places() {
         strategy.get(vertex)
@@ -80,7 +78,6 @@ fn choice(strategy: &Strategy, vertex: usize) -> Option<usize> {
     }
 }
 
-/// A region may be a subgame.
 fn subgame<A: Arena>(arena: &A, region: Region) -> Option<Subgame> {
     if region.places() == arena.count() {
         Subgame::find(arena, region)
@@ -89,12 +86,10 @@ fn subgame<A: Arena>(arena: &A, region: Region) -> Option<Subgame> {
     }
 }
 
-/// The parser takes the bytes of a text.
 fn game_of(alloc: Global, text: &[u8]) -> Result<NamedGame, PgFault> {
     ps_pgsolver::read(alloc, text)
 }
 
-/// The writer takes a game with vertices.
 fn text_of(alloc: Global, named: &NamedGame) -> Option<Result<Vec<u8>, AllocError>> {
     if named.game().count() > 0 {
         Some(ps_pgsolver::write(alloc, named))
@@ -103,7 +98,7 @@ fn text_of(alloc: Global, named: &NamedGame) -> Option<Result<Vec<u8>, AllocErro
     }
 }
 
-/// The fault of a game text has one of these causes, or memory ran out.
+/// The causes of a game text's fault.
 fn game_cause(fault: PgFault) -> Option<PgCause> {
     match fault {
         PgFault::Text { cause, offset: _ } => match cause {
@@ -118,7 +113,7 @@ fn game_cause(fault: PgFault) -> Option<PgCause> {
     }
 }
 
-/// An attractor is a region with moves and ranks.
+/// An attractor: a region with moves and ranks.
 fn attracted(attracted: Attracted) -> (Region, Strategy, Vec<usize>) {
     let Attracted {
         region,
@@ -128,7 +123,7 @@ fn attracted(attracted: Attracted) -> (Region, Strategy, Vec<usize>) {
     (region, moves, rank)
 }
 
-/// A solved game is the region of player 0 with the moves of both players.
+/// The region of player 0 with both players' moves.
 fn solved<A: Arena>(
     alloc: Global,
     arena: &A,
@@ -143,7 +138,7 @@ fn counted(counts: Counts) -> (u64, u128) {
     (depth, raises)
 }
 
-/// The least counts of a player's region, by the player's moves.
+/// The least counts of a region, by its player's moves.
 fn least<A: Arena>(
     alloc: Global,
     arena: &A,
@@ -158,13 +153,13 @@ fn least<A: Arena>(
     }
 }
 
-/// Counts are listed by priority.
+/// Counts, by priority.
 fn listed(ranks: Ranks) -> (Vec<u64>, CountTable) {
     let Ranks { priorities, counts } = ranks;
     (priorities, counts)
 }
 
-/// A region has no counts if the player loses a cycle, or if memory ran out.
+/// A cycle that the player loses.
 fn cycle(fault: MeasureFault) -> Option<Vec<usize>> {
     match fault {
         MeasureFault::BadCycle { cycle } => Some(cycle),
@@ -172,13 +167,13 @@ fn cycle(fault: MeasureFault) -> Option<Vec<usize>> {
     }
 }
 
-/// A certificate has the priorities of both parities, and entries.
+/// The priorities of both parities, and the entries.
 fn certificate(certificate: Certificate) -> (Vec<u64>, Vec<u64>, Entries) {
     let Certificate { odd, even, entries } = certificate;
     (odd, even, entries)
 }
 
-/// An entry that is added has a winner, a move or none, and counts.
+/// An entry that is added: a winner, a move or none, and counts.
 fn entry<'a>(entry: Entry<'a>) -> (Player, Option<usize>, &'a [u64]) {
     let Entry {
         winner,
@@ -188,7 +183,7 @@ fn entry<'a>(entry: Entry<'a>) -> (Player, Option<usize>, &'a [u64]) {
     (winner, choice, counts)
 }
 
-/// An entry that is read has the same parts.
+/// An entry that is read.
 fn entry_at(certificate: &Certificate, vertex: usize) -> Option<(u8, Option<usize>, Row<'_>)> {
     if vertex >= certificate.entries.len() {
         return None;
@@ -200,12 +195,11 @@ fn entry_at(certificate: &Certificate, vertex: usize) -> Option<(u8, Option<usiz
     ))
 }
 
-/// The parser of certificates takes the bytes of a text, and the game.
 fn certificate_of(alloc: Global, text: &[u8], game: &NamedGame) -> Result<Certificate, CertFault> {
     ps_certificate::read(alloc, text, game)
 }
 
-/// The writer takes a certificate that fits the game.
+/// The text of a certificate that fits the game.
 fn certificate_text(
     alloc: Global,
     certificate: &Certificate,
@@ -218,7 +212,7 @@ fn certificate_text(
     }
 }
 
-/// The fault of a certificate text has one of these causes, or memory ran out.
+/// The causes of a certificate text's fault.
 fn certificate_cause(fault: CertFault) -> Option<CertCause> {
     match fault {
         CertFault::Text { cause, offset: _ } => match cause {
@@ -228,7 +222,7 @@ fn certificate_cause(fault: CertFault) -> Option<CertCause> {
     }
 }
 
-/// The regions of a certificate are checked, and the whole certificate is.
+/// The checks of the regions, and of all.
 fn flaws<A: Arena>(arena: &A, certificate: &Certificate) -> Option<[Result<(), Flaw>; 2]> {
     let fits: bool = fits(arena, certificate);
     if fits {
@@ -238,7 +232,7 @@ fn flaws<A: Arena>(arena: &A, certificate: &Certificate) -> Option<[Result<(), F
     }
 }
 
-/// A certificate has one of these flaws.
+/// The flaws of a certificate.
 fn flaw(flaw: Flaw) -> (usize, Option<usize>, Option<u64>) {
     match flaw {
         Flaw::Move { vertex, choice } => (vertex, choice, None),

@@ -3,7 +3,7 @@
 //! | Call | What it gives |
 //! |---|---|
 //! | `read(text)` | the automaton as the text states it, or the first `HoaFault` in the text |
-//! | `HoaFile::states`, `start`, `names`, `controllable`, `aliases`, `sets`, `condition` | what the header states |
+//! | `HoaFile::states`, `start`, `names`, `controllable`, `aliases`, `sets`, `condition` | all but the rows |
 //! | `HoaFile::rows`, `row(state)` | what the body says about a state: label, sets, and edges in text order |
 //! | `Row`, `Edge`, `Guard`, `Cond` | a state, an edge, the letters at which it is taken, an acceptance condition |
 //! | `Marks::as_slice` | the acceptance sets of an edge or a state |

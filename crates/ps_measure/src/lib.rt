@@ -2,7 +2,7 @@
 //!
 //! [`ranks`] considers the edges that remain inside a region when its player moves by a table. For each priority of the
 //! opponent's parity, by which the player loses, it returns the least counts that keep the rule of counts, `KeepsRule`.
-//! If a cycle of these edges is lost, no counts keep it, and [`ranks`] returns such a cycle.
+//! If a cycle of these edges is lost, no counts do, and [`ranks`] returns such a cycle.
 //!
 //! The counts for one priority are a progress measure (Jurdzinski), but they are not lifted step by step. If there are
 //! many priorities, vertices are first grouped by priority. For each priority, one search follows the edges backwards

@@ -21,16 +21,16 @@
 //! | `Set::number()` | the number of a set; equal sets of one tableau have one number |
 //! | `laws::fair_run_satisfies` | a law: a word with a fair run from a state satisfies its obligations |
 //! | `laws::satisfied_has_fair_run` | a law: such a word, if decided at each index, has a fair run from there |
-//! | `laws::fair_run_has_round` | a law: between some equal values of finitely many, no until is always postponed |
-//! | `laws::wrong_covers_are_none` | a law: covers of an until without postponing or a second way are wrong |
+//! | `laws::fair_run_has_round` | a law: of finitely many values one recurs, with no until always postponed between |
+//! | `laws::wrong_covers_are_none` | a law: an until's covers are wrong if one is missing or none postpones |
 //! | `laws::covers_of_each_operator` | a law: the covers of a formula, by those of its operands |
 //! | `laws::covers_of_more_obligations` | a law: the covers of several obligations are products |
 //! | `laws::pruned_covers_are_covers` | a law: covers stay covers if they are pruned letter by letter |
 //!
 //! Covers of a formula are made from those of its operands, and those of a state, as products, from its formulas'. Then
 //! they are pruned: a cover loses the letters at which another asks for no more, covers that ask for the same become
-//! one, and an obligation that follows from others at the next index is dropped. Formulas that the tableau's formula
-//! does not need get none. A set with one more formula is found by a hash table.
+//! one, and an obligation that follows from others at the next index is dropped. Formulas that the root does not
+//! need get no covers. A set with one more formula is found by a hash table.
 #![tactic(auto)]
 
 mod board;

@@ -8,7 +8,7 @@
 //! | `word_is_there` | a circuit of a role has a word on each stem and lap |
 //! | `verdict_is_there` | an admitted file and a circuit of a role have a verdict on each stem and lap |
 //! | `every_trace_has_letters` | each step has exactly one letter, if the symbols are the role's names |
-//! | `in_time_where_reached` | outputs that need no input at all latch values need none where traces lead |
+//! | `in_time_where_reached` | outputs that need no input at any latch values need none where traces lead |
 //! | `meeting_is_one` | an environment and a finite-state controller have exactly one joint trace of each length |
 //! | `every_meeting_goes_on` | it extends to a lasso trace, with the controller's memory restored as well |
 //! | `every_meeting_is_rejected` | it is rejected if no lasso trace of the environment is accepted |

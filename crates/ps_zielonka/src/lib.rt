@@ -2,8 +2,8 @@
 //!
 //! The solver runs the recursive algorithm of McNaughton and Zielonka on an explicit stack. Each iteration of a call
 //! starts from the greatest priority of its undecided vertices. The player who wins by it attracts vertices to the
-//! tops, which have that priority; in all calls but the first, also those whose priority exceeds all of the other
-//! parity are tops. The undecided vertices outside the attractor are solved by a recursive call. The player keeps its
+//! tops, which have that priority; in all calls but the first, those whose priority exceeds all of the other parity
+//! are tops too. The undecided vertices outside the attractor are solved by a recursive call. The player keeps its
 //! own top if it can move to a vertex that it attracted, or won in that call, and one of the opponent if no edge leads
 //! to a vertex that the opponent won there. If it keeps each top, it wins all that the opponent did not win; else the
 //! opponent attracts vertices to what it won, and the call goes on with the others.
