@@ -284,8 +284,7 @@ def twisted(rungs=40):
 
 
 def braided(rungs=40):
-    """Rungs of six vertices that also stay hard for solvers that split the game into components, and for priority
-    promotion."""
+    """Rungs of six vertices that also stay hard for solvers that split the game into components."""
     return on_games(game_by_rungs(BRAIDED, rungs))
 
 

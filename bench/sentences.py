@@ -33,11 +33,11 @@ ORDERS = ("Mealy", "Mealy", "Mealy", "Moore", "Mealy,Strict", "Moore,Strict")
 SECONDS = 60
 
 
-def specification(chance):
-    """The text of a random specification."""
+def specification(chance, most=NODES):
+    """The text of a random specification, with up to so many nodes in its formulas."""
     inputs, outputs = INPUTS[: chance.randrange(1, 4)], OUTPUTS[: chance.randrange(1, 3)]
     names = inputs + outputs
-    nodes, parts = chance.randrange(1, NODES + 1), []
+    nodes, parts = chance.randrange(1, most + 1), []
     for kind in ["GUARANTEE", *chance.choices(SECTIONS, k=chance.randrange(4))]:
         if nodes < 1:
             break

@@ -4,6 +4,8 @@ For a command of the program, the program's own table (`usages`) states which fl
 The help, the manual and the completions are made from the commands in `table`.
 """
 import importlib
+import os
+import re
 from dataclasses import dataclass, field
 
 from psyntool.ends import Refused
@@ -38,10 +40,10 @@ OF_THE_PROGRAM = {flag.name: flag for flag in (FULL, CERT, MOORE, COMPACT, ENV, 
 TO_FILES = Flag(
     "-o",
     "circuit, game and certificate go to PREFIX.aag, PREFIX.pg and PREFIX.cert (then the first line alone is printed), the automaton of "
-    "parts to PREFIX.hoa",
+    "parts or of a specification to PREFIX.hoa, sentences to PREFIX.tlsf",
     "PREFIX",
 )
-TO_FILE = Flag("-o", "the automaton of the parts that are listed goes to PREFIX.hoa", "PREFIX")
+TO_FILE = Flag("-o", "the automaton of the parts that are listed goes to PREFIX.hoa, or the sentences to PREFIX.tlsf", "PREFIX")
 FORCE = Flag("--force", "-o and play write over files that psyn has not written, too")
 # Flags for games that another solver solves.
 BY = Flag(
@@ -53,27 +55,36 @@ BY = Flag(
 KEEP = Flag("--keep", "a solution of --by that is wrong goes to FILE", "FILE")
 PICTURE = Flag("--picture", "where a player loses a cycle: the game, the solution and that cycle as Graphviz DOT", "FILE")
 # Flags for specifications in parts.
-ASSUME = Flag("--assume", "parts that are assumed", "PART..", many=True)
-GUARANTEE = Flag("--guarantee", "parts that are guaranteed", "PART..", many=True)
+ASSUME = Flag("--assume", "parts that are assumed, or sentences, as those of --formula", "PART..", many=True)
+GUARANTEE = Flag("--guarantee", "parts that are guaranteed, or sentences", "PART..", many=True)
 AS = Flag("--as", "the part before it has other names for its propositions; OLD=!NEW negates one", "OLD=NEW..", many=True)
-OUTS = Flag("--outs", "the controller's propositions, where the parts do not say whose theirs are", "NAME..", many=True)
+OUTS = Flag("--outs", "the controller's propositions, where parts or sentences do not say whose theirs are", "NAME..", many=True)
 STRICT = Flag("--strict", "a guarantee that breaks while no assumption has broken loses at once")
-PARTS = Flag("--parts", "a list of parts in the place of the automaton")
+PARTS = Flag("--parts", "a list of parts, or a specification whose sentences can be parts, in the place of the automaton")
 OF_PARTS = (ASSUME, GUARANTEE, AS, OUTS, STRICT)
+# Flags for sentences in temporal logic.
+FORMULA = Flag(
+    "--formula",
+    "a guarantee in linear temporal logic, as Spot and other tools write it, in the place of a file",
+    "SENTENCE",
+    repeated=True,
+)
+INS = Flag("--ins", "the environment's propositions; without it all that --outs does not name", "NAME..", many=True)
+OF_SENTENCES = (FORMULA, INS)
 # Flags of one command each.
 SET = Flag("--set", "a parameter of the specification has this value; one --set for each", "NAME=VALUE", repeated=True)
 TO_TLSF = Flag("-o", "the basic form goes to PREFIX.tlsf", "PREFIX")
 STIMULUS = Flag("--stimulus", "where the circuit loses: the stimulus goes to FILE", "FILE")
 WAVE = Flag("--wave", "where the circuit loses: what it does on the stimulus goes to FILE, as a VCD file", "FILE")
-TRACE = Flag("--trace", "show the run too: the state, the letter by names, and the sets of each step")
+TRACE = Flag("--trace", "show the run too: the state, the letter by names, and the sets of each step; with --tlsf the sentences that are violated")
 NAMES = Flag("--names", "begin with a line that names the latches, inputs and outputs")
 CIRCUIT = Flag("--circuit", "play against any circuit that verify passes, in the place of PREFIX", "FILE")
 ABC = Flag("--abc", "abc makes the circuit smaller first")
 SMALL = Flag("--small", "the circuit is made smaller, as shrink makes it")
-AUTO = Flag("--auto", "play without you, holding out as long as possible, and print the steps")
+AUTO = Flag("--auto", "play without you, holding out long, and print the steps")
 REACH = Flag("--reach", "only what so many steps from the start reach (of a circuit: from the outputs back)", "N")
 DROP = Flag("--drop", "leave out the input of that name, which nothing may read (as the clock that yosys adds)", "NAME")
-CHECK = Flag("--check", "exit status 3 where the answer is loses, rejected, violated, or that the solution is wrong")
+CHECK = Flag("--check", "exit status 3 where the answer is loses, rejected, violated, accepts, rejects, or that the solution is wrong")
 SEED = Flag("--seed", "another random game for the same number", "N")
 EDGES = Flag("--edges", "so many different edges for each vertex of a random game", "N")
 PRIORITIES = Flag("--priorities", "so many priorities in a random game, from 0 on", "N")
@@ -86,6 +97,8 @@ KEEP_RETURNS = Flag("--keep-returns", "leave carriage returns where they are")
 ZERO_RESETS = Flag("--zero-resets", "unset latches of a circuit (their own literal as reset) begin with 0")
 HELP = Flag("--help", "how the command is used")
 VERSION = Flag("--version", "which psyn this is")
+# How the names of files end that --parts reads.
+OF_LISTS = tuple(f".{ending}" for kind in (Kind.LIST, Kind.SPECIFICATION) for ending in kind.endings)
 EVERYWHERE = (KEEP_RETURNS, ZERO_RESETS, JSON, TIME, MEMORY, QUIET, HELP, VERSION)
 SHORT = {"-h": "--help", "-V": "--version"}
 
@@ -117,6 +130,8 @@ class Command:
     module: str = ""
     # whether its first word is another command, which it runs with all its flags
     runs_another: bool = False
+    # whether the program reads its specifications, so that those in TLSF's full form are written out for it
+    writes_out: bool = True
 
     @property
     def place(self):
@@ -133,13 +148,20 @@ class Command:
 
     def kinds(self, given):
         """What the command reads with the given flags: the kind of each file, and a name for each other word."""
+        if has_sentences(given):
+            return self.reads[1:]
         other = next((kinds for name, kinds in self.instead.items() if name in given), None)
         first = tuple(kind for name, kind in self.replaced.items() if name in given)
         return other or (*first, *self.reads[len(first) :], *(kind for name, kind in self.behind.items() if name in given))
 
     def recognised(self, given, words):
         """The given flags, and the flag for a first file of another kind if the file's name ends as those of this kind
-        do."""
+        do, or if the command line has the sentences of a specification. A command that reads several words, and is given
+        one list, reads that."""
+        if has_sentences(given):
+            return {**given, **dict.fromkeys(self.replaced, True)}
+        if PARTS.name in self.instead and len(words) == 1 < len(self.reads) and not set(self.instead) & set(given) and words[0].endswith(OF_LISTS):
+            return {**given, PARTS.name: True}
         for flag, kind in self.replaced.items():
             if words and flag not in given and not set(self.instead) & set(given) and words[0].endswith(tuple(f".{ending}" for ending in kind.endings)):
                 return {**given, flag: True}
@@ -148,13 +170,25 @@ class Command:
     def wanted(self, given=()):
         """The words of a usage line for what the command reads, with optional words in brackets."""
         words = [kind.word if isinstance(kind, Kind) else kind for kind in self.kinds(given)]
-        least = 0 if set(self.instead) & set(given) else len(words) if self.least is None else self.least
+        is_whole = self.least is None or bool(set(self.replaced) & set(given))
+        least = 0 if set(self.instead) & set(given) and not has_sentences(given) else len(words) if is_whole else self.least
         return [word if place < least else f"[{word}]" for place, word in enumerate(words)]
 
     @property
     def usage(self):
         optional = [f"[{kind.word}]" for kind in self.behind.values()]
         return " ".join([self.name, *(f"[{flag.shown}]" for flag in self.all_flags), *self.wanted(), *optional])
+
+
+def has_sentences(given):
+    """Whether the given flags have sentences, and no parts."""
+    parts = [word for flag in (ASSUME, GUARANTEE) if flag.name in given for _, word in given[flag.name]]
+    return all(map(is_sentence, parts)) and (FORMULA.name in given or bool(parts))
+
+
+def is_sentence(word, folder=""):
+    """Whether a word is a sentence, and not the path of a part in a folder."""
+    return bool(re.search(r"[\s()!~&|<>]", word)) and not os.path.exists(os.path.join(folder, word))
 
 
 def of_the_program(name, says, **more):
@@ -202,8 +236,14 @@ class Request:
 
     @property
     def passed(self):
-        """Of the flags on the command line, those that the tool hands on to the program."""
-        return [name for name in self.given if name in {flag.name for flag in self.command.flags}]
+        """Of the flags on the command line, those that the tool hands on to the program. The order of moves of a
+        specification stands in its text."""
+        left_out = [MOORE.name] if self.has_sentences else []
+        return [name for name in self.given if name in {flag.name for flag in self.command.flags} and name not in left_out]
+
+    @property
+    def has_sentences(self):
+        return has_sentences(self.given)
 
     def has(self, flag):
         return flag.name in self.given
@@ -228,7 +268,17 @@ class Request:
         refused here."""
         from psyntool.files import Reader
 
-        texts = Reader(self).texts(self.command.kinds(self.given), self.words)
+        kinds = self.command.kinds(self.given)
+        if self.has(SET) and self.command.replaced and (Kind.SPECIFICATION not in kinds or self.has_sentences):
+            raise Refused(f"{self.command.name} {SET.name} wants a specification, as {TLSF.name} or a name that ends with .tlsf says")
+        wrong = next((flag for flag in (INS, OUTS, STRICT, MOORE, ASSUME, GUARANTEE) if self.has(flag)), None)
+        if wrong and Kind.SPECIFICATION in kinds and not self.has_sentences:
+            raise Refused(f"{self.command.name} {wrong.name} is for sentences on the command line: a specification says itself what it means")
+        texts = Reader(self).texts(kinds, self.words)
+        if self.has_sentences:
+            from psyntool import specifying
+
+            texts.insert(0, specifying.of_sentences(self))
         if Kind.STIMULUS in [text.kind for text in texts]:
             from psyntool import letters
 
@@ -245,5 +295,10 @@ def wrong_kinds(command, texts):
     if not said:
         return ""
     has_list, takes_list = any(text.looks_like is Kind.LIST for text in texts), PARTS in command.own
-    hint = f", or {PARTS.name} before a list" if takes_list else "; `compose` makes an automaton of a list"
-    return f"{said}; {command.name} wants {' '.join(text.kind.word for text in texts)}{hint * has_list}"
+    hint = (f", or {PARTS.name} before a list" if takes_list else "; `compose` makes an automaton of a list") * has_list
+    kinds = [text.kind for text in texts]
+    if TLSF.name in command.replaced and any(text.looks_like is Kind.SPECIFICATION for text in texts):
+        kinds[0] = Kind.SPECIFICATION
+    elif kinds == [Kind.CIRCUIT] and texts[0].looks_like in (Kind.SPECIFICATION, Kind.AUTOMATON):
+        hint = "; `synth` makes one"
+    return f"{said}; {command.name} wants {' '.join(kind.word for kind in kinds)}{hint}"

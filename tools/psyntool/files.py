@@ -25,6 +25,8 @@ class Text:
         self.told = []
         # whether the file was in binary AIGER, so that the text is its ASCII form
         self.was_binary = False
+        # of a specification in temporal logic what it says, if the tool has read it
+        self.basic = None
         # for each change of the text, pairs of an offset after it and the distance to the offset before it from there on
         self.changes = []
 
@@ -54,6 +56,11 @@ class Text:
             start = end
         self.bytes = b"".join([*kept, self.bytes[start:]])
         self.changes.append(shifts)
+
+    def become(self, new, name):
+        """Takes the bytes and the name of another text, which is made from this one."""
+        self.original = self.bytes = new
+        self.name, self.changes = name, []
 
     def drop_mark(self):
         """Drops a byte order mark, which no format allows; editors do not count it as a column."""
@@ -214,6 +221,14 @@ class Reader:
         if self.left:
             text.end_with_newline()
         self.tell(text)
+        return self.specification(text) if kind is Kind.SPECIFICATION and self.settings.command.writes_out else text
+
+    def specification(self, text):
+        """A specification in temporal logic, written out if it is in TLSF's full form."""
+        from psyntool import specifying
+
+        text.kind = Kind.SPECIFICATION
+        specifying.write_out(text, self.settings)
         return text
 
     def tell(self, text):

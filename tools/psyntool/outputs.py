@@ -16,7 +16,7 @@ SIGNS = {
     ".aag": rb"(?m)^c\nwritten by psyn\n\Z",
     ".pg": rb'\Aparity \d+;\n\d+ \d+ [01] [\d,]+ "[^"]*/\d+";\n',
     ".cert": rb"\Apsyncert [12]\n",
-    ".hoa": rb'\AHOA: v1\ntool: "psyn compose"\n',
+    ".hoa": rb'\AHOA: v1\ntool: "psyn (compose|translate)"\n',
     ".stim": rb"\A# written by psyn\n",
     ".tlsf": rb"\A// written by psyn tlsf\n",
 }

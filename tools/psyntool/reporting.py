@@ -5,14 +5,14 @@ import re
 from psyntool import console, running
 from psyntool.ends import WRONG_SOLUTIONS
 
-VERDICTS = ("REALIZABLE", "UNREALIZABLE", "wins", "loses", "accepted", "rejected", "satisfied", "violated", "valid", "closed")
+VERDICTS = ("REALIZABLE", "UNREALIZABLE", "wins", "loses", "accepted", "rejected", "satisfied", "violated", "valid", "closed", "agrees", "accepts", "rejects")
 # The fields of the line, in order, as the manual describes them.
 FIELDS = {
     "command": "the command",
     "files": "the words behind it, in a list",
     "status": "the exit status",
-    "verdict": "REALIZABLE, UNREALIZABLE, wins, loses, accepted, rejected, satisfied, violated, valid or closed, or of judge right or wrong",
-    "stem": "of lasso, and of verify and shrink where the circuit loses: the number of steps before the lap",
+    "verdict": "REALIZABLE, UNREALIZABLE, wins, loses, accepted, rejected, satisfied, violated, valid, closed, agrees, accepts or rejects, or of judge right or wrong",
+    "stem": "of lasso, and of verify, shrink and agree where they print a stimulus or a word: the number of steps before the lap",
     "lap": "the number of steps of the lap, which repeats for ever",
     "fault": "the number of the fault",
     "name": "the name of the fault",
@@ -70,5 +70,5 @@ def steps_of(answer):
     found = re.match(r"(?:accepted|rejected|satisfied|violated) stem (\d+) lap (\d+)$", answer, re.M)
     if found:
         return int(found[1]), int(found[2])
-    found = re.match(r"loses\n((?:[01]*\n)*)-\n((?:[01]*\n)*)", answer)
+    found = re.match(r"(?:loses|accepts|rejects)\n((?:[01]*\n)*)-\n((?:[01]*\n)*)", answer)
     return (found[1].count("\n"), found[2].count("\n")) if found else (None, None)

@@ -5,7 +5,7 @@ import tempfile
 from dataclasses import replace
 
 from psyntool import asking, children, console, files, program
-from psyntool.command import ABC, ENV, MOORE
+from psyntool.command import ABC, ENV, MOORE, TLSF
 from psyntool.ends import Refused, Unwritten
 from psyntool.files import Text
 from psyntool.kinds import Kind
@@ -75,15 +75,40 @@ def is_circuit(answer):
     return asking.is_had(answer) and answer.bytes.startswith(b"aag ")
 
 
-def in_answer(request, automaton, answer):
-    """An answer of `synth` with a smaller circuit in place of its own. If the program gives none, standard error says
-    why, and the answer stays as it is."""
+def in_answer(request, automaton, answer, passed):
+    """An answer of `synth` with a smaller circuit in place of its own; `passed` are the flags of `synth`. If the program
+    gives none, standard error says why, and the answer stays as it is."""
     if not asking.is_had(answer):
         return answer
-    found, given = of_answer(automaton, answer, request.passed)
+    return with_smaller(request, answer, *of_answer(automaton, answer, passed))
+
+
+def with_smaller(request, answer, found, given):
+    """An answer of `synth` with the circuit of an answer of `shrink`, if that is one, in place of its own."""
     if not is_circuit(found):
         console.tell(f"psyn: the circuit stays as it is: shrink: {found.died or found.text.partition(chr(10))[0]}")
         return answer
     if not request.quiet:
         console.tell(sizes_told(given.bytes, found.bytes))
     return replace(answer, bytes=answer.bytes.replace(given.bytes, found.bytes, 1))
+
+
+def by_sentences(request, text, answer):
+    """An answer of `synth` to a specification in temporal logic, with a smaller circuit in place of its own. The circuit is
+    made smaller by the automaton of the sentences, if they can be parts, and is then judged by the sentences."""
+    from psyntool import specifying
+    from psyntool.parts import specification
+
+    if not asking.is_had(answer):
+        return answer
+    try:
+        automaton = specification.automaton_of_sentences(specifying.read(text))
+    except Refused as error:
+        console.tell(f"psyn: the circuit stays as it is: {error}")
+        return answer
+    found, given = of_answer(automaton, answer, [MOORE.name] if text.basic.is_moore else [])
+    if is_circuit(found):
+        flags = [TLSF.name, *([ENV.name] if answer.status == 20 else [])]
+        judged = program.ask(files.joined("verify", flags, [text, Text(Kind.CIRCUIT, "the smaller circuit", found.bytes)]))
+        found = found if judged.bytes == b"wins\n" else judged
+    return with_smaller(request, answer, found, given)

@@ -33,14 +33,14 @@ def steps(read, letters):
         state = edge.target
 
 
-def trace(texts, stem, lap, is_stopped=False):
+def trace(texts, stem, lap, is_stopped=False, flags=()):
     """A table of the steps on a lasso: on the stem, and on one lap (the repeated part). The texts are an automaton or a
-    specification, a circuit and a stimulus. Below the run of an automaton stands what became of the parts of which it
+    specification, a circuit and a stimulus; `flags` has `--env` if the circuit is an environment's. Below the run of an automaton stands what became of the parts of which it
     was composed, if it was; the table can be stopped at the first step that breaks a guarantee."""
     if stem + lap > LONGEST:
         return f"the run has {stem + lap} steps until it comes again, and is not shown\n"
     if texts[0].kind is Kind.SPECIFICATION:
-        return trace_by_names(texts, stem, lap)
+        return trace_by_names(texts, stem, lap, is_stopped, flags)
     read = automaton.read(texts[0].string)
     numbers = {name: number for number, name in enumerate(read.names)}
     letters = [{numbers[name] for name in true} for true in letters_of(texts, stem + lap)]
@@ -52,12 +52,44 @@ def trace(texts, stem, lap, is_stopped=False):
     return "\n".join([*told, *(["there is no edge: the run ends"] if rows[-1][-1] == "no edge" else []), *parts, ""])
 
 
-def trace_by_names(texts, stem, lap):
-    """A table of the letters on a lasso, by the names that a specification declares."""
+def run_of(read, names, letters, stem):
+    """The lines of a table of an automaton's run on a lasso, whose letters are those of the stem and of one lap, each the
+    set of the names that are true. Of all names, the automaton reads those that it has."""
+    numbers = {name: number for number, name in enumerate(read.names)}
+    rows = [
+        (str(place), state, named(true, names), marks)
+        for place, (true, (state, _, marks)) in enumerate(zip(letters, steps(read, [{numbers[name] for name in true if name in numbers} for true in letters])))
+    ]
+    is_ended = rows[-1][-1] == "no edge"
+    told = table(("step", "state", "letter", "sets"), rows, None if is_ended else stem, len(letters) - stem)
+    return [*told, *["there is no edge: the run ends"] * is_ended]
+
+
+def named(true, names):
+    """A letter by names, of which some are true."""
+    return labels.letter_text({number: name in true for number, name in enumerate(names)}, names)
+
+
+def trace_by_names(texts, stem, lap, is_stopped, flags):
+    """A table of the letters on a lasso, by the names that a specification declares, and the sentences that the lasso
+    violates. The table can be stopped at the first step that breaks one of them."""
+    from psyntool.tlsf import violations
+
     names = [name for declared in specification.owners(texts[0].string) for name in declared]
-    letters = ({number: name in true for number, name in enumerate(names)} for true in letters_of(texts, stem + lap))
-    rows = [(str(place), labels.letter_text(letter, names)) for place, letter in enumerate(letters)]
-    return "\n".join([*table(("step", "letter"), rows, stem, lap), ""])
+    letters = list(letters_of(texts, stem + lap))
+    broken = violations.of_trace(texts, letters, stem, flags)
+    steps = [one.step for one in broken if one.step is not None]
+    if is_stopped and steps:
+        letters, stem = unrolled(letters, stem, min(steps) + 1), None
+        broken = [one for one in broken if one.step is not None and one.step < len(letters)]
+    rows = [(str(place), named(true, names)) for place, true in enumerate(letters)]
+    return "\n".join([*table(("step", "letter"), rows, stem, lap), *(line for one in broken for line in one.told()), ""])
+
+
+def unrolled(letters, stem, count):
+    """The first letters of a lasso, whose letters are those of the stem and of one lap."""
+    lap = letters[stem:]
+    return [letters[place] if place < len(letters) else lap[(place - stem) % len(lap)] for place in range(count)]
 
 
 def table(head, rows, stem, lap):
@@ -71,7 +103,7 @@ def table(head, rows, stem, lap):
         if place == left_out.start and left_out:
             told.append(f".. {len(left_out)} steps are not shown ..")
         if place == stem:
-            told.append(f"the lap begins{f' at step {stem}' * (stem in left_out)}; it comes again behind step {stem + lap - 1}")
+            told.append(f"the lap begins{f' at step {stem}' * (stem in left_out)}; it comes again after step {stem + lap - 1}")
         told += [] if place in left_out else [line]
     return told
 

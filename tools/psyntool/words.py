@@ -2,9 +2,14 @@
 import os
 
 from psyntool import places
-from psyntool.command import EVERYWHERE, HELP, SHORT, VERSION, Request
+from psyntool.command import ASSUME, EVERYWHERE, GUARANTEE, HELP, MOORE, OUTS, SHORT, STRICT, TLSF, VERSION, Request, has_sentences
 from psyntool.ends import Refused
 from psyntool.kinds import Kind
+
+# Flags that say more of a specification whose sentences stand on the command line.
+OF_SPECIFICATIONS = (ASSUME, GUARANTEE, OUTS, STRICT, MOORE)
+# What a specification says in the place of a flag.
+SEMANTICS = {MOORE: "Moore", STRICT: "Mealy,Strict"}
 
 
 def nearest(word, known):
@@ -99,8 +104,9 @@ def check_flags(command, given, commands):
 def check_apart(command, given):
     for flag in command.apart:
         for other in command.apart[flag]:
-            if flag in given and other.name in given:
-                raise Refused(f"{command.name} {flag} can't have {other.name}")
+            if flag in given and other.name in given and not (has_sentences(given) and other in OF_SPECIFICATIONS):
+                said = f": a specification says that itself, by SEMANTICS: {SEMANTICS[other]}" if flag == TLSF.name and other in SEMANTICS else ""
+                raise Refused(f"{command.name} {flag} can't have {other.name}{said}")
 
 
 def check_count(command, given, words):

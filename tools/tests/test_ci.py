@@ -10,7 +10,7 @@ from upkeep.sweeps import TOP
 
 # The programs that the script runs; no other program is on its PATH.
 NEEDED = ("bash", "cat", "dirname", "env", "grep", "mktemp", "rm", "sh", "tee", "timeout")
-PACKAGES = ["chromium", "nodejs", "graphviz", "yosys", "berkeley-abc", "iverilog"]
+PACKAGES = ["chromium", "nodejs", "graphviz", "yosys", "berkeley-abc", "lbt", "spin", "iverilog"]
 TESTS = "#!/bin/sh\necho 'skipped: a test: node is not installed'\necho '63 passed, 0 failed'\necho 'tools: 80 passed, 1 failed, 1 skipped'\nexit 3\n"
 # A stand-in for apt-get: it installs every package except yosys; some programs have other names than their packages.
 REGISTRY = """\
@@ -110,7 +110,7 @@ class Script(OnFiles):
 
     def test_where_nothing_was_skipped_it_says_so(self):
         self.program(os.path.join("tools", "test-all"), TESTS.replace("skipped: a test", "a test"))
-        for name in ("chromium", "node", "dot", "yosys", "berkeley-abc", "iverilog"):
+        for name in ("chromium", "node", "dot", "yosys", "berkeley-abc", "lbt", "spin", "iverilog"):
             self.program(os.path.join("programs", name), "#!/bin/sh\n")
         done = subprocess.run([os.path.join(self.room, ".ci", "run")], env={"PATH": self.programs}, capture_output=True, text=True, check=False)
         self.assertEqual((done.stdout.splitlines()[3:], done.returncode), (["no test was skipped"], 3))

@@ -36,6 +36,7 @@ NAMED = (
     "mark_missing",
     "minimum_read_as_maximum",
     "missing_letters_dropped",
+    "half_agreed",
     "negation_missing",
     "no_moves_given",
     "one_successor_tested",

@@ -25,7 +25,7 @@ FAMILIES = {
     "parts_of run tail_of value_of with_formula",
     "the word of a lasso, which automata and formulas read": "Repeats lasso_word",
     "what formulas, tableaux and fair cycles have of their own, as games and automata do": "AreDistinct Fits IsAnswer IsRun Keeps Leads",
-    "what products have of words of latches, and of groups of letters": "AreDifferent AreOnce IsRead IsWhole",
+    "what products have of words of latches, and of groups of letters": "AreDifferent AreOnce IsRead IsWhole LeadsAlong",
 }
 # Acceptance marks are those of HOA texts; a fair cycle has marks of any kind on its edges.
 WITH_MARKS = ("ps_hoa", "ps_automaton", "ps_automaton_tests", "ps_fairness", "ps_game_tests", "ps_models", "ps_translation")

@@ -60,7 +60,7 @@ class Statuses(Running):
         self.assertEqual([self.tool("verify", "spec", "never").returncode, self.tool("judge", "game", "wrong").returncode], [0, 1])
 
     def test_other_commands_have_no_such_flag(self):
-        self.assertEqual(self.said("synth", "--check", "spec")[1:], (["psyn: synth has no flag --check: it is for judge, lasso, verify, shrink"], 2))
+        self.assertEqual(self.said("synth", "--check", "spec")[1:], (["psyn: synth has no flag --check: it is for judge, lasso, verify, shrink, agree"], 2))
 
 
 class Json(Running):

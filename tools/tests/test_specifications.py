@@ -78,7 +78,7 @@ class Specifications(OnFiles):
         self.assertIn("spec.hoa is an automaton; lasso wants SPECIFICATION CIRCUIT STIMULUS", self.asked("spec.hoa", "grant.aag", "l.stim")[1])
         self.file("spec", HEAD + MAIN)
         told = self.tool("lasso", "spec", "grant.aag", "l.stim").stderr.decode()
-        self.assertIn("spec is a specification; lasso wants AUTOMATON CIRCUIT STIMULUS", told)
+        self.assertIn("spec is a specification; lasso wants SPECIFICATION CIRCUIT STIMULUS", told)
 
     def test_it_is_known_by_its_ending(self):
         self.assertEqual(self.tool("lasso", "s.tlsf", "grant.aag", "l.stim").stdout, b"satisfied stem 0 lap 1\n")
@@ -87,7 +87,7 @@ class Specifications(OnFiles):
         self.assertEqual(self.tool("each", "verify", "s.tlsf", "grant.aag", "spec.hoa", "grant.aag").stdout.count(b"wins\n"), 2)
         for words in (["verify", "--moore", "s.tlsf", "grant.aag"], ["each", "verify", "--moore", "s.tlsf", "grant.aag"]):
             done = self.tool(*words)
-            self.assertEqual((done.stdout, done.stderr, done.returncode), (b"", b"psyn: verify --tlsf can't have --moore\n", 2))
+            self.assertEqual((done.stdout, done.stderr, done.returncode), (b"", b"psyn: verify --tlsf can't have --moore: a specification says that itself, by SEMANTICS: Moore\n", 2))
 
     def test_where_a_circuit_loses_the_letters_are_shown_by_names(self):
         done = self.tool("verify", "--check", "--stimulus", "lost.stim", "s.tlsf", "never.aag")
@@ -100,9 +100,37 @@ class Specifications(OnFiles):
         self.assertEqual(json.loads(self.tool("verify", "--json", "s.tlsf", "never.aag").stdout)["verdict"], "loses")
 
     def test_what_it_refuses(self):
-        self.assertEqual(self.asked("--trace", "s.tlsf", "grant.aag", "l.stim")[2], 2)
         answer, told, status = self.asked("s.tlsf", "grant.aag")
         self.assertEqual((answer, told, status), ("", ["psyn: lasso --tlsf reads SPECIFICATION CIRCUIT STIMULUS, and got 2 files"], 2))
+        for words, said in (
+            (["lasso", "--set", "n=2", "spec.hoa", "grant.aag", "l.stim"], "lasso --set wants a specification, as --tlsf or a name that ends with .tlsf says"),
+            (["lasso", "--set", "n=2", "s.tlsf", "grant.aag", "l.stim"], "s.tlsf: --set NAME=VALUE: there is no parameter n; the specification has none"),
+        ):
+            done = self.tool(*words)
+            self.assertEqual((done.stdout, done.stderr.decode(), done.returncode), (b"", f"psyn: {said}\n", 2))
+
+    def test_the_full_form_is_written_out(self):
+        full = HEAD + b"GLOBAL { PARAMETERS { n = 2; } }\n" + MAIN.replace(b"r;", b"r[n];").replace(b"g;", b"g[n];").replace(b"G (r -> F g)", b"&&[i IN {0, 1 .. n - 1}] G (r[i] -> within 1 g[i])")
+        self.file("full.tlsf", full)
+        done = self.tool("synth", "--set", "n=1", "full.tlsf")
+        self.assertEqual((done.stdout.split(b"\n")[0], done.returncode), (b"REALIZABLE", 10))
+        self.assertIn(b"o0 g_0\n", done.stdout)
+        self.file("none.aag", b"aag 2 2 0 2 0\n2\n4\n0\n4\ni0 r_0\ni1 r_1\no0 g_0\no1 g_1\n")
+        self.assertEqual(self.tool("verify", "full.tlsf", "none.aag").stdout.split(b"\n")[0], b"loses")
+        self.assertEqual(self.tool("verify", "--quiet", "full.tlsf", "none.aag").stdout.split(b"\n")[0], b"loses")
+        self.file("wrong.tlsf", full.replace(b"g[i]", b"g[n]"))
+        done = self.tool("synth", "wrong.tlsf")
+        self.assertEqual((done.stdout, done.returncode, done.stderr.count(b"\n")), (b"", 2, 1))
+        self.assertTrue(done.stderr.startswith(b"psyn: wrong.tlsf:6:"), done.stderr)
+
+    def test_a_module_is_printed_of_a_circuit_that_wins(self):
+        done = self.tool("verilog", "grant.aag", "s.tlsf")
+        self.assertIn(b"// psyn verify says that this circuit wins, by s.tlsf.\n", done.stdout)
+        self.assertIn(b"  // - G (r -> F g)\n", done.stdout)
+        done = self.tool("verilog", "never.aag", "s.tlsf")
+        self.assertEqual((done.stdout, done.stderr, done.returncode), (b"", b"psyn: never.aag loses, so there is no module: `verify` tells a counterexample\n", 1))
+        done = self.tool("verilog", "--moore", "grant.aag", "s.tlsf")
+        self.assertEqual((done.stderr, done.returncode), (b"psyn: s.tlsf says itself who moves first, without --moore\n", 2))
 
 
 class Synthesis(OnFiles):
@@ -116,12 +144,31 @@ class Synthesis(OnFiles):
         done = self.tool("synth", "-o", "made", "s.tlsf")
         self.assertEqual((done.stdout, done.returncode), (b"REALIZABLE\n", 10), done)
         self.assertEqual(self.tool("verify", "s.tlsf", "made.aag").stdout, b"wins\n")
-        self.assertFalse(os.path.exists(os.path.join(self.room, "made.pg")))
+        self.assertTrue(os.path.exists(os.path.join(self.room, "made.pg")))
+
+    def test_a_smaller_circuit_is_made(self):
+        for words, status in ((["s.tlsf"], 10), (["--formula", "G (r -> F g)", "G r"], 20)):
+            words = words if words[0] != "--formula" else ["--guarantee", *words[1:], "--outs", "g"]
+            done = self.tool("synth", "--small", *words, "-o", "made", "--force")
+            self.assertEqual(done.returncode, status, done)
+            self.assertRegex(done.stderr, rb"^gates: \d+ before, \d+ after; latches: \d+ before, \d+ after\n")
+        self.assertEqual(self.tool("verify", "--env", "made.tlsf", "made.aag").stdout, b"wins\n")
+        done = self.tool("synth", "--small", "--formula", "F G (g <-> r)", "--outs", "g")
+        self.assertEqual((done.returncode, done.stdout[:11]), (10, b"REALIZABLE\n"))
+        self.assertTrue(done.stderr.startswith(b"psyn: the circuit stays as it is: as a part it would have to say"), done.stderr)
+
+    def test_a_sentence_that_is_long_or_deep_leaves_no_traceback(self):
+        self.file("never.aag", NEVER)
+        for formula in (" -> ".join(["r"] * 500) + " -> g", "X " * 250 + "g", "(" * 250 + "g" + ")" * 250, " && ".join(["(r -> X g)"] * 200)):
+            self.file("long.tlsf", HEAD + MAIN.replace(b"G (r -> F g)", formula.encode() + b"; G F g"))
+            for words in (["verify", "long.tlsf", "never.aag"], ["compose", "--guarantee", formula, "--outs", "g"]):
+                done = self.tool(*words)
+                self.assertNotIn(b"Traceback", done.stderr)
 
     def test_no_other_flag_stands_beside_it(self):
-        for flag in ("--full", "--moore", "--compact", "--small"):
+        for flag in ("--full", "--moore", "--compact"):
             done = self.tool("synth", flag, "s.tlsf")
-            self.assertEqual((done.stdout, done.stderr.decode(), done.returncode), (b"", f"psyn: synth --tlsf can't have {flag}\n", 2))
+            self.assertEqual((done.stdout, done.stderr.decode(), done.returncode), (b"", f"psyn: synth --tlsf can't have {flag}{': a specification says that itself, by SEMANTICS: Moore' * (flag == '--moore')}\n", 2))
 
 
 class Reading(unittest.TestCase):
@@ -136,6 +183,14 @@ class Reading(unittest.TestCase):
         self.assertEqual(specification.owners("INFO { } MAIN { }"), [[], []])
         with self.assertRaises(Unreadable):
             specification.owners("MAIN { INPUTS ;")
+
+    def test_names_stand_in_the_order_of_their_declarations(self):
+        text = "INFO { TAGS: INPUTS TARGET: Moore SEMANTICS: Moore } MAIN { OUTPUTS { c; } INPUTS { a; b; } }"
+        self.assertEqual(specification.owners(text), [["a", "b"], ["c"]])
+        self.assertEqual(specification.names(text), ["c", "a", "b"])
+        self.assertTrue(specification.is_moore(text))
+        self.assertFalse(specification.is_moore(text.replace("Moore", "Mealy")))
+        self.assertEqual(specification.names("MAIN { INPUTS { a } }"), ["a"])
 
 
 if __name__ == "__main__":

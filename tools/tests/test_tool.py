@@ -34,7 +34,7 @@ class Commands(OnFiles):
         turned = self.tool("lasso", "--env", automaton, circuit, stimulus)
         self.assertEqual((turned.stdout, turned.returncode), (b"fault 72 Symbols\n", 1))
         self.assertIn(b"the symbols are those of a controller: ask without --env\n", turned.stderr)
-        self.assertIn(b"cause: for `lasso`, `verify` and `shrink`, the symbols", turned.stderr)
+        self.assertIn(b"cause: the symbols of the circuit", turned.stderr)
 
     def test_where_a_circuit_loses_the_run_is_shown_and_the_stimulus_stored(self):
         judge = f"#!/bin/sh\nread line\ncase $line in verify*) cat > /dev/null; printf '%s' \"$SAID\" ;; *) (echo $line; cat) | '{program()}' ;; esac\n"
@@ -44,7 +44,7 @@ class Commands(OnFiles):
         loses = {"PSYN": fake, "SAID": "loses\n0\n1\n-\n1\n"}
         done = self.tool("verify", "--stimulus", path, automaton, circuit, environment=loses)
         self.assertEqual((done.stdout, done.returncode), (b"loses\n0\n1\n-\n1\n", 0))
-        shown = ["step  state  letter  sets", "0     0 off  !r !g   0", "1     0 off  r !g", "the lap begins; it comes again behind step 2", "2     1      r !g"]
+        shown = ["step  state  letter  sets", "0     0 off  !r !g   0", "1     0 off  r !g", "the lap begins; it comes again after step 2", "2     1      r !g"]
         self.assertEqual([line.rstrip() for line in done.stderr.decode().splitlines()], shown)
         with open(path, "rb") as file:
             self.assertEqual(file.read(), b"0\n1\n-\n1\n")
@@ -156,7 +156,7 @@ class Commands(OnFiles):
             "accepted stem 1 lap 2",
             "step  state  letter  sets",
             "0     0 off  r !g",
-            "the lap begins; it comes again behind step 2",
+            "the lap begins; it comes again after step 2",
             "1     1      !r g    0",
             "2     0 off  r !g",
         ]

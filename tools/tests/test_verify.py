@@ -127,7 +127,7 @@ class OfTheTool(OnFiles):
         late = self.file("late", f"aag 151 1 150 1 0\n2\n{''.join(latches)}303\ni0 r\no0 g\n".encode())
         head = b'HOA: v1 Start: 0 AP: 2 "r" "g" controllable-AP: 1 Acceptance: 1 Fin(0) --BODY-- State: 0 [1] 0 '
         broken = "", 51, ["150   0      !r !g   no edge", "there is no edge: the run ends"]
-        odd = "[!1] 0 {0}", 52, ["150   0      !r !g   0", "the lap begins; it comes again behind step 151", "151   0      !r !g   0"]
+        odd = "[!1] 0 {0}", 52, ["150   0      !r !g   0", "the lap begins; it comes again after step 151", "151   0      !r !g   0"]
         for edge, count, end in (broken, odd):
             spec = self.file("spec", head + edge.encode() + b" --END--\n")
             told = self.tool("verify", spec, late).stderr.decode().splitlines()
@@ -136,7 +136,7 @@ class OfTheTool(OnFiles):
             self.assertLess(len(told), 106)
         lasso = self.file("lasso", b"0\n" * 60 + b"-\n" + b"0\n" * 60)
         traced = self.tool("lasso", "--trace", spec, self.file("silent", NEVER), lasso).stdout.decode().splitlines()
-        self.assertEqual(traced[52:55], [".. 20 steps are not shown ..", "the lap begins at step 60; it comes again behind step 119", "70    0      !r !g   0"])
+        self.assertEqual(traced[52:55], [".. 20 steps are not shown ..", "the lap begins at step 60; it comes again after step 119", "70    0      !r !g   0"])
 
     def test_files_that_can_not_be_written(self):
         self.file("spec", AUTOMATON)
@@ -157,7 +157,7 @@ class OfTheTool(OnFiles):
             self.assertIn("this is no circuit", self.refused("convert", name))
             done = self.tool("verify", "spec", name)
             self.assertEqual((done.stdout[:15], done.returncode), (b"fault 61 Syntax", 1))
-        self.assertEqual(self.refused("convert", "spec"), "spec is an automaton; convert wants CIRCUIT")
+        self.assertEqual(self.refused("convert", "spec"), "spec is an automaton; convert wants CIRCUIT; `synth` makes one")
         self.assertEqual(self.refused("verify", "spec", "none"), "none: No such file or directory")
         self.assertEqual(self.refused("convert", "--drop", "push", self.file("never", NEVER)), "no input of the circuit is called 'push'")
 
@@ -236,7 +236,7 @@ UNMET = """\
 rejected stem 1 lap 1
 step  state                        letter       sets
 0     0 no r waits; no free waits  !free !r !g  1
-the lap begins; it comes again behind step 1
+the lap begins; it comes again after step 1
 1     0 no r waits; no free waits  free !r !g   0
 the lap never meets the guarantee answered(free,g)
   behind each free comes g, at its step or later

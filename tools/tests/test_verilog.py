@@ -330,10 +330,10 @@ class Tool(OnFiles):
 
     def test_refusals(self):
         spec, made = self.file("it.hoa", AUTOMATON), self.file("it.aag", CIRCUIT)
-        self.assertEqual(self.refused(spec), f"{spec} is an automaton; verilog wants CIRCUIT")
+        self.assertEqual(self.refused(spec), f"{spec} is an automaton; verilog wants CIRCUIT; `synth` makes one")
         self.assertEqual(self.refused("--moore", made), "verilog --moore wants a specification, which says who wins")
-        self.assertEqual(self.refused(made, made), f"{made} is a circuit; SPEC is an automaton or a list of parts")
-        self.assertEqual(self.refused(made, self.file("empty", b"")), f"{self.room}/empty is empty; SPEC is an automaton or a list of parts")
+        self.assertEqual(self.refused(made, made), f"{made} is a circuit; SPEC is an automaton, a list of parts or a specification in temporal logic")
+        self.assertEqual(self.refused(made, self.file("empty", b"")), f"{self.room}/empty is empty; SPEC is an automaton, a list of parts or a specification in temporal logic")
         self.assertEqual(self.refused("-", "-"), "standard input can be one of the files only")
         self.assertEqual(self.refused(), "verilog reads CIRCUIT [SPEC], and got 0 words")
 

@@ -7,9 +7,9 @@ from psyntool.command import flags_told
 from psyntool.table import COMMANDS
 
 ABOUT = """\
-psyn turns a deterministic parity automaton into a sequential circuit: a controller, or an environment that defeats every
-finite-state controller. It also makes, solves and checks parity games, and runs and judges circuits. Every answer of the program
-is proved right.
+psyn makes a sequential circuit for a specification in temporal logic or a deterministic parity automaton: a controller, or an
+environment that defeats every finite-state controller. It also makes, solves and checks parity games, runs and judges circuits, and
+compares automata with specifications. Every answer of the program is proved right.
 PP
 `psyn` takes files by their names (`-` is standard input) and explains faults. It runs the program, which takes no arguments, but
 reads the command, a newline, and the texts, with a line %% between two of them, from standard input.
@@ -18,12 +18,13 @@ FORMATS = {
     "automaton": "Hanoi Omega-Automata format, version v1, with `controllable-AP:`, which lists the numbers of the controller's propositions. "
     "It is deterministic, and its acceptance is a parity chain: parity min or max, Buchi, co-Buchi, one Rabin or Streett pair.",
     "specification": "TLSF, the form of the synthesis competition. The program reads its basic form: formulas of linear temporal logic, in "
-    "sections, over the inputs and outputs that the text declares. `SEMANTICS` and `TARGET` name the same order of moves. `U`, `R`, `W` and "
-    "`<->` beside other operators want parentheses. The command tlsf writes the full form of TLSF 1.1 out in the basic form: PARAMETERS, "
+    "sections, over the inputs and outputs that the text declares. `SEMANTICS` and `TARGET` name the same order of moves. `U`, `R`, `W` "
+    "beside operators of two operands, and `<->` beside `->` or `<->`, want parentheses. The tool writes the full form of TLSF 1.1 out in the basic form: PARAMETERS, "
     "functions, enumerations, buses, `&&[i IN {0, 1 .. n - 1}] f`, and words such as `within 3 f`, which docs/INTEROP.md defines.",
+    "sentence": "a formula of linear temporal logic as Spot writes it, with the words of specifications too. `U` binds more than `&`.",
     "part": "an automaton of one rule. Its acceptance is `0 t` or `1 Inf(0)`, and a letter without an edge breaks it. It need not say "
     "who controls its propositions.",
-    "list": "the words of a command line of compose, in lines. Files are relative to the folder of the list. `#` begins a comment, which is "
+    "list": "the flags of compose but --set, and --moore, in lines. Files are relative to the folder of the list. `#` begins a comment, which is "
     "the sentence of the parts that follow it, up to an empty line.",
     "game": "PGSolver's format: for each vertex its id, priority, owner (0 or 1), successors, optionally a name in quotes, and a "
     "semicolon. Player 0 wins if the greatest priority that occurs infinitely often is even.",
@@ -39,11 +40,11 @@ not apply is null. `each --json` prints such a line for each run. Explanations s
 """
 STATUSES = {
     "0": "an answer",
-    "10": "REALIZABLE: a controller's circuit follows",
-    "20": "UNREALIZABLE: an environment's circuit follows",
+    "10": "REALIZABLE: there is a controller",
+    "20": "UNREALIZABLE: an environment wins",
     "1": "a fault, or an answer that could not be written completely",
     "2": "the command line or a file was refused",
-    "3": "with --check: the answer is loses, rejected, violated, or fault 40, 50 or 51 of judge",
+    "3": "with --check: the answer is loses, rejected, violated, accepts or rejects, or fault 40, 50 or 51 of judge",
     "130": "ended by Ctrl-C; 143 by TERM and 129 by HUP",
 }
 
@@ -72,11 +73,11 @@ def page():
     def section(name, *bodies):
         parts.extend([f".SH {name}\n", *bodies])
 
-    section("NAME", "psyn \\- proved synthesis of circuits from parity automata\n")
+    section("NAME", "psyn \\- proved synthesis of circuits from temporal logic and parity automata\n")
     section("SYNOPSIS", ".B psyn\n\\fIcommand\\fR [\\fIflags\\fR] \\fIfile\\fR ..\n")
     section("DESCRIPTION", re.sub(r"(?m)^PP$", ".PP", plain(ABOUT)))
     section("COMMANDS", *(entry(it.usage, it.says + ".") for it in COMMANDS.values() if it.is_of_the_program))
-    section("COMMANDS OF THE TOOL ALONE", *(entry(it.usage, it.says + ".") for it in COMMANDS.values() if not it.is_of_the_program))
+    section("COMMANDS OF THE TOOL", *(entry(it.usage, it.says + ".") for it in COMMANDS.values() if not it.is_of_the_program))
     section("FLAGS", "Flags may stand anywhere; after \\fB\\-\\-\\fR no word is a flag.\n", *(entry(name, f"{says}.") for name, says in flags_told(COMMANDS)))
     section("JSON", plain(JSON), *(entry(name, f"{says}.") for name, says in reporting.FIELDS.items()))
     section("FORMATS", *(entry(name, says) for name, says in FORMATS.items()))

@@ -15,7 +15,7 @@ from upkeep.sweeps import TOP
 GOALS = "goals: 38,000 words, 120 words of comments, 19 to 31 pronouns, 2 sentences that repeat"
 BOUNDS = {
     "words": 38000,
-    "comments": 170,
+    "comments": 120,
     "pronouns": (19, 31),
     "repetitions": 2,
 }

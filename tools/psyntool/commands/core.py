@@ -1,16 +1,19 @@
-"""`core`: if a specification in parts has no controller, the guarantees that conflict; otherwise the assumptions that a
-controller needs."""
+"""`core`: if a specification in parts, or in sentences, has no controller, the guarantees that conflict; otherwise the
+assumptions that a controller needs."""
 from psyntool import console, files, outputs, program, remarks
-from psyntool.command import TO_FILE
+from psyntool.command import TLSF, TO_FILE
 from psyntool.kinds import Kind
 from psyntool.parts import cores, specification
 from psyntool.parts.composing import Composer
+from psyntool.texts import circuit, report
 
 STATUS = {True: 10, False: 20}
 WORD = {True: "REALIZABLE", False: "UNREALIZABLE"}
 
 
 def run(request):
+    if request.has(TLSF):
+        return run_on_sentences(request)
     paths, prefix = [], request.value(TO_FILE)
     if prefix is not None:
         paths = outputs.own(request, [f"{prefix}.hoa"], TO_FILE.shown, prefix)
@@ -24,6 +27,38 @@ def run(request):
     if not request.quiet:
         console.tell(*(remarks.failing(asking.composer, request.passed) if found.has_controller else defeat(found.specification, request.passed)))
     return STATUS[found.has_controller]
+
+
+def run_on_sentences(request):
+    """Runs `core` on a specification in temporal logic. With -o, the sentences that are listed go to PREFIX.tlsf."""
+    from psyntool import specifying
+    from psyntool.tlsf import cores as of_sentences
+    from psyntool.tlsf.tokens import ENCODING
+
+    paths, prefix = [], request.value(TO_FILE)
+    if prefix is not None:
+        paths = outputs.own(request, [f"{prefix}.tlsf"], TO_FILE.shown, prefix)
+    [text] = request.texts()
+    outputs.refuse_read(request, paths)
+    answer, status = specifying.first_answer(request, text)
+    if answer is None:
+        return status
+    asking = of_sentences.Asking(of_sentences.sides_of(text.basic))
+    found = cores.core_of(asking)
+    if paths:
+        outputs.write_all({paths[0]: found.specification.text().encode(ENCODING)})
+    console.write_text("\n".join([WORD[found.has_controller], head(found), *sentences(found.parts), ""]))
+    if not request.quiet and not found.has_controller:
+        answer = asking.answer(found.specification.assumptions, found.specification.guarantees)
+        console.tell(*remarks.words_of(circuit.read(report.read(answer.text).parts[0])))
+    return STATUS[found.has_controller]
+
+
+def sentences(those):
+    """A line for each sentence, with the line of the file on which it begins."""
+    places = [f"line {one.row}" if one.row else one.word.lower() for one in those]
+    width = max(map(len, places), default=0)
+    return [f"  {place:<{width}}  {one.said}" for place, one in zip(places, those)]
 
 
 def defeat(specification, passed):

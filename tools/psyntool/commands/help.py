@@ -12,12 +12,21 @@ Runs psyn on files.
 Is there a controller for this automaton? (With --moore it moves before its inputs.)
   {name} synth arbiter.hoa > answer
 
-The same for a specification in parts, small automata of which some are assumed and some guaranteed; their one automaton:
+The same for sentences in temporal logic, in a file or on the command line:
+  {name} synth -o arbiter arbiter.tlsf
+  {name} synth --formula 'G (r -> F g)' --ins r --outs g
+
+Which of the sentences conflict, or are needed? Do they say what was meant? What does each of them demand during a play?
+  {name} core arbiter.tlsf
+  {name} sane arbiter.tlsf
+  {name} play arbiter arbiter.tlsf
+
+The same for parts, which are small automata, assumed or guaranteed; and the one automaton composed of them:
   {name} synth --outs g0 g1 --assume again.hoa --guarantee never.hoa answered.hoa
   {name} synth --parts arbiter.parts
   {name} compose arbiter.parts > arbiter.hoa
 
-A specification in TLSF's full form, for four clients, written out in its basic form:
+A specification in TLSF's full form, for four clients, as it is written out in the basic form:
   {name} tlsf --set n=4 arbiter.tlsf > arbiter-4.tlsf
 
 Why is there no controller for these parts? Which of their guarantees conflict?
@@ -28,9 +37,9 @@ Why does the environment win? Play against it, by names, or see the play that ho
   {name} play out spec.hoa
   {name} play --auto out spec.hoa
 
-The same by buttons, with pictures, on a page for a browser; of a list of parts by one command:
+The same by buttons, with pictures, on a page for a browser; of sentences, or of a list of parts, by one command:
   {name} page out spec.hoa > page.html
-  {name} page --parts arbiter.parts > page.html
+  {name} page arbiter.tlsf > page.html
 
 The same of any circuit that wins, whoever made it:
   {name} page --circuit mine.aag spec.hoa > page.html
@@ -82,7 +91,7 @@ Does this circuit win? The exit status tells (0, or 3 if it loses):
 The commands of the program:
 {programs}
 
-Of the tool alone:
+Of the tool:
 {tools}
 
 Flags, which stand anywhere (behind `--` no word is one):
@@ -94,7 +103,7 @@ the other verdict, 130 for Ctrl-C.
 What is wrong is explained on standard error: file, line and column, the cause, how to mend it (docs/FAULTS.md). A text whose last
 line is not ended is ended by a newline. Left out are carriage returns at line ends, a byte order mark, a line REALIZABLE above a
 circuit, and an input of it that the automaton does not mention and nothing reads. Standard error says so, and places are those of
-your file. With --quiet the tool becomes the program.
+your file. With --quiet it explains nothing.
 
 The program is $PSYN, or {program}.
 """

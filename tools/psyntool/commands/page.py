@@ -6,9 +6,9 @@ from psyntool import asking, console, files, outputs, program, remarks
 from psyntool.command import CIRCUIT, ENV, FULL, MOORE, PARTS, STRICT
 from psyntool.ends import Refused, Unwritten
 from psyntool.files import Reader
-from psyntool.kinds import Kind
+from psyntool.kinds import Kind, kind_of
 from psyntool.pages import writing
-from psyntool.parts import specification
+from psyntool.parts import specification, translated
 from psyntool.parts.composing import Composer
 from psyntool.plays import opponents, reading
 from psyntool.texts import report
@@ -23,18 +23,22 @@ def run(request):
         return of_parts(request)
     request.refuse_without(STRICT, PARTS)
     if request.has(CIRCUIT):
-        return of_circuit(request)
+        return of_circuit(request, request.value(CIRCUIT), request.words[0] if request.words else "-")
+    prefix, spec = request.words
+    if kind_of(reading.beginning(spec)) is Kind.SPECIFICATION and not os.path.exists(f"{prefix}.pg"):
+        return of_circuit(request, f"{prefix}.aag", spec)  # synth writes no game of a specification
     request.refuse_without(MOORE, PARTS)
     given = reading.given(request)
     tell_what_is_not_drawn(request, len(given.board.automaton.states))
     given = opponents.smaller(judged(given))
-    prefix = os.path.basename(request.words[0])
+    prefix = os.path.basename(prefix)
     texts = texts_of(given, prefix)
     kind = given.specification.looks_like
     name = f"{prefix}.{kind.endings[0]}" if request.words[1] == "-" else os.path.basename(request.words[1])
     texts.append(("specification", name, given.specification.bytes))
-    if kind is Kind.LIST:
-        texts.append(("automaton of its parts", f"{prefix}.hoa", given.automaton.encode("utf-8", "surrogateescape")))
+    if kind in (Kind.LIST, Kind.SPECIFICATION):
+        title = "automaton of its parts" if kind is Kind.LIST else "automaton"
+        texts.append((title, f"{prefix}.hoa", given.automaton.encode("utf-8", "surrogateescape")))
     console.write_text(writing.page(prefix, given.board, texts))
     return 0
 
@@ -52,8 +56,7 @@ def tell_what_is_not_drawn(request, count):
 def of_parts(request):
     """Composes the parts of a list, runs the program on the composed automaton, and prints a page that is made from the
     program's answer. If the answer is a fault or was cut off, prints and explains the answer instead."""
-    composer = Composer(specification.asked(request))
-    text = composer.composed().text()
+    text, composer = wanted(request)
     tell_what_is_not_drawn(request, text.count("\nState: "))
     whole = files.Text(Kind.AUTOMATON, "the automaton of these parts", text.encode("utf-8", "surrogateescape"))
     answer = program.ask(files.joined("synth", [*request.passed, FULL.name], [whole]))
@@ -67,16 +70,26 @@ def of_parts(request):
     given = opponents.smaller(reading.Given(text, texts, whole, reading.board_of(text, *printed)))
     console.write_text(writing.page(name, given.board, [*texts_of(given, name), ("specification", f"{name}.hoa", whole.bytes)]))
     if answer.status == 10 and not request.quiet:
-        console.tell(*remarks.constants(answer), *remarks.failing(composer, request.passed))
+        console.tell(*remarks.constants(answer), *(remarks.failing(composer, request.passed) if composer else ()))
     return 0
 
 
-def of_circuit(request):
-    """The page of a circuit that psyn did not print. The program makes the game of the automaton and its certificate, and
+def wanted(request):
+    """The automaton of a list of parts, with its composer; that of a specification in temporal logic, with a composer if
+    all sentences are parts."""
+    if len(request.words) == 1 and not request.has(STRICT) and kind_of(reading.beginning(request.words[0])) is Kind.SPECIFICATION:
+        reader = Reader(request)
+        return translated.automaton_of(reader, reader.text(Kind.LIST, request.words[0]), request)
+    composer = Composer(specification.asked(request))
+    return composer.composed().text(), composer
+
+
+def of_circuit(request, path, of):
+    """The page of a circuit, in a file, that psyn did not print. The program makes the game of the automaton and its certificate, and
     judges the circuit."""
     reader = Reader(request)
-    spec, made = reader.texts((Kind.FILE, Kind.CIRCUIT), (request.words[0] if request.words else "-", request.value(CIRCUIT)))
-    text = reading.automaton_of(reader, spec, request.command.name)
+    spec, made = reader.texts((Kind.FILE, Kind.CIRCUIT), (of, path))
+    text = reading.automaton_of(reader, spec, request.command.name, request)
     whole = files.Text(Kind.AUTOMATON, spec.name, text.encode("utf-8", "surrogateescape"))
     tell_what_is_not_drawn(request, text.count("\nState: "))
     printed = [made.string]
@@ -88,7 +101,7 @@ def of_circuit(request):
         printed.append(answer.text)
     board = reading.board_of(text, *printed, name=spec.name, known_by="verify")
     refuse_losing(board, whole, made)
-    name = os.path.splitext(os.path.basename(request.value(CIRCUIT)))[0]
+    name = os.path.splitext(os.path.basename(path))[0]
     texts = [(kind.title, name + ending, part.encode("utf-8", "surrogateescape")) for kind, ending, part in zip(reading.KINDS, reading.ENDINGS, printed)]
     texts.append(("specification", f"{name}.hoa", whole.bytes))
     console.write_text(writing.page(name, board, texts))

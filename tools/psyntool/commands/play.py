@@ -17,6 +17,11 @@ def run(request):
     if request.has(JSON) and not request.has(AUTO):
         raise Refused(f"{request.command.name} {JSON.name} wants {AUTO.shown}, since nobody would see what can be chosen")
     prefix = request.words[0]
+    text = reading.specification(request)
+    if text is not None:
+        from psyntool.tlsf import playing
+
+        return playing.run(request, text)
     given = opponents.known(reading.given(request))
     play = Play(given.board, given.printed[0].bytes)
     paths = outputs.own(request, [f"{prefix}.stim"], "play", prefix)

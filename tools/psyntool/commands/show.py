@@ -20,8 +20,19 @@ def parts_of(text):
     return list(zip(kinds, parts))[-2:]
 
 
+def composed(request, text):
+    """The automaton of a list of parts or of a specification in temporal logic; another text stays as it is."""
+    if text.kind not in (Kind.LIST, Kind.SPECIFICATION):
+        return text
+    from psyntool.files import Reader, Text
+    from psyntool.plays import reading
+
+    made = reading.automaton_of(Reader(request), text, request.command.name)
+    return Text(Kind.AUTOMATON, text.name, made.encode("utf-8", "surrogateescape"))
+
+
 def run(request):
-    texts = request.texts()
+    texts = [composed(request, text) for text in request.texts()]
     parts = [part for text in texts for part in parts_of(text)]
     strange = next((text for text in texts if text.kind is Kind.FILE or text.kind not in READERS and text.kind is not Kind.ANSWER), None)
     if strange:

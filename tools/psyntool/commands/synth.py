@@ -8,21 +8,50 @@ from psyntool.kinds import Kind
 from psyntool.texts import Unreadable, report
 
 ENDINGS = (".aag", ".pg", ".cert")
+NOT_TRANSLATED = b"fault 75 "
+# Stands in place of the first newline of an automaton that `translate` printed, when it goes to a file.
+TRANSLATED = b'\ntool: "psyn translate"\n'
 
 
 def run(request):
     request.refuse_without(PICTURE, BY)
     request.refuse_without(KEEP, BY)
-    if any(request.has(flag) for flag in (PARTS, *OF_PARTS)):
+    if any(request.has(flag) for flag in (PARTS, *OF_PARTS)) and not request.has_sentences:
         return run_on_parts(request)
-    # of a specification in temporal logic, the circuit alone is printed
-    endings = ENDINGS[:1] if request.has(TLSF) else ENDINGS
-    paths = paths_of(request, endings) if request.has(TO_FILES) else []
+    if request.has(TLSF):
+        return run_on_specification(request)
+    paths = paths_of(request, ENDINGS) if request.has(TO_FILES) else []
     if not paths and not request.has(BY):
         return hand_on(request, request.texts())
     solving, texts = Solving(request) if request.has(BY) else None, request.texts()
     outputs.refuse_read(request, paths)
     return solving.run(texts, paths, {}) if solving else to_files(request, texts, paths, {})
+
+
+def run_on_specification(request):
+    """Runs `synth` on a specification in temporal logic, of which the circuit alone is printed. With -o, the circuit, the
+    game and the certificate are those of the automaton that `translate` prints, which goes to a file too, and so do
+    sentences of the command line; where no automaton is found, only the circuit is written."""
+    from psyntool.texts import specification
+
+    if not request.has(TO_FILES):
+        return hand_on(request, request.texts())
+    paths = paths_of(request, (*ENDINGS, ".hoa", ".tlsf")[: 4 + request.has_sentences])
+    texts = request.texts()
+    outputs.refuse_read(request, paths)
+    others = {path: texts[0].bytes for path in paths[4:]}
+    answer = program.ask(files.joined("translate", [], texts))
+    if answer.bytes.startswith(NOT_TRANSLATED):
+        status = to_files(request, texts, paths[:1], others)
+        if status != FAULT:
+            console.tell(f"no automaton is printed (fault 75 of translate), so of the circuit's files only {paths[0]} is written")
+        return status
+    if not asking.is_had(answer):
+        return asking.hand_on(request, texts, answer)
+    made = answer.bytes.replace(b"\n", TRANSLATED, 1)
+    whole = files.Text(Kind.AUTOMATON, "the automaton of this specification", made)
+    flags = [MOORE.name] if specification.is_moore(texts[0].string) else []
+    return to_files(request, [whole], paths[:3], {paths[3]: made, **others}, flags, texts[0])
 
 
 def run_on_parts(request):
@@ -58,31 +87,39 @@ def hand_on(request, texts, flags=None):
     given = files.joined("synth", request.passed if flags is None else flags, texts)
     if asking.may_become(request) and flags is None and not request.has(SMALL):
         program.become(given)
-    answer = smaller(request, texts, program.ask(given))
+    answer = smaller(request, texts[0], program.ask(given), request.passed)
     status = asking.hand_on(request, texts, answer)
-    remark(request, texts, answer)
+    remark(request, texts[0], answer)
     return status
 
 
-def smaller(request, texts, answer):
+def smaller(request, text, answer, passed):
     """The answer with a smaller circuit if the request asks for it."""
     if not request.has(SMALL):
         return answer
     from psyntool import shrinking
 
-    return shrinking.in_answer(request, texts[0], answer)
+    if text.kind is Kind.SPECIFICATION:
+        return shrinking.by_sentences(request, text, answer)
+    return shrinking.in_answer(request, text, answer, passed)
 
 
-def remark(request, texts, answer):
+def remark(request, text, answer):
     """Names outputs of a controller that never change, and inputs that a smaller one does not need; of parts, tells what
-    an environment does."""
+    an environment does, and of sentences, which names look like slips."""
     if request.quiet or not asking.is_had(answer):
         return
     from psyntool import remarks
 
-    is_of_parts = any(request.has(flag) for flag in (PARTS, *OF_PARTS))
+    is_of_parts = any(request.has(flag) for flag in (PARTS, *OF_PARTS)) and not request.has(TLSF)
     console.tell(*remarks.constants(answer), *(remarks.unread(answer) if request.has(SMALL) else []))
-    console.tell(*(remarks.defeat(texts[0], answer, request.passed) if is_of_parts else []))
+    console.tell(*(remarks.defeat(text, answer, request.passed) if is_of_parts else []))
+    if request.has(TLSF):
+        from psyntool import specifying
+        from psyntool.tlsf import sanity
+
+        basic = specifying.basic_of(text)
+        console.tell(*(sanity.Sanity(basic).of_names() if basic else []))
 
 
 class Solving:
@@ -120,18 +157,19 @@ def paths_of(request, endings):
     return outputs.own(request, [prefix + ending for ending in endings], TO_FILES.shown, prefix)
 
 
-def to_files(request, texts, paths, others, passed=()):
+def to_files(request, texts, paths, others, passed=None, spec=None):
     """Writes the circuit, the game, the certificate and other given texts to files, and then prints the first line of
-    the answer."""
-    full = [] if request.has(TLSF) else [FULL.name]
-    flags = list(dict.fromkeys([*(passed or request.passed), *full]))
-    answer = smaller(request, texts, program.ask(files.joined("synth", flags, texts)))
+    the answer. The automaton may be that of a specification, which is then given too."""
+    passed = request.passed if passed is None else passed
+    full = [FULL.name] if len(paths) == len(ENDINGS) else []
+    answer = program.ask(files.joined("synth", list(dict.fromkeys([*passed, *full])), texts))
+    answer = smaller(request, texts[0], answer, passed)
     if answer.is_fault:
         return asking.hand_on(request, texts, answer)
     if answer.died:
         return asking.told(request, texts, answer)
     status = stored(answer, paths, others)
-    remark(request, texts, answer)
+    remark(request, spec or texts[0], answer)
     return status
 
 

@@ -4,7 +4,7 @@ it loses, and the run on this stimulus step by step."""
 import os
 
 from psyntool import asking, console, files, outputs, program
-from psyntool.command import STIMULUS, WAVE
+from psyntool.command import ENV, STIMULUS, WAVE
 from psyntool.ends import Refused
 from psyntool.kinds import Kind
 
@@ -42,7 +42,7 @@ def hand_on(request, texts, answer):
     made = {STIMULUS: lambda: given.bytes, WAVE: lambda: wave_of(texts[1], read)}
     outputs.write_all({request.value(flag): made[flag]() for flag in (STIMULUS, WAVE) if request.has(flag)})
     if not request.quiet:
-        console.tell(*tracing.trace([*texts, given], len(read.stem), len(read.lap), is_stopped=True).splitlines())
+        console.tell(*tracing.trace([*texts, given], len(read.stem), len(read.lap), is_stopped=True, flags=[flag for flag in request.passed if flag == ENV.name]).splitlines())
     return status
 
 

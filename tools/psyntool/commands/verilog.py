@@ -3,12 +3,13 @@ each output has the sentences that mention it."""
 import os
 
 from psyntool import asking, console, files, program, unmentioned
-from psyntool.command import ENV, wrong_kinds
+from psyntool.command import ENV, MOORE, TLSF, wrong_kinds
 from psyntool.ends import FAULT, Refused
 from psyntool.files import Reader, Text
 from psyntool.kinds import Kind
 from psyntool.parts import specification
 from psyntool.parts.composing import Composer
+from psyntool.specifying import WRITTEN_OUT
 from psyntool.texts import Unreadable, automaton, circuit, verilog
 
 WINS = b"wins\n"
@@ -47,7 +48,7 @@ class Given:
             raise Refused(wrong)
         for path in request.words[1:]:
             self.specification = reader.text(Kind.FILE, path)
-            self.automaton = automaton_of(self.specification, reader, request)
+            self.automaton = specification_of(self.specification, reader, request)
             unmentioned.drop([self.automaton, self.circuit])
             reader.tell(self.circuit)
 
@@ -59,31 +60,52 @@ class Given:
     def question(self):
         """What the program is asked: whether the circuit wins or, without a specification, only whether it is one."""
         if self.automaton:
-            return files.joined("verify", self.request.passed, self.texts)
+            flags = [TLSF.name] if self.automaton.kind is Kind.SPECIFICATION else []
+            return files.joined("verify", [*flags, *self.request.passed], self.texts)
         return files.joined("sim", [], [self.circuit, Text(Kind.STIMULUS, "no stimulus", b"")])
 
     def judgement(self):
-        return [f"psyn verify says that this circuit wins, by {os.path.basename(self.specification.name)}."] if self.automaton else []
+        if not self.automaton:
+            return []
+        return [f"psyn verify says that this circuit wins, by {os.path.basename(self.specification.name).removesuffix(WRITTEN_OUT)}."]
 
     def sentences(self):
         """For each proposition that a sentence mentions, these sentences, as lines: of a controller the guarantees, and
         of an environment the assumptions."""
-        kept = specification.kept(automaton.read(self.automaton.string)) if self.automaton else None
-        parts = () if kept is None else kept.assumptions if self.request.has(ENV) else kept.guarantees
         found = {}
-        for part in parts:
-            for name in part.names:
+        for said, names in self.said():
+            for name in names:
                 lines = found.setdefault(name, [])
-                lines += [line for line in [f"- {part.sentence or part.title}"] if line not in lines]
+                lines += [line for line in [f"- {said}"] if line not in lines]
         return found
 
+    def said(self):
+        """The sentences of the circuit's player, each with the propositions that it mentions."""
+        if not self.automaton:
+            return []
+        if self.automaton.kind is Kind.SPECIFICATION:
+            from psyntool import specifying
+            from psyntool.tlsf import keeping
 
-def automaton_of(text, reader, request):
-    """The automaton of a specification, which is an automaton or a list of parts."""
+            basic = specifying.basic_of(self.automaton)
+            words = keeping.ASSUMED if self.request.has(ENV) else keeping.GUARANTEED
+            return [(one.said, one.names) for one in (basic.sentences if basic else ()) if one.word in words]
+        kept = specification.kept(automaton.read(self.automaton.string))
+        parts = () if kept is None else kept.assumptions if self.request.has(ENV) else kept.guarantees
+        return [(part.sentence or part.title, part.names) for part in parts]
+
+
+def specification_of(text, reader, request):
+    """The text by which the circuit is judged: an automaton, that of a list of parts, or a specification in temporal
+    logic."""
+    if text.looks_like is Kind.SPECIFICATION:
+        if request.has(MOORE):
+            raise Refused(f"{text.name} says itself who moves first, without {MOORE.name}")
+        return reader.specification(text)
     if text.looks_like is Kind.LIST:
         made = Composer(specification.of_list(text, reader, request)).composed().text()
         return Text(Kind.AUTOMATON, text.name, made.encode("utf-8", "surrogateescape"))
     if text.looks_like is not Kind.AUTOMATON:
         what = text.looks_like.with_article if text.looks_like else "no automaton" if text.bytes.strip() else "empty"
-        raise Refused(f"{text.name} is {what}; SPEC is an automaton or a list of parts")
+        raise Refused(f"{text.name} is {what}; SPEC is an automaton, a list of parts or a specification in temporal logic")
     return text

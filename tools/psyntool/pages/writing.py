@@ -14,6 +14,7 @@ from psyntool.pages.clauses import CLAUSES, OF_ANOTHER, SENTENCES
 MOST_BYTES = 33_554_432
 # A small picture that is wider than so many points has a row of its own.
 WIDTH, WIDE = 450, ' class="whole"'
+SIDES = {"assume": "assumed", "guarantee": "guaranteed"}
 WORDS = ("REALIZABLE", "UNREALIZABLE")
 VERDICTS = (
     "there is a controller, and this circuit is one.",
@@ -98,12 +99,13 @@ def specification_of(board):
         return f"<p>The automaton's acceptance: <code>{escaped(board.automaton.acceptance)}</code>.</p>"
     rows = [(side, part) for side, parts in (("assumed", of.assumptions), ("guaranteed", of.guarantees)) for part in parts]
     items = "\n".join(f"<li>{side}: {escaped(part.sentence)} <code>{escaped(part.title)}</code></li>" for side, part in rows)
-    return f"<details open><summary>What is wanted, in {len(rows)} parts</summary>\n<ul>\n{items}\n</ul></details>"
+    items += "".join(f"\n<li>{SIDES[side]}, but no part by itself: <code>{escaped(said)}</code></li>" for side, said in of.others)
+    return f"<details open><summary>What is wanted, in {len(rows) + len(of.others)} parts</summary>\n<ul>\n{items}\n</ul></details>"
 
 
 def parts_of(board):
     """The parts of a specification with their small pictures, as a section of the page; empty without parts."""
-    if board.specification is None:
+    if board.specification is None or not board.assumed and not board.guaranteed:
         return ""
     rows = [(side, part) for side, parts in (("assumed", board.specification.assumptions), ("guaranteed", board.specification.guarantees)) for part in parts]
     items = [

@@ -13,6 +13,8 @@ from psyntool.texts import Unreadable, automaton, hoa, labels
 from psyntool.texts.labels import Proposition
 
 SAFETY, BUCHI = True, ("Inf", 0)
+# The name of a state behind which a sentence demands no more than at first.
+NOTHING_OWED = "nothing owed"
 # Stands before the new name of a proposition that is negated.
 NOT = "!"
 

@@ -6,9 +6,9 @@ import shlex
 from dataclasses import dataclass, field
 
 from psyntool import console, faults, marking, program, words
-from psyntool.command import AS, ASSUME, GUARANTEE, MOORE, OF_PARTS, OUTS, STRICT
+from psyntool.command import AS, ASSUME, GUARANTEE, MOORE, OF_PARTS, OF_SENTENCES, OUTS, STRICT, is_sentence
 from psyntool.ends import Refused
-from psyntool.files import Reader
+from psyntool.files import Reader, Text
 from psyntool.kinds import Kind
 from psyntool.parts import part, slips
 from psyntool.parts.part import NotComposed
@@ -33,13 +33,15 @@ TOLD_BETTER = {"Nondeterministic", "NonParity"}
 
 @dataclass(frozen=True)
 class Specification:
-    """A specification: its assumptions and guarantees, all propositions in order, and the controller's propositions."""
+    """A specification: its assumptions and guarantees, all propositions in order, and the controller's propositions; and,
+    of a translated one, the sentences that are no parts, each with its side."""
 
     assumptions: tuple
     guarantees: tuple
     names: tuple
     mine: frozenset
     is_strict: bool
+    others: tuple = ()
 
     def having(self, assumptions=None, guarantees=None):
         """The specification with only the given parts, but with all its propositions."""
@@ -53,13 +55,17 @@ class Specification:
 @dataclass
 class Wish:
     """A part that the user asks for: whether it is assumed, its file, its sentence, the line of the list that names it
-    (as the beginning of a message), and the new names of its propositions."""
+    (as the beginning of a message), and the new names of its propositions. A part that is a sentence in temporal logic
+    has the sentence in the place of a file."""
 
     is_assumed: bool
     path: str
     sentence: str = ""
     place: str = ""
     renamed: dict = field(default_factory=dict)
+    is_spoken: bool = False
+    # the part, if it is known already
+    made: part.Part | None = None
 
 
 class Wishes:
@@ -67,6 +73,8 @@ class Wishes:
 
     def __init__(self):
         self.parts, self.outs, self.is_strict, self.is_moore = [], None, False, False
+        # of a specification in temporal logic all names that it declares
+        self.names = ()
 
     def take(self, given, words_listed=()):
         """Adds the parts and settings that the flags of a command line ask for, or those of a list with these words."""
@@ -81,7 +89,10 @@ class Wishes:
                 refused_behind(of.place, self.rename, word, count)
             else:
                 path = word if word == "-" else os.path.join(of.folder, word)
-                self.parts.append(Wish(name == ASSUME.name, path, of.sentence, of.place))
+                is_spoken = is_sentence(word, of.folder)
+                if re.fullmatch(r"[A-Za-z_]\w*", word) and not os.path.exists(path):
+                    refused_behind(of.place, refuse_name, word)
+                self.parts.append(Wish(name == ASSUME.name, word if is_spoken else path, of.sentence, of.place, is_spoken=is_spoken))
 
     def rename(self, word, count):
         """Renames a proposition of the last part, which must come from the same command line or list."""
@@ -143,6 +154,10 @@ def refuse_other_words(name, said):
             raise Refused(f"{word.place}: a list has no flag {flag}{words.nearest(flag, FLAGS)}; it has {', '.join(FLAGS)}")
 
 
+def refuse_name(word):
+    raise Refused(f"there is no file {word}; a sentence that is one name stands in parentheses, '({word})'")
+
+
 def refused_behind(name, function, *values):
     """The result of a function; if the function refuses something, the name, which says where, is put before the
     message."""
@@ -156,8 +171,14 @@ def asked(request):
     """The specification that a command line asks for. If a list says that the controller moves first, the request has
     the flag that says so."""
     reader, wishes = Reader(request), Wishes()
+    for flag in OF_SENTENCES:
+        if request.has(flag):
+            raise Refused(f"{request.command.name} {flag.name} stands beside no parts: {GUARANTEE.name} takes a sentence, too, and {OUTS.name} says whose the names are")
     paths = list(request.words)
     for text in reader.texts([Kind.LIST] * len(paths), paths):
+        if text.looks_like is Kind.SPECIFICATION:
+            take_specification(text, reader, wishes)
+            continue
         if text.looks_like not in (None, Kind.LIST):
             raise Refused(f"{text.name} is {text.looks_like.with_article}; {request.command.name} reads a list of parts")
         listed(text, wishes)
@@ -170,11 +191,41 @@ def asked(request):
     return made(wishes, reader)
 
 
-def of_list(text, reader, request=None):
-    """The specification that a list defines. If the list says that the controller moves first, a given request has the
-    flag that says so."""
+def take_specification(text, reader, wishes):
+    """Adds the parts that the sentences of a specification in temporal logic are."""
+    from psyntool import specifying
+
+    name = text.name
+    refused_behind(name, take_sentences, specifying.read(reader.specification(text)), wishes)
+
+
+def take_sentences(basic, wishes):
+    from psyntool.parts import spoken
+
+    for is_assumed, made in spoken.parts_of(basic):
+        wishes.parts.append(Wish(is_assumed, made.title, made=made))
+    wishes.outs, wishes.names = [*(wishes.outs or []), *basic.outputs], (*wishes.names, *basic.inputs, *basic.outputs)
+    wishes.is_moore = wishes.is_moore or basic.is_moore
+
+
+def automaton_of_sentences(basic):
+    """The text of the automaton that is composed of the parts that the sentences of a specification are."""
+    from psyntool.parts.composing import Composer
+
     wishes = Wishes()
-    listed(text, wishes)
+    take_sentences(basic, wishes)
+    composed = Composer(of_wishes(wishes, [it.made for it in wishes.parts])).composed().text()
+    return Text(Kind.AUTOMATON, "the automaton of these sentences", composed.encode("utf-8", "surrogateescape"))
+
+
+def of_list(text, reader, request=None):
+    """The specification that a list defines, or one in temporal logic. If the list says that the controller moves first, a
+    given request has the flag that says so."""
+    wishes = Wishes()
+    if text.looks_like is Kind.SPECIFICATION:
+        take_specification(text, reader, wishes)
+    else:
+        listed(text, wishes)
     if request:
         pass_on_order(wishes, request)
     return made(wishes, reader)
@@ -189,12 +240,17 @@ def made(wishes, reader):
     """The specification with the parts and settings that were asked for."""
     read = {}
     parts = [part_of(wish, reader, read) for wish in wishes.parts]
+    if not reader.settings.quiet:
+        console.tell(*slips.told(parts, wishes.outs or ()))
+    return of_wishes(wishes, parts)
+
+
+def of_wishes(wishes, parts):
+    """The specification with the given parts, and the settings that were asked for."""
     sides = [tuple(it for it, wish in zip(parts, wishes.parts) if wish.is_assumed == is_assumed) for is_assumed in (True, False)]
     for side in sides:
         refuse_same_titles(side)
-    if not reader.settings.quiet:
-        console.tell(*slips.told(parts, wishes.outs or ()))
-    names = tuple(dict.fromkeys(name for it in parts for name in it.names))
+    names = tuple(dict.fromkeys([*wishes.names, *(name for it in parts for name in it.names)]))
     if len(names) > MOST_PROPOSITIONS:
         raise Refused(f"the parts have {len(names)} propositions, and psyn reads at most {MOST_PROPOSITIONS}")
     return Specification(*sides, names, owned(parts, names, wishes.outs), wishes.is_strict)
@@ -208,7 +264,11 @@ def refuse_same_titles(parts):
 
 
 def part_of(wish, reader, read):
-    """The part that was asked for; if its text is not a part, the error message names the file."""
+    """The part that was asked for; if its text is not a part, the error message names the file, or the sentence."""
+    if wish.made:
+        return wish.made
+    if wish.is_spoken:
+        return refused_behind(": ".join(filter(None, [wish.place, repr(wish.path)])), part_of_sentence, wish)
     if wish.path not in read:
         read[wish.path] = reader.text(Kind.AUTOMATON, wish.path)
         refuse_faults(read[wish.path])
@@ -216,6 +276,15 @@ def part_of(wish, reader, read):
     stem = re.sub(r"\.hoa$", "", os.path.basename(text.name))
     place = ": ".join(filter(None, [wish.place, text.name]))
     return refused_behind(place, part.part_of, stem, wish.sentence, wish.renamed, text.string)
+
+
+def part_of_sentence(wish):
+    from psyntool.parts import spoken
+
+    if wish.renamed:
+        raise Refused(f"{AS.name} renames propositions of files; write the sentence with the names that are wanted")
+    formula, names = spoken.read(wish.path)
+    return spoken.part_of(wish.path, wish.sentence, formula, names)
 
 
 def refuse_faults(text):
@@ -269,9 +338,9 @@ def owned(parts, names, outs):
 
 
 def kept(read):
-    """The specification that a composed automaton stores, or None if it stores none."""
-    tokens = read.headers.get("part:")
-    if not tokens:
+    """The specification that a composed automaton, or a translated one, stores, or None if it stores none."""
+    tokens, others = (read.headers.get(item, []) for item in ("part:", "sentence:"))
+    if not tokens and not others:
         return None
     said = [hoa.unquoted(token) for token in tokens]
     if len(said) % WORDS_OF_AN_ITEM or any(side not in ("assume", "guarantee") for side in said[::WORDS_OF_AN_ITEM]):
@@ -282,4 +351,5 @@ def kept(read):
         sides[side].append(part.from_item(title, sentence, text, read.names))
     mine = frozenset(read.names[number] for number in read.controllable)
     is_strict = read.headers.get("reading:") == ["strict"]
-    return Specification(tuple(sides["assume"]), tuple(sides["guarantee"]), read.names, mine, is_strict)
+    words = [hoa.unquoted(token) for token in others]
+    return Specification(tuple(sides["assume"]), tuple(sides["guarantee"]), read.names, mine, is_strict, tuple(zip(words[::2], words[1::2])))

@@ -1,11 +1,13 @@
 """Reads the files of an interactive play (`tools/psyn play`): PREFIX.aag, PREFIX.pg and PREFIX.cert, which psyn
 printed, and the specification."""
+import os
 from dataclasses import dataclass
 
+from psyntool import program
 from psyntool.ends import Refused
-from psyntool.files import Reader, Text
-from psyntool.kinds import Kind
-from psyntool.parts import specification
+from psyntool.files import Reader, Text, joined
+from psyntool.kinds import BEGINNING, Kind, kind_of
+from psyntool.parts import specification as specifications
 from psyntool.parts.composing import Composer
 from psyntool.plays.board import Board
 from psyntool.texts import Unreadable, automaton, certificate, circuit, game
@@ -30,8 +32,23 @@ def given(request):
     prefix, path = request.words
     reader = Reader(request)
     *printed, spec = reader.texts((*KINDS, Kind.FILE), (*(prefix + ending for ending in ENDINGS), path))
-    text = automaton_of(reader, spec, request.command.name)
+    text = written_beside(reader, spec, f"{prefix}.hoa") or automaton_of(reader, spec, request.command.name)
     return Given(text, tuple(printed), spec, board_of(text, *(it.string for it in printed), name=spec.name))
+
+
+def specification(request):
+    """The text of SPEC if it is a specification in temporal logic, else None."""
+    path = request.words[1]
+    return Reader(request).text(Kind.SPECIFICATION, path) if kind_of(beginning(path)) is Kind.SPECIFICATION else None
+
+
+def beginning(path):
+    """The first bytes of a file; none of standard input, or of a file that can't be read."""
+    try:
+        with open(path, "rb") as file:
+            return file.read(BEGINNING) if path != "-" else b""
+    except OSError:
+        return b""
 
 
 def board_of(text, *printed, name="", known_by="synth"):
@@ -41,15 +58,35 @@ def board_of(text, *printed, name="", known_by="synth"):
     read = automaton.read(text)
     these = game.read(printed[1]), certificate.read(printed[2]), circuit.read(printed[0])
     try:
-        return Board(read, *these, specification.kept(read), known_by)
-    except specification.NotComposed as error:
+        return Board(read, *these, specifications.kept(read), known_by)
+    except specifications.NotComposed as error:
         raise Unreadable(f"{name}: {error}") from None
 
 
-def automaton_of(reader, text, command):
-    """The automaton's text; for a list of parts, the text of the automaton that is composed of them."""
+def written_beside(reader, spec, path):
+    """The text of the automaton in a file, with the sentences, if there is a specification in temporal logic, and `agree`
+    finds that the automaton accepts exactly the words that satisfy it; else None."""
+    if spec.looks_like is not Kind.SPECIFICATION or not os.path.exists(path):
+        return None
+    from psyntool import specifying
+    from psyntool.parts import translated
+
+    texts = [reader.specification(spec), reader.text(Kind.AUTOMATON, path)]
+    if program.ask(joined("agree", [], texts)).bytes != b"agrees\n":
+        return None
+    return translated.with_sentences(texts[1].string, specifying.read(texts[0]))
+
+
+def automaton_of(reader, text, command, request=None):
+    """The automaton's text; for a list of parts or sentences, the text of the automaton that is composed of them, or of
+    psyn's own automaton for sentences that can't all be parts. If these say that the controller moves first, a given
+    request has the flag that says so."""
+    if text.looks_like is Kind.SPECIFICATION:
+        from psyntool.parts import translated
+
+        return translated.automaton_of(reader, text, request)[0]
     if text.looks_like is Kind.LIST:
-        return Composer(specification.of_list(text, reader)).composed().text()
+        return Composer(specifications.of_list(text, reader, request)).composed().text()
     if text.looks_like is not Kind.AUTOMATON:
         what = text.looks_like.with_article if text.looks_like else "no automaton" if text.bytes.strip() else "empty"
         raise Refused(f"{text.name} is {what}; {command} wants PREFIX and a specification")

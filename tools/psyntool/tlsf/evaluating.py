@@ -259,7 +259,12 @@ class Evaluator:
         parts = [self.as_formula(*one) for one in (left, right)]
         if sign == "->":
             return self.formulas.implication(at, *parts)
-        return self.formulas.equivalence(at, *parts) if sign == "<->" else self.formulas.of(at, sign, tuple(parts))
+        if sign in ("<->", "xor"):
+            same = self.formulas.equivalence(at, *parts)
+            return same if sign == "<->" else self.formulas.negation(at, same)
+        if sign == "M":
+            return self.formulas.of(at, "U", (parts[1], self.formulas.joined(at, "&&", parts)))
+        return self.formulas.of(at, sign, tuple(parts))
 
     def wanted(self, at: int, sign: str, operand: tuple, kind: str):
         """An operand's value, which must be a number or a set."""

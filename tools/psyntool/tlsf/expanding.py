@@ -3,10 +3,10 @@ import bisect
 import contextlib
 import re
 import sys
-from dataclasses import dataclass
+from dataclasses import dataclass, replace
 
 from psyntool.tlsf.definitions import Definitions
-from psyntool.tlsf.formulas import MOST_BYTES, MOST_OPERATORS, Formula, sentences_of, text_of
+from psyntool.tlsf.formulas import MOST_BYTES, MOST_OPERATORS, Formula, names_in, sentences_of, text_of
 from psyntool.tlsf.reading import read
 from psyntool.tlsf.syntax import Specification
 from psyntool.tlsf.tokens import Wrong
@@ -17,6 +17,8 @@ SIGN = "// written by psyn tlsf"
 WORDS = ("INITIALLY", "PRESET", "REQUIRE", "ASSERT", "ASSUME", "GUARANTEE")
 # The sections for the values that a bus of an enumeration has: of an input, and of an output.
 OF_INPUTS, OF_OUTPUTS = "REQUIRE", "ASSERT"
+# A formula of more bytes, or with a comment in it, is shown in the basic form.
+MOST_SHOWN = 200
 # Python's own limit on calls within each other: each level of an expression takes a few.
 MOST_FRAMES = 40_000
 
@@ -27,16 +29,75 @@ class Unset(Exception):
 
 @dataclass(frozen=True)
 class Sentence:
-    """A formula of a section with the offset of the formula in the text for which it is written."""
+    """A sentence: the word of its section, its formula in the basic form, the line of the text on which the formula begins
+    for which it is written (0 if there is none), and that formula as the text has it, if no other sentence is written for
+    it."""
 
-    at: int
+    word: str
     formula: object
+    row: int
+    source: str = ""
+
+    @property
+    def said(self) -> str:
+        """The sentence as it is shown."""
+        return self.source or text_of(self.formula)
+
+    @property
+    def names(self) -> list:
+        """The names of the signals that the sentence mentions, in order."""
+        return names_in(self.formula)
+
+
+@dataclass(frozen=True)
+class Basic:
+    """A specification in the basic form: the lines of its head, the names of its inputs and outputs, whether its semantics
+    are strict, whether the outputs move first, and the sentences in the order of their sections."""
+
+    head: tuple
+    inputs: tuple
+    outputs: tuple
+    is_strict: bool
+    is_moore: bool
+    sentences: tuple
+
+    def of(self, word: str) -> list:
+        """The sentences of a section."""
+        return [one for one in self.sentences if one.word == word]
+
+    def having(self, sentences) -> "Basic":
+        """The specification with these sentences alone."""
+        return replace(self, sentences=tuple(sentences))
+
+    def text(self) -> str:
+        """The text of the basic form."""
+        parts = [*self.head, "MAIN {\n", *signals("INPUTS", self.inputs), *signals("OUTPUTS", self.outputs)]
+        for word in WORDS:
+            those = self.of(word)
+            if those:
+                parts += [f"  {word} {{\n", *lines(those), "  }\n"]
+        return "".join([*parts, "}\n"])
 
 
 def expanded(text: str, settings: dict) -> str:
     """The basic form of a text, with the given values of parameters."""
+    return basic(text, settings).text()
+
+
+def basic(text: str, settings: dict) -> Basic:
+    """The specification that a text describes, in the basic form, with the given values of parameters."""
     with deep_calls():
-        return written(text, settings)
+        return of_specification(read(text), text, settings)
+
+
+def of_specification(specification: Specification, text: str, settings: dict) -> Basic:
+    """The basic form of a parsed text."""
+    with deep_calls():
+        made = written(specification, text, settings)
+        length = len(made.text())
+    if length > MOST_BYTES:
+        raise Wrong(0, f"written out, this specification has {length:,} bytes, and psyn reads at most {MOST_BYTES:,}")
+    return made
 
 
 @contextlib.contextmanager
@@ -50,21 +111,13 @@ def deep_calls():
         sys.setrecursionlimit(before)
 
 
-def written(text: str, settings: dict) -> str:
-    specification = read(text)
+def written(specification: Specification, text: str, settings: dict) -> Basic:
     refuse_unknown(specification, settings)
     definitions = Definitions(specification, settings)
-    sections = sections_of(specification, definitions)
-    parts = [f"{SIGN}\n", *(f"// {name} = {definitions.declared(made.at, name)}\n" for made in specification.parameters for name in [made.name])]
-    parts += [*info(specification), "MAIN {\n", *signals("INPUTS", definitions.inputs), *signals("OUTPUTS", definitions.outputs)]
-    for word in WORDS:
-        if sections[word]:
-            parts += [f"  {word} {{\n", *lines(text, sections[word]), "  }\n"]
-    parts.append("}\n")
-    length = sum(map(len, parts))
-    if length > MOST_BYTES:
-        raise Wrong(0, f"written out, this specification has {length:,} bytes, and psyn reads at most {MOST_BYTES:,}")
-    return "".join(parts)
+    head = [f"{SIGN}\n", *(f"// {name} = {definitions.declared(made.at, name)}\n" for made in specification.parameters for name in [made.name])]
+    names = [tuple(name for value in those for name in names_of(value)) for those in (definitions.inputs, definitions.outputs)]
+    order = specification.is_strict, specification.target == "Moore"
+    return Basic((*head, *info(specification)), *names, *order, tuple(sentences(text, specification, definitions)))
 
 
 def refuse_unknown(specification: Specification, settings: dict):
@@ -74,30 +127,39 @@ def refuse_unknown(specification: Specification, settings: dict):
             raise Unset(f"there is no parameter {name}{nearest(name, names)}; " + (f"the specification has {', '.join(names)}" if names else "the specification has none"))
 
 
-def sections_of(specification: Specification, definitions: Definitions) -> dict:
-    """The sentences of each section. A conjunction is written as several of them."""
-    found, size, length = {word: [] for word in WORDS}, 0, 0
-    for at, word, formula in formulas_of(specification, definitions):
+def sentences(text: str, specification: Specification, definitions: Definitions) -> list:
+    """The sentences. A conjunction is written as several of them."""
+    found, size, length = [], 0, 0
+    starts = [0, *(at.end() for at in re.finditer("\n", text))]
+    for at, stop, word, formula in formulas_of(specification, definitions):
         size += formula.size if isinstance(formula, Formula) else 1
         length += formula.length if isinstance(formula, Formula) else len("false")
         if size > MOST_OPERATORS:
             raise Wrong(at, f"written out, the specification has more than {MOST_OPERATORS:,} operators and operands up to here, the most that psyn reads")
         if length > MOST_BYTES:
             raise Wrong(at, f"written out, the specification has more than {MOST_BYTES:,} bytes up to here, the most that psyn reads")
-        found[word] += [Sentence(at, one) for one in sentences_of(formula)]
+        parts, row = sentences_of(formula), bisect.bisect_right(starts, at)
+        source = shown(text[at:stop]) if len(parts) == 1 else ""
+        found += [Sentence(word, one, row, source) for one in parts]
     return found
 
 
+def shown(source: str) -> str:
+    """A formula of the text on one line, as it is shown; empty if it is long or has a comment."""
+    return "" if len(source) > MOST_SHOWN or "//" in source or "/*" in source else " ".join(source.split())
+
+
 def formulas_of(specification: Specification, definitions: Definitions):
-    """The formula of each sentence with its offset and its section: first that buses have values of their enumerations."""
+    """The formula of each sentence with its offset, the offset behind it, and its section: first that buses have values of
+    their enumerations."""
     for word, declared, those in ((OF_INPUTS, specification.inputs, definitions.inputs), (OF_OUTPUTS, specification.outputs, definitions.outputs)):
         for signal, bus in zip(declared, those):
             if isinstance(bus, Bus) and bus.enumeration:
                 formula = definitions.in_enumeration(signal.at, bus)
-                yield from [(signal.at, word, formula)] if formula is not True else []
+                yield from [(signal.at, signal.at, word, formula)] if formula is not True else []
     for section in specification.sections:
-        for at, expression in section.formulas:
-            yield at, section.word, definitions.evaluator.formula(expression, {})
+        for at, stop, expression in section.formulas:
+            yield at, stop, section.word, definitions.evaluator.formula(expression, {})
 
 
 def info(specification: Specification):
@@ -113,21 +175,21 @@ def info(specification: Specification):
     yield "}\n"
 
 
-def signals(word: str, those: list):
+def names_of(value) -> tuple:
+    """The names of a declared signal, or of the signals of a bus."""
+    return value.signals if isinstance(value, Bus) else value.operands
+
+
+def signals(word: str, names: tuple):
     """The lines that declare signals."""
-    yield f"  {word} {{\n"
-    for value in those:
-        for name in value.signals if isinstance(value, Bus) else value.operands:
-            yield f"    {name};\n"
-    yield "  }\n"
+    return [f"  {word} {{\n", *(f"    {name};\n" for name in names), "  }\n"]
 
 
-def lines(text: str, those: list):
+def lines(those: list):
     """The lines of sentences, each below the number of the line on which its formula begins in the full form."""
-    starts, before = [0, *(found.end() for found in re.finditer("\n", text))], 0
+    before = 0
     for sentence in those:
-        row = bisect.bisect_right(starts, sentence.at)
-        if row != before:
-            yield f"    // line {row}\n"
-        before = row
+        if sentence.row != before:
+            yield f"    // line {sentence.row}\n"
+        before = sentence.row
         yield f"    {text_of(sentence.formula)};\n"

@@ -2,6 +2,7 @@
 (`until`, `weak until`, `unless`) bind as Spot's operators do: more than `&&`, and less than `!`, `X`, `F` and `G`."""
 import re
 
+from psyntool.tlsf import elsewhere
 from psyntool.tlsf.syntax import (
     Between, Big, Bounded, Call, Chain, Choice, Listed, Member, Name, Number, Prefix, Range, Repeated, Truth, Within,
 )  # fmt: skip
@@ -13,6 +14,7 @@ LEVELS = (
     ({"U": "U"}, "right"),
     ({"W": "W"}, "right"),
     ({"->": "->", "IMPLIES": "->", "<->": "<->", "EQUIV": "<->"}, "right"),
+    ({"xor": "xor"}, "left"),
     ({"||": "||", "OR": "||", "|": "||", "or": "||"}, "left"),
     ({"&&": "&&", "AND": "&&", "&": "&&", "and": "&&"}, "left"),
     ({"until": "U", "weak": "W", "unless": "unless"}, "right"),
@@ -41,7 +43,7 @@ CONSTANTS = {"true": True, "false": False}
 KEYWORDS = {*(word for word in (*LEVEL_OF, *OF_FORMULAS, *OF_NUMBERS, *BIG_FORMULAS, *BIG_OTHERS) if word.isalpha() and word.isupper()), *CONSTANTS}
 KEYWORDS |= {"otherwise", "enum", "_"}
 # Words of sentences between operands and before them, which are names if a text declares them.
-WORDS = ("until", "weak", "unless", "and", "or", "not", "within", "at")
+WORDS = ("until", "weak", "unless", "and", "or", "xor", "not", "within", "at")
 AT_MOST_ONE_OF = ("at", "most", "one", "of")
 AT_MOST_ONE = "at most one of"
 # Operators of one letter that are written as one word, such as `GF`.
@@ -90,7 +92,8 @@ class Parser:
         return self.advance()
 
     def expected(self, what: str):
-        raise Wrong(self.now.start, f"{what} is expected here, and this is {self.now.shown}")
+        near = [token.text for token in (self.now, *self.tokens[max(0, self.at - 1) : self.at]) if token.kind == "word" and token.text not in self.declared]
+        raise Wrong(self.now.start, f"{what} is expected here, and this is {self.now.shown}{elsewhere.hint(*near)}")
 
     def name(self, of: str) -> Token:
         """Takes a word that becomes a name."""
@@ -126,6 +129,10 @@ class Parser:
             return None
         return LEVEL_OF[text]
 
+    def sign_of(self, token: Token, level: int) -> str:
+        """The sign of an operator between operands, which stands at a level."""
+        return LEVELS[level][0][token.text]
+
     def chain(self, left, level: int):
         """Parses the operators of a level with the operands behind them; `left` is the operand before them."""
         signs, places, operands = [], [], [left]
@@ -133,7 +140,7 @@ class Parser:
             token = self.advance()
             if token.text == "weak":
                 self.advance()
-            sign = LEVELS[level][0][token.text]
+            sign = self.sign_of(token, level)
             signs.append(sign)
             places.append(token.start)
             operands.append(self.binary(level + 1))

@@ -166,3 +166,18 @@ def written(sign: str) -> str:
 def sentences_of(formula) -> tuple:
     """The formulas whose conjunction a formula is."""
     return formula.operands if isinstance(formula, Formula) and formula.sign == "&&" else (formula,)
+
+
+def names_in(formula) -> list:
+    """The names in a formula, in the order in which they stand, each once."""
+    found, seen, waiting = {}, set(), [formula]
+    while waiting:
+        part = waiting.pop()
+        if isinstance(part, bool) or part in seen:
+            continue
+        seen.add(part)
+        if part.sign:
+            waiting += reversed(part.operands)
+        elif part.operands[0] not in ("true", "false"):
+            found[part.operands[0]] = None
+    return list(found)

@@ -1,5 +1,6 @@
 """Checks the names of a specification before anything is evaluated: a name that is not declared is told even where it is
 not needed for the given parameters."""
+from psyntool.tlsf import elsewhere
 from psyntool.tlsf.sentences import CALLED
 from psyntool.tlsf.syntax import Big, Call, Chain, Match, Member, Name, Prefix, Specification, Truth
 from psyntool.tlsf.tokens import Wrong
@@ -33,7 +34,7 @@ class Names:
             if made.width is not None:
                 self.check(made.width, frozenset())
         for section in read.sections:
-            for _, formula in section.formulas:
+            for _, _, formula in section.formulas:
                 self.check(formula, frozenset())
 
     def check_clause(self, clause, scope: frozenset):
@@ -88,7 +89,7 @@ class Names:
         elif it.name in self.values or it.name in self.enumerations:
             raise Wrong(it.at, f"`{it.name}` is no function")
         elif it.name not in CALLED:
-            raise Wrong(it.at, f"there is no function `{it.name}`{hint(it.name, [*self.functions, *CALLED])}")
+            raise Wrong(it.at, f"there is no function `{it.name}`{hint(it.name, [*self.functions, *CALLED]) or elsewhere.hint(it.name)}")
 
     def check_pattern(self, it, scope: frozenset, found: set):
         """Checks a pattern, and adds its names to `found`."""

@@ -1,12 +1,12 @@
 """Parses a specification in TLSF's full form: INFO, GLOBAL if it is there, and MAIN."""
 import re
 
-from psyntool.tlsf.expressions import KEYWORDS, MOST_VARIABLES, Parser
+from psyntool.tlsf.expressions import KEYWORDS, LETTERS, MOST_VARIABLES, WORDS, Parser
 from psyntool.tlsf.syntax import Clause, Definition, Enumeration, EnumValue, Match, Name, Section, Signal, Specification
 from psyntool.tlsf.tokens import Token, Wrong, tokens_of
 
 ITEMS = ("TITLE", "DESCRIPTION", "SEMANTICS", "TARGET", "TAGS")
-WORD = re.compile("[A-Za-z_][A-Za-z0-9_'@]*")
+NAME = re.compile("[A-Za-z_][A-Za-z0-9_'@]*")
 ORDERS = ("Mealy", "Moore")
 STRICT, FINITE = "Strict", "Finite"
 # The sections of formulas, with their words in the basic form.
@@ -22,6 +22,8 @@ SECTIONS = {
     "GUARANTEE": "GUARANTEE",
     "GUARANTEES": "GUARANTEE",
 }
+SIGNS_OF_BASIC_FORM = {"string", "{", "}", "(", ")", ";", ":", ",", "!", "&&", "||", "->", "<->"}
+WORDS_OF_BASIC_FORM = {"X", "F", "G", "U", "R", "W", "true", "false"}
 # An enumeration has at most so many strings of bits, so that comparing each two of them takes no long time.
 MOST_PATTERNS = 1024
 
@@ -30,6 +32,24 @@ def read(text: str) -> Specification:
     """The specification that a text describes."""
     tokens = tokens_of(text)
     return Reader(tokens, declared_by(tokens)).read()
+
+
+def is_in_full_form(text: str) -> bool:
+    """Whether a text has a word or a sign that the full form alone has."""
+    try:
+        tokens = tokens_of(text)
+    except Wrong:
+        return False
+    declared = declared_by(tokens)
+    return any(is_of_full_form(token, tokens[place + 1], declared) for place, token in enumerate(tokens[:-1]))
+
+
+def is_of_full_form(token: Token, following: Token, declared: frozenset) -> bool:
+    if token.kind != "word":
+        return token.kind not in SIGNS_OF_BASIC_FORM
+    if token.text in declared or token.text in WORDS_OF_BASIC_FORM:
+        return False
+    return token.text in KEYWORDS or token.text in ("GLOBAL", *WORDS) or bool(LETTERS.fullmatch(token.text)) or following.kind == "("
 
 
 def declared_by(tokens: list[Token]) -> frozenset:
@@ -125,7 +145,7 @@ class Reader(Parser):
         while self.is_sign("string") or self.is_word() and not self.is_word(*ITEMS):
             token = self.advance()
             text = token.text.strip('"')
-            found += [text] if WORD.fullmatch(text) and text not in ITEMS else []
+            found += [text] if NAME.fullmatch(text) and text not in ITEMS else []
             if not self.is_sign(","):
                 break
             self.advance()
@@ -274,8 +294,13 @@ class Reader(Parser):
             self.listed(lambda: signals.append(self.signal()))
         else:
             formulas, word = [], SECTIONS[self.advance().text]
-            self.listed(lambda: formulas.append((self.now.start, self.expression())))
+            self.listed(lambda: formulas.append(self.placed()))
             self.made.sections.append(Section(word, tuple(formulas)))
+
+    def placed(self) -> tuple:
+        """Parses an expression; returns the offsets of its begin and its end, and the expression."""
+        begin, made = self.now.start, self.expression()
+        return begin, self.tokens[self.at - 1].stop, made
 
     def listed(self, one):
         """Parses entries, each of which `;` ends; behind the last one it may be missing."""

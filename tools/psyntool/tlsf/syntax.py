@@ -195,7 +195,7 @@ class Signal:
 
 @dataclass(frozen=True, slots=True)
 class Section:
-    """A section of formulas, by its word in the basic form."""
+    """A section of formulas, by its word in the basic form; each formula with the offsets of its begin and its end."""
 
     word: str
     formulas: tuple
