@@ -1,1 +1,2 @@
 pub mod AssembledCircuits
+pub mod AutomatonJudges

@@ -1,15 +1,10 @@
 //! The search for a smaller circuit.
 
 ghost use Rattle.std.specs.Prelude.{◌≤◌, IfErr, IfOk, IfSome, length};
-ghost use Rattle.ps_hoa.specs.Files.{FileData};
-ghost use Rattle.ps_automaton.specs.Automata.{IsBuiltFrom};
-ghost use Rattle.ps_automaton.specs.Chains.{Chain};
-ghost use Rattle.ps_product.specs.ProductFaults.{IsProductRefusal};
-ghost use Rattle.ps_verify.specs.Judgements.{IsWinning};
 ghost use Rattle.ps_shrink.specs.Inner.Assembled.{HasNamesOf};
-ghost use Rattle.ps_shrink.specs.Reductions.{IsReduction, IsSmallerWinner};
+ghost use Rattle.ps_shrink.specs.Reductions.{IsReductionBy, IsSmallerBy};
 
-use crate::judging::{Task, wins};
+use crate::judging::{Alphabet, Judge, wins};
 use crate::needed::pruned;
 use crate::rebuilding::{circuit_of, redrawn};
 use crate::reduction::Reduction;
@@ -18,41 +13,28 @@ use crate::sketch::Sketch;
 use crate::sweeping::swept;
 use crate::trials::Trials;
 use crate::walk::Walk;
-use ps_automaton::Automaton;
 use ps_circuit::{Circuit, EncodeFault};
-use ps_machine::Order;
 use ps_product::ProductFault;
-use ps_simulate::Role;
-use ps_verify::{Judgement, verified};
+use ps_verify::Judgement;
 use std::alloc::{AllocError, Global};
 
-/// Decides whether a circuit wins, as [`verified`] does. If so, the result wins too, with the same inputs and outputs,
-/// at most as many latches and at most as many gates; at most `steps` changes are tried, and fewer if there are many
-/// gates. If not, the result is a stimulus on which it loses.
-///
-/// Fails with [`ProductFault::Symbols`] if the names of inputs and outputs are not those of the role's propositions;
-/// else with [`ProductFault::Timing`] if the circuit's player moves first, but some output depends on an input, at
-/// latch values that a trace reaches; or if memory runs out.
-pub fn shrunk(
+/// Decides whether a circuit wins, as the judge does. If so, the result wins too, with the same inputs and outputs, at
+/// most as many latches and at most as many gates; at most `steps` changes are tried, and fewer if there are many
+/// gates. If not, the result is a stimulus on which it loses. Fails if the judge does, or if memory runs out.
+pub fn shrunk_by<J: Judge>(
     alloc: Global,
     circuit: Circuit,
-    automaton: &Automaton,
-    order: Order,
-    role: Role,
+    judge: &J,
+    alphabet: Alphabet,
     steps: u32,
 ) -> Result<Reduction, ProductFault>
-    ensures reduced { IfOk result (λ reduction. (file : FileData) (chain : Chain) →
-        IsBuiltFrom file chain automaton.now → IsReduction order role file circuit reduction) }
-    ensures refused { IfErr result (IsProductRefusal order role automaton.now circuit) }
+    requires { J.may_judge judge.now }
+    ensures reduced { IfOk result (IsReductionBy (J.wins judge.now) (J.loses judge.now) circuit) }
+    ensures refused { IfErr result (J.refuses judge.now circuit) }
 {
-    match verified(alloc, &circuit, automaton, order, role)? {
+    match judge.judge(alloc, &circuit)? {
         Judgement::Wins => {
-            let task = Task {
-                automaton,
-                order,
-                role,
-            };
-            let small = smaller(alloc, task, circuit, steps)?;
+            let small = smaller(alloc, judge, alphabet, circuit, steps)?;
             Ok(Reduction::Wins(small))
         }
         Judgement::Loses(stimulus) => Ok(Reduction::Loses(stimulus)),
@@ -71,17 +53,22 @@ struct Search {
 }
 
 /// A winning circuit that is not larger. At most `steps` changes are tried.
-fn smaller(alloc: Global, task: Task, circuit: Circuit, steps: u32) -> Result<Circuit, AllocError>
-    requires { (file : FileData) (chain : Chain) → IsBuiltFrom file chain task.automaton.now →
-        IsWinning task.order task.role file circuit }
-    ensures { IfOk result (λ small. (file : FileData) (chain : Chain) → IsBuiltFrom file chain
-        task.entry.automaton.now → IsSmallerWinner task.entry.order task.entry.role file circuit small) }
+fn smaller<J: Judge>(
+    alloc: Global,
+    judge: &J,
+    alphabet: Alphabet,
+    circuit: Circuit,
+    steps: u32,
+) -> Result<Circuit, AllocError>
+    requires judge { J.may_judge judge.now }
+    requires wins { J.wins judge.now circuit }
+    ensures { IfOk result (IsSmallerBy (J.wins judge.now) circuit) }
 {
     let most = Size::of(&circuit);
     let mut search = Search {
         sweeps: SWEEPS,
         walk: Walk::new(),
-        trials: Trials::new(alloc, task, &circuit)?,
+        trials: Trials::new(alloc, alphabet, &circuit)?,
     };
     let mut sketch = Sketch::of(alloc, &circuit)?;
     let mut best = circuit;
@@ -92,7 +79,7 @@ fn smaller(alloc: Global, task: Task, circuit: Circuit, steps: u32) -> Result<Ci
             break;
         }
         spent = size.steps().saturating_add(spent);
-        if let Some(found) = step(alloc, task, most, &mut search, &best, &sketch)? {
+        if let Some(found) = step(alloc, judge, most, &mut search, &best, &sketch)? {
             sketch = Sketch::of(alloc, &found)?;
             best = found;
         }
@@ -101,30 +88,29 @@ fn smaller(alloc: Global, task: Task, circuit: Circuit, steps: u32) -> Result<Ci
 }
 
 /// Tries the next change, and returns the circuit that takes the place of `best`.
-fn step(
+fn step<J: Judge>(
     alloc: Global,
-    task: Task,
+    judge: &J,
     most: Size,
     search: &mut Search,
     best: &Circuit,
     sketch: &Sketch,
 ) -> Result<Option<Circuit>, AllocError>
+    requires { J.may_judge judge.now }
     ensures names { IfOk result (λ found. IfSome found (HasNamesOf best.now)) }
     ensures latches { IfOk result (λ found. IfSome found (λ c. length c.latches ≤ most.latches)) }
     ensures gates { IfOk result (λ found. IfSome found (λ c. length c.gates ≤ most.gates)) }
-    ensures wins { IfOk result (λ found. IfSome found (λ c. (file : FileData) (chain : Chain) →
-        IsBuiltFrom file chain task.entry.automaton.now →
-        IsWinning task.entry.order task.entry.role file c)) }
+    ensures wins { IfOk result (λ found. IfSome found (J.wins judge.now)) }
 {
     let old = Size::of(best);
-    let Some(candidate) = candidate(alloc, task, search, best, sketch)? else {
+    let Some(candidate) = candidate(alloc, judge, search, best, sketch)? else {
         return Ok(None);
     };
     let size = Size::of(&candidate);
     if !size.is_within(most) || size.cost() > search.walk.most(old.cost()) {
         return Ok(None);
     }
-    if !wins(alloc, task, &mut search.trials, &candidate)? {
+    if !wins(alloc, judge, &mut search.trials, &candidate)? {
         return Ok(None);
     }
     search.walk.took(old.cost(), size.cost());
@@ -132,16 +118,17 @@ fn step(
 }
 
 /// The circuit after the next change, unless it costs too much or loses on a stimulus.
-fn candidate(
+fn candidate<J: Judge>(
     alloc: Global,
-    task: Task,
+    judge: &J,
     search: &mut Search,
     best: &Circuit,
     sketch: &Sketch,
 ) -> Result<Option<Circuit>, AllocError>
+    requires { J.may_judge judge.now }
     ensures { IfOk result (λ found. IfSome found (HasNamesOf best.now)) }
 {
-    let Some(drawn) = promising(alloc, task, search, sketch)? else {
+    let Some(drawn) = promising(alloc, judge, search, sketch)? else {
         return Ok(None);
     };
     match circuit_of(alloc, best, &drawn) {
@@ -152,12 +139,14 @@ fn candidate(
 }
 
 /// The same as a sketch.
-fn promising(
+fn promising<J: Judge>(
     alloc: Global,
-    task: Task,
+    judge: &J,
     search: &mut Search,
     sketch: &Sketch,
-) -> Result<Option<Sketch>, AllocError> {
+) -> Result<Option<Sketch>, AllocError>
+    requires { J.may_judge judge.now }
+{
     let most = search.walk.most(sketch.size().cost());
     let Some(drawn) = next(alloc, search, sketch)? else {
         return Ok(None);
@@ -165,7 +154,7 @@ fn promising(
     if drawn.size().cost() > most || drawn.is_same(sketch) {
         return Ok(None);
     }
-    if search.trials.refute(alloc, task, &drawn)? {
+    if search.trials.refute(alloc, judge, &drawn)? {
         return Ok(None);
     }
     Ok(Some(drawn))

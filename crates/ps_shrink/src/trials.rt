@@ -1,11 +1,10 @@
 //! Runs of sketches on stimuli on which circuits lost.
 
-use crate::judging::Task;
+use crate::judging::{Alphabet, Judge};
 use crate::lanes::{Lanes, mixed};
 use crate::sketch::{Signal, Sketch};
-use ps_automaton::{Automaton, Step};
 use ps_circuit::Circuit;
-use ps_simulate::{Role, Stimulus, input_symbols, output_symbols, proposition_of};
+use ps_simulate::{Stimulus, input_symbols, output_symbols, proposition_of};
 use std::alloc::{AllocError, Global};
 
 /// On how many stimuli a sketch runs before its circuit is judged.
@@ -24,14 +23,14 @@ pub(crate) struct Trials {
 
 impl Trials {
     /// No stimuli, for circuits with these names.
-    pub fn new(alloc: Global, task: Task, named: &Circuit) -> Result<Self, AllocError> {
-        let reads = task.role.reads_controllable();
-        let sets = task.role.sets_controllable();
+    pub fn new(alloc: Global, alphabet: Alphabet, named: &Circuit) -> Result<Self, AllocError> {
+        let reads = alphabet.role.reads_controllable();
+        let sets = alphabet.role.sets_controllable();
         let inputs = input_symbols(alloc, named)?;
         let outputs = output_symbols(alloc, named)?;
         Ok(Trials {
-            inputs: propositions(alloc, task.automaton, reads, &inputs)?,
-            outputs: propositions(alloc, task.automaton, sets, &outputs)?,
+            inputs: propositions(alloc, alphabet, reads, &inputs)?,
+            outputs: propositions(alloc, alphabet, sets, &outputs)?,
             stimuli: Vec::new(alloc),
         })
     }
@@ -49,15 +48,17 @@ impl Trials {
     }
 
     /// Whether the circuit of a sketch loses on one of the first stimuli, which then comes first.
-    pub fn refute(
+    pub fn refute<J: Judge>(
         &mut self,
         alloc: Global,
-        task: Task,
+        judge: &J,
         sketch: &Sketch,
-    ) -> Result<bool, AllocError> {
+    ) -> Result<bool, AllocError>
+        requires { J.may_judge judge.now }
+    {
         let mut lanes = Lanes::new(alloc, sketch)?;
         for number in 0..self.stimuli.len().min(MOST_TRIED) {
-            if self.loses_on(alloc, task, sketch, &mut lanes, &self.stimuli[number])? {
+            if self.loses_on(alloc, judge, sketch, &mut lanes, &self.stimuli[number])? {
                 self.stimuli[..=number].rotate_right(1);
                 return Ok(true);
             }
@@ -65,67 +66,74 @@ impl Trials {
         Ok(false)
     }
 
-    /// Whether the run of a controller is rejected, or that of an environment accepted; false if it does not repeat in
-    /// so many laps.
-    fn loses_on(
+    /// Whether it loses on this stimulus; false if its run does not repeat in so many laps.
+    fn loses_on<J: Judge>(
         &self,
         alloc: Global,
-        task: Task,
+        judge: &J,
         sketch: &Sketch,
         lanes: &mut Lanes,
         stimulus: &Stimulus,
-    ) -> Result<bool, AllocError> {
-        let is_environment = task.role == Role::Environment;
-        lanes.start(sketch);
-        let mut state = self
-            .read(
-                task.automaton,
-                sketch,
-                lanes,
-                task.automaton.start(),
-                &stimulus.stem,
-            )
-            .state;
-        let mut laps = Vec::new(alloc);
-        for _ in 0..LAPS {
-            if state == task.automaton.states() {
-                return Ok(!is_environment);
-            }
-            let key = key_of(sketch, lanes);
-            if let Some(accepts) = repeated(&laps, key, state) {
-                return Ok(accepts == is_environment);
-            }
-            let step = self.read(task.automaton, sketch, lanes, state, &stimulus.lap);
-            laps.push(Lap {
-                key,
-                state,
-                priority: step.priority,
-            })?;
-            state = step.state;
+    ) -> Result<bool, AllocError>
+        requires { J.may_judge judge.now }
+    {
+        let Some(word) = self.word(alloc, sketch, lanes, stimulus)? else {
+            return Ok(false);
+        };
+        if word.start >= word.letters.len() {
+            return Ok(false);
         }
-        Ok(false)
+        judge.refutes(
+            alloc,
+            &word.letters[..word.start],
+            &word.letters[word.start..],
+        )
     }
 
-    /// The state after letters, and the greatest priority on the way.
-    fn read(
+    /// The word of a run, until its latches are as they were before an earlier lap.
+    fn word(
         &self,
-        automaton: &Automaton,
+        alloc: Global,
         sketch: &Sketch,
         lanes: &mut Lanes,
-        state: u32,
-        letters: &[Vec<bool>],
-    ) -> Step {
-        let mut reached = Step { state, priority: 0 };
-        for letter in letters {
-            lanes.read(letter);
-            lanes.evaluate(sketch);
-            reached = after(automaton, reached, self.letter(sketch, lanes, letter));
-            lanes.advance(sketch);
+        stimulus: &Stimulus,
+    ) -> Result<Option<Word>, AllocError> {
+        lanes.start(sketch);
+        let mut letters = Vec::new(alloc);
+        self.read(sketch, lanes, &stimulus.stem, &mut letters)?;
+        let mut laps = Vec::new(alloc);
+        for _ in 0..LAPS {
+            let key = key_of(sketch, lanes);
+            if let Some(start) = start_of(&laps, key) {
+                return Ok(Some(Word { letters, start }));
+            }
+            laps.push(Lap {
+                key,
+                start: letters.len(),
+            })?;
+            self.read(sketch, lanes, &stimulus.lap, &mut letters)?;
         }
-        reached
+        Ok(None)
     }
 
-    /// The automaton's letter in the current step.
+    /// Adds the letters of some steps.
+    fn read(
+        &self,
+        sketch: &Sketch,
+        lanes: &mut Lanes,
+        inputs: &[Vec<bool>],
+        letters: &mut Vec<u64>,
+    ) -> Result<(), AllocError> {
+        for input in inputs {
+            lanes.read(input);
+            lanes.evaluate(sketch);
+            letters.push(self.letter(sketch, lanes, input))?;
+            lanes.advance(sketch);
+        }
+        Ok(())
+    }
+
+    /// The letter of the current step.
     fn letter(&self, sketch: &Sketch, lanes: &Lanes, inputs: &[bool]) -> u64 {
         let mut letter = 0;
         for (proposition, bit) in self.inputs.iter().zip(inputs) {
@@ -138,21 +146,25 @@ impl Trials {
     }
 }
 
-/// A lap: a hash of the latches before it, the state, and the greatest priority in it.
+/// The letters of a run, which repeat for ever from `start` on.
+#[derive(Drop)]
+struct Word {
+    letters: Vec<u64>,
+    start: usize,
+}
+
+/// A lap: a hash of the latches before it, and how many letters come before it.
 #[derive(Clone, Copy)]
 struct Lap {
     key: u64,
-    state: u32,
-    priority: u64,
+    start: usize,
 }
 
-/// Whether the laps are accepted, if the next one begins as an earlier one did.
-fn repeated(laps: &[Lap], key: u64, state: u32) -> Option<bool> {
-    let mut greatest = 0;
-    for lap in laps.iter().rev() {
-        greatest = lap.priority.max(greatest);
-        if lap.key == key && lap.state == state {
-            return Some(greatest % 2 == 0);
+/// Where the first lap with this hash begins.
+fn start_of(laps: &[Lap], key: u64) -> Option<usize> {
+    for lap in laps {
+        if lap.key == key {
+            return Some(lap.start);
         }
     }
     None
@@ -167,18 +179,6 @@ fn key_of(sketch: &Sketch, lanes: &Lanes) -> u64 {
     key
 }
 
-/// A step at a letter, with the greatest priority so far.
-fn after(automaton: &Automaton, before: Step, letter: u64) -> Step {
-    if before.state > automaton.states() {
-        return before;
-    }
-    let step = automaton.step(before.state, letter);
-    Step {
-        state: step.state,
-        priority: step.priority.max(before.priority),
-    }
-}
-
 /// The letter with this bit at a proposition.
 fn bit_at(proposition: Option<usize>, bit: bool) -> u64 {
     match proposition {
@@ -190,17 +190,17 @@ fn bit_at(proposition: Option<usize>, bit: bool) -> u64 {
 /// The propositions of these names.
 fn propositions(
     alloc: Global,
-    automaton: &Automaton,
+    alphabet: Alphabet,
     wanted: bool,
     symbols: &[Option<&[u8]>],
 ) -> Result<Vec<Option<usize>>, AllocError> {
     let mut propositions = Vec::new(alloc);
     for symbol in symbols {
-        propositions.push(named(automaton, wanted, *symbol))?;
+        propositions.push(named(alphabet, wanted, *symbol))?;
     }
     Ok(propositions)
 }
 
-fn named(automaton: &Automaton, wanted: bool, symbol: Option<&[u8]>) -> Option<usize> {
-    proposition_of(automaton.names(), automaton.controllable(), wanted, symbol?)
+fn named(alphabet: Alphabet, wanted: bool, symbol: Option<&[u8]>) -> Option<usize> {
+    proposition_of(alphabet.names, alphabet.controllable, wanted, symbol?)
 }
