@@ -62,12 +62,13 @@ def sizes_told(before, after):
     return f"gates: {gates} before, {fewer} after; latches: {latches} before, {left} after"
 
 
-def of_answer(automaton, answer, passed):
-    """The program's answer to `shrink` of the circuit that an answer of `synth` has, and that circuit's text."""
+def of_answer(specified, answer, passed):
+    """The program's answer to `shrink` of the circuit that an answer of `synth` has, and that circuit's text. The flags
+    are those that were passed to `synth`, for an automaton or for a specification."""
     printed = report.read(answer.bytes.decode("utf-8", "surrogateescape")).parts[0]
     given = Text(Kind.CIRCUIT, "the circuit", printed.encode("utf-8", "surrogateescape"))
-    flags = [*([ENV.name] if answer.status == 20 else []), *(name for name in passed if name == MOORE.name)]
-    return program.ask(files.joined("shrink", flags, [automaton, given])), given
+    flags = [*([ENV.name] if answer.status == 20 else []), *(name for name in passed if name in (MOORE.name, TLSF.name))]
+    return program.ask(files.joined("shrink", flags, [specified, given])), given
 
 
 def is_circuit(answer):
@@ -75,12 +76,12 @@ def is_circuit(answer):
     return asking.is_had(answer) and answer.bytes.startswith(b"aag ")
 
 
-def in_answer(request, automaton, answer, passed):
+def in_answer(request, specified, answer, passed):
     """An answer of `synth` with a smaller circuit in place of its own; `passed` are the flags of `synth`. If the program
     gives none, standard error says why, and the answer stays as it is."""
     if not asking.is_had(answer):
         return answer
-    return with_smaller(request, answer, *of_answer(automaton, answer, passed))
+    return with_smaller(request, answer, *of_answer(specified, answer, passed))
 
 
 def with_smaller(request, answer, found, given):
@@ -91,24 +92,3 @@ def with_smaller(request, answer, found, given):
     if not request.quiet:
         console.tell(sizes_told(given.bytes, found.bytes))
     return replace(answer, bytes=answer.bytes.replace(given.bytes, found.bytes, 1))
-
-
-def by_sentences(request, text, answer):
-    """An answer of `synth` to a specification in temporal logic, with a smaller circuit in place of its own. The circuit is
-    made smaller by the automaton of the sentences, if they can be parts, and is then judged by the sentences."""
-    from psyntool import specifying
-    from psyntool.parts import specification
-
-    if not asking.is_had(answer):
-        return answer
-    try:
-        automaton = specification.automaton_of_sentences(specifying.read(text))
-    except Refused as error:
-        console.tell(f"psyn: the circuit stays as it is: {error}")
-        return answer
-    found, given = of_answer(automaton, answer, [MOORE.name] if text.basic.is_moore else [])
-    if is_circuit(found):
-        flags = [TLSF.name, *([ENV.name] if answer.status == 20 else [])]
-        judged = program.ask(files.joined("verify", flags, [text, Text(Kind.CIRCUIT, "the smaller circuit", found.bytes)]))
-        found = found if judged.bytes == b"wins\n" else judged
-    return with_smaller(request, answer, found, given)

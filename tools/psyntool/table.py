@@ -25,8 +25,9 @@ OF_THE_PROGRAM = (
     ),
     of_the_program(
         "shrink",
-        "a smaller circuit that wins too, as small as the search for it finds; if the circuit loses, a stimulus on which it does",
-        own=(ABC, STIMULUS, WAVE, CHECK),
+        "a smaller circuit that wins too, as small as the search finds; if the circuit loses, a stimulus on which it does; with --tlsf by a specification",
+        own=(ABC, STIMULUS, WAVE, CHECK, SET),
+        apart={TLSF.name: (MOORE,)},
     ),
     of_the_program("agree", "agrees if the automaton accepts exactly the words that satisfy the specification, else a word on which they differ", own=(CHECK, SET)),
     of_the_program("translate", "an automaton that accepts exactly the words that satisfy the specification", own=(SET,), module=ASKING),

@@ -12,6 +12,7 @@ HEAD = b'INFO { TITLE: "t" SEMANTICS: Mealy TARGET: Mealy }\n'
 MAIN = b"MAIN {\n  INPUTS { r; }\n  OUTPUTS { g; }\n  GUARANTEE { G (r -> F g); }\n}\n"
 GRANT = b"aag 1 1 0 1 0\n2\n2\ni0 r\no0 g\n"
 NEVER = b"aag 1 1 0 1 0\n2\n0\ni0 r\no0 g\n"
+LATE = b"aag 6 1 2 1 3\n2\n4 2\n6 4\n12\n8 3 5\n10 8 7\n12 11 11\ni0 r\no0 g\n"
 # A circuit with an input that nothing reads, as yosys adds a clock.
 CLOCKED = b"aag 2 2 0 1 0\n2\n4\n4\ni0 clk\ni1 r\no0 g\n"
 WRONG = {
@@ -99,6 +100,16 @@ class Specifications(OnFiles):
         self.assertEqual(self.asked("s.tlsf", "never.aag", "lost.stim")[0].split()[0], "violated")
         self.assertEqual(json.loads(self.tool("verify", "--json", "s.tlsf", "never.aag").stdout)["verdict"], "loses")
 
+    def test_a_circuit_is_made_smaller(self):
+        late = self.file("late.aag", LATE)
+        done = self.tool("shrink", "s.tlsf", late)
+        self.assertEqual((done.stderr, done.returncode), (b"gates: 3 before, 0 after; latches: 2 before, 0 after\n", 0))
+        self.assertEqual(self.tool("verify", "s.tlsf", "-", given=done.stdout).stdout, b"wins\n")
+        self.assertIn(b'"verdict": "wins"', self.tool("shrink", "--json", "s.tlsf", late).stdout)
+        for words in (["s.tlsf", "never.aag"], ["--check", "s.tlsf", "never.aag"], ["--moore", "s.tlsf", late], ["--env", "s.tlsf", late]):
+            one, other = (self.tool(command, *words) for command in ("shrink", "verify"))
+            self.assertEqual((one.stdout, one.stderr.replace(b"shrink", b"verify"), one.returncode), (other.stdout, other.stderr, other.returncode))
+
     def test_what_it_refuses(self):
         answer, told, status = self.asked("s.tlsf", "grant.aag")
         self.assertEqual((answer, told, status), ("", ["psyn: lasso --tlsf reads SPECIFICATION CIRCUIT STIMULUS, and got 2 files"], 2))
@@ -155,7 +166,7 @@ class Synthesis(OnFiles):
         self.assertEqual(self.tool("verify", "--env", "made.tlsf", "made.aag").stdout, b"wins\n")
         done = self.tool("synth", "--small", "--formula", "F G (g <-> r)", "--outs", "g")
         self.assertEqual((done.returncode, done.stdout[:11]), (10, b"REALIZABLE\n"))
-        self.assertTrue(done.stderr.startswith(b"psyn: the circuit stays as it is: as a part it would have to say"), done.stderr)
+        self.assertRegex(done.stderr, rb"^gates: \d+ before, 0 after; latches: \d+ before, 0 after\n")
 
     def test_a_sentence_that_is_long_or_deep_leaves_no_traceback(self):
         self.file("never.aag", NEVER)

@@ -28,6 +28,7 @@ use Rattle.ps_program.specs.Outcomes.{printed}
 use Rattle.ps_program.specs.Program.{AnswersInput, AnswersLine}
 use Rattle.ps_program.specs.Replies.{Reply, text_reply}
 use Rattle.ps_program.specs.Shrinking.{AnswersShrink}
+use Rattle.ps_program.specs.ShrinkingTlsf.{AnswersShrinkTlsf}
 use Rattle.ps_program.specs.Simulating.{AnswersSim}
 use Rattle.ps_program.specs.Solvers.{Solvers}
 use Rattle.ps_program.specs.Solving.{AnswersGame, AnswersSolve}
@@ -45,6 +46,7 @@ use Rattle.ps_program.proofs.OneStage.{OneGame, OneFlaw, OneCircuit, OneStimulus
 use Rattle.ps_program.proofs.OneStage.{OneValues, automaton_one, makes_one, tells_one, game_accepted, RefusedOr}
 use Rattle.ps_program.proofs.OneStage.{report_refused}
 use Rattle.ps_program.proofs.ShrinkDetermined.{shrink_one_or}
+use Rattle.ps_program.proofs.ShrinkTlsfDetermined.{shrink_tlsf_one_or}
 use Rattle.ps_program.proofs.SynthTlsfDetermined.{NotBothPlayers, synth_tlsf_one_or}
 use Rattle.ps_program.proofs.VerifyDetermined.{NotBoth, verify_one_or}
 use Rattle.ps_program.proofs.VerifyTlsfDetermined.{NotBothFor, verify_tlsf_one_or}
@@ -192,6 +194,21 @@ module _ (games : OneGame) (certificates : OneCertificate) (flaws : OneFlaw) (ci
       by (inr (file, c, reads, inr agree)) =
           inr ((file, c, reads, inr (agree.one, agree.one_loses)), (file, c, reads, inr agree))
 
+  shrink_tlsf_or_one : (role : Role) (texts : List ℕ) (x y : Result Reply (List ℕ)) →
+      AnswersShrinkTlsf role texts x → AnswersShrinkTlsf role texts y
+      → (x ≡ y) ⊎ (IsUndetermined (line.ShrinkTlsf role) texts ×
+      Agree (line.ShrinkTlsf role) texts (printed x) (printed y))
+  shrink_tlsf_or_one role texts x y h k = by (shrink_tlsf_one_or circuit_one not_both_for role x y texts h k)
+    where
+      by : (x ≡ y) ⊎ Agree (line.ShrinkTlsf role) texts (printed x) (printed y) →
+          (x ≡ y) ⊎ (IsUndetermined (line.ShrinkTlsf role) texts ×
+          Agree (line.ShrinkTlsf role) texts (printed x) (printed y))
+      by (inl same) = inl same
+      by (inr (spec, c, reads, inl small)) =
+          inr ((spec, c, reads, inl small.wins), (spec, c, reads, inl small))
+      by (inr (spec, c, reads, inr agree)) =
+          inr ((spec, c, reads, inr (agree.one, agree.one_loses)), (spec, c, reads, inr agree))
+
   solve_one_or : (solver : SolverData) (compact : Bool) (text : List ℕ) (x y : Result Reply (List ℕ)) →
       AnswersSolve solver compact text x → AnswersSolve solver compact text y
       → (x ≡ y) ⊎ (IsUndetermined (line.Solve compact) text × Alike (Agree (line.Solve compact) text) x y)
@@ -313,6 +330,7 @@ module _ (games : OneGame) (certificates : OneCertificate) (flaws : OneFlaw) (ci
   line_one solvers (line.Verify order role) texts x y h k = verify_or_one order role texts x y h k
   line_one solvers (line.VerifyTlsf role) texts x y h k = verify_tlsf_or_one role texts x y h k
   line_one solvers (line.Shrink order role) texts x y h k = shrink_or_one order role texts x y h k
+  line_one solvers (line.ShrinkTlsf role) texts x y h k = shrink_tlsf_or_one role texts x y h k
   line_one solvers line.Agree texts x y h k = agree_or_one texts x y h k
   line_one solvers line.Translate text x y h k = translate_one_or own_translator text x y h k
   line_one solvers (line.Solve compact) texts x y h k = solve_one_or solvers.built_in compact texts x y h k

@@ -48,6 +48,9 @@ pub mod VerifiedCircuits
 pub mod VerifiedWinners
 pub mod ShrinkDetermined
 pub mod ShrinkLemmas
+pub mod ShrinkTlsfDetermined
+pub mod ShrinkTlsfLemmas
+pub mod SmallerSpecified
 pub mod SmallerVerified
 pub mod VerifyDetermined
 pub mod VerifyLemmas

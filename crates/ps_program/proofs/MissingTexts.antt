@@ -17,6 +17,7 @@ use Rattle.ps_program.specs.Judging.{AnswersJudge, Judges, ReadsSolutionText, Re
 use Rattle.ps_program.specs.Lassos.{AnswersLasso, RunsCircuit}
 use Rattle.ps_machine.specs.declared.key.Order.{Order}
 use Rattle.ps_program.specs.Shrinking.{AnswersShrink, ShrinksText}
+use Rattle.ps_program.specs.ShrinkingTlsf.{AnswersShrinkTlsf, ShrinksSpecified}
 use Rattle.ps_program.specs.Verifying.{AnswersVerify, VerifiesText}
 use Rattle.ps_program.specs.VerifyingTlsf.{AnswersVerifyTlsf, VerifiesSpecified}
 use Rattle.ps_program.specs.Simulating.{AnswersSim, PrintsTrace}
@@ -33,8 +34,8 @@ use Rattle.ps_program.specs.Texts.{CutsInTwo, CutsInThree, ReadsCertificateText,
 use Rattle.ps_program.specs.Texts.{ReadsGameText, ReadsSimulated, ReadsSpecificationText, ReadsStimulusText}
 use Rattle.ps_program.specs.Texts.{missing_text}
 use Rattle.ps_program.specs.declared.commands.Line.{Line}
-use Rattle.ps_program.specs.declared.commands.Line.TheVariants.{Lasso, LassoTlsf, Refused, Synth, SynthTlsf, Verify}
-use Rattle.ps_program.specs.declared.commands.Line.TheVariants.{VerifyTlsf}
+use Rattle.ps_program.specs.declared.commands.Line.TheVariants.{Lasso, LassoTlsf, Refused, Shrink, ShrinkTlsf}
+use Rattle.ps_program.specs.declared.commands.Line.TheVariants.{Synth, SynthTlsf, Verify, VerifyTlsf}
 use Rattle.ps_program.specs.declared.commands.SynthLine.{SynthLine}
 use Rattle.ps_program.specs.declared.commands.TextKind.{TextKind}
 use Rattle.ps_program.specs.declared.commands.TextKind.TheVariants as kind
@@ -181,6 +182,24 @@ shrink_missing order role texts fewer = both_fail (CutsInTwo texts) (λ (parts :
     Then (ReadsAutomaton parts.0) (λ file. ShrinksText order role file parts.1)) missing_text
     (two_missing texts fewer)
 
+shrink_tlsf_missing : (role : Role) (texts : List ℕ) → HasFewerSeparators 1 texts →
+    Fails (AnswersShrinkTlsf role texts) missing_text
+shrink_tlsf_missing role texts fewer = both_fail (CutsInTwo texts) (λ (parts : List ℕ × List ℕ).
+    Then (ReadsSpecificationText parts.0) (λ spec. ShrinksSpecified role spec parts.1)) missing_text
+    (two_missing texts fewer)
+
+-- what `shrink` asks for, by its flags `--tlsf` and `--moore`
+abbrev shrink_line : (tlsf moore : Bool) → Order → Role → Line
+shrink_line tlsf moore order role =
+    if tlsf then (if moore then Refused else ShrinkTlsf role) else Shrink order role
+
+shrink_given_missing : (solvers : Solvers) (tlsf moore : Bool) (order : Order) (role : Role) (texts : List ℕ) →
+    shrink_line tlsf moore order role ≢ Refused → HasFewerSeparators 1 texts →
+    Fails (AnswersLine solvers (shrink_line tlsf moore order role) texts) missing_text
+shrink_given_missing solvers true true order role texts allowed fewer = absurd (allowed refl)
+shrink_given_missing solvers true false order role texts allowed fewer = shrink_tlsf_missing role texts fewer
+shrink_given_missing solvers false moore order role texts allowed fewer = shrink_missing order role texts fewer
+
 agree_missing : (texts : List ℕ) → HasFewerSeparators 1 texts → Fails (AnswersAgree texts) missing_text
 agree_missing texts fewer = both_fail (CutsInTwo texts) (λ (parts : List ℕ × List ℕ).
     Then (ReadsSpecificationText parts.0) (λ spec. ComparesText spec parts.1)) missing_text (two_missing texts fewer)
@@ -202,9 +221,8 @@ texts_needed solvers = (
             λ given texts outcome allowed fewer answers. verify_given_missing solvers (given tlsf_flag)
                 (given moore_flag) (order_given given) (role_given given) texts allowed fewer outcome answers,
             (
-              λ given texts outcome allowed fewer answers. shrink_missing (order_given given) (role_given given) texts
-                  fewer
-                  outcome answers,
+              λ given texts outcome allowed fewer answers. shrink_given_missing solvers (given tlsf_flag)
+                  (given moore_flag) (order_given given) (role_given given) texts allowed fewer outcome answers,
               (
                 λ given texts outcome allowed fewer answers. agree_missing texts fewer outcome answers,
                 (

@@ -3,23 +3,35 @@ use Rattle.std.proofs.Common.{◌≡◌, ◌⊎◌, ℕ, List, Result, Ok, Err, 
 use Rattle.ps_circuit.specs.Circuits.{CircuitData}
 use Rattle.ps_hoa.specs.Files.{FileData}
 use Rattle.ps_machine.specs.declared.key.Order.{Order}
+use Rattle.ps_simulate.specs.Stimuli.{StimulusData}
 use Rattle.ps_simulate.specs.declared.role.Role.{Role}
-use Rattle.ps_verify.specs.Judgements.{IsLosing}
+use Rattle.ps_verify.specs.Judgements.{IsLosing, IsWinning}
 use Rattle.ps_program.specs.Automata.{ReadsAutomaton}
-use Rattle.ps_program.specs.Determined.{AgreeAsLosing, AgreeAsSmaller}
+use Rattle.ps_program.specs.Determined.{AgreeOnCircuit}
 use Rattle.ps_program.specs.Outcomes.{printed}
 use Rattle.ps_program.specs.Replies.{Reply}
-use Rattle.ps_program.specs.Shrinking.{AnswersShrink, TellsReduction}
+use Rattle.ps_program.specs.Shrinking.{AnswersShrink, IsReducedTo, TellsReduction}
 use Rattle.ps_program.specs.Texts.{ReadsCircuitText}
 use Rattle.ps_program.specs.Verifying.{IsProductLine, ReadsVerified}
 use Rattle.ps_program.proofs.JudgedTexts.{judged_one_or, no_fault, one_line}
 use Rattle.ps_program.proofs.OneStep.{IsOne, err_of}
 use Rattle.ps_program.proofs.VerifyDetermined.{NotBoth}
 
+-- if no circuit both wins and loses, two replies print a smaller circuit, or both print a stimulus on which the circuit
+-- loses
+pub reduced_alike : (Winning : CircuitData → Type 0) (Losing : CircuitData → StimulusData → Type 0) (c : CircuitData) →
+    ((s : StimulusData) → Winning c → Losing c s → ⊥) → (r t : Reply) → IsReducedTo Winning Losing c r →
+    IsReducedTo Winning Losing c t → AgreeOnCircuit Winning Losing c r t
+reduced_alike Winning Losing c apart r t (inl (wins, small)) (inl (wins', small')) =
+    inl (record { wins = wins; one = small; other = small' })
+reduced_alike Winning Losing c apart r t (inl (wins, small)) (inr (s, loses, e')) = absurd (apart s wins loses)
+reduced_alike Winning Losing c apart r t (inr (s, loses, e)) (inl (wins, small)) = absurd (apart s wins loses)
+reduced_alike Winning Losing c apart r t (inr (s, loses, e)) (inr (s', loses', e')) =
+    inr (record { one = s; other = s'; one_loses = loses; other_loses = loses'; is_one = e; is_other = e' })
+
 module _ (order : Order) (role : Role) (file : FileData) (c : CircuitData) where
-  -- both answers print a smaller circuit, or both print a stimulus on which the circuit loses
-  abbrev AgreeOnCircuit : Reply → Reply → Type 0
-  AgreeOnCircuit a b = AgreeAsSmaller order role file c a b ⊎ AgreeAsLosing (IsLosing order role file c) a b
+  abbrev AgreeByAutomaton : Reply → Reply → Type 0
+  AgreeByAutomaton a b = AgreeOnCircuit (IsWinning order role file) (IsLosing order role file) c a b
 
   told_no_fault : (reply : Reply) (line : List ℕ) → TellsReduction order role file c (Ok reply) →
       IsProductLine order role file c line → ⊥
@@ -29,15 +41,9 @@ module _ (order : Order) (role : Role) (file : FileData) (c : CircuitData) where
       no_fault order role file.names file.controllable c loses.symbols loses.in_time line fault
 
   told_one_or : NotBoth → (x y : Result Reply (List ℕ)) → TellsReduction order role file c x →
-      TellsReduction order role file c y → (x ≡ y) ⊎ AgreeOnCircuit (printed x) (printed y)
-  told_one_or apart (Ok r) (Ok t) (is_circuit, inl (wins, small)) (is_circuit', inl (wins', small')) =
-      inr (inl (record { wins = wins; one = small; other = small' }))
-  told_one_or apart (Ok r) (Ok t) (is_circuit, inl (wins, small)) (is_circuit', inr (s, loses, e')) =
-      absurd (apart order role file c s wins loses)
-  told_one_or apart (Ok r) (Ok t) (is_circuit, inr (s, loses, e)) (is_circuit', inl (wins, small)) =
-      absurd (apart order role file c s wins loses)
-  told_one_or apart (Ok r) (Ok t) (is_circuit, inr (s, loses, e)) (is_circuit', inr (s', loses', e')) =
-      inr (inr (record { one = s; other = s'; one_loses = loses; other_loses = loses'; is_one = e; is_other = e' }))
+      TellsReduction order role file c y → (x ≡ y) ⊎ AgreeByAutomaton (printed x) (printed y)
+  told_one_or apart (Ok r) (Ok t) h k = inr (reduced_alike (IsWinning order role file) (IsLosing order role file) c
+      (apart order role file c) r t h.1 k.1)
   told_one_or apart (Ok r) (Err m) h k = absurd (told_no_fault r m h k)
   told_one_or apart (Err l) (Ok t) h k = absurd (told_no_fault t l k h)
   told_one_or apart (Err l) (Err m) h k =
@@ -49,8 +55,8 @@ pub shrink_one_or : (automata : (text : List ℕ) → IsOne (ReadsAutomaton text
     IsOne (ReadsCircuitText text)) (apart : NotBoth) (order : Order) (role : Role) (x y : Result Reply (List ℕ))
     (texts : List ℕ) → AnswersShrink order role texts x → AnswersShrink order role texts y →
     (x ≡ y) ⊎ ((file : FileData) × (c : CircuitData) × ReadsVerified texts file c ×
-    AgreeOnCircuit order role file c (printed x) (printed y))
+    AgreeByAutomaton order role file c (printed x) (printed y))
 shrink_one_or automata circuits apart order role x y texts h k =
     judged_one_or ReadsAutomaton (TellsReduction order role)
-    (λ file c. AgreeOnCircuit order role file c (printed x) (printed y)) automata circuits x y
+    (λ file c. AgreeByAutomaton order role file c (printed x) (printed y)) automata circuits x y
     (λ file c. told_one_or order role file c apart x y) texts h k

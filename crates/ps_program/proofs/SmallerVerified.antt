@@ -5,7 +5,7 @@ use Rattle.ps_circuit.specs.Texts.{ReadsCircuit}
 use Rattle.ps_hoa.specs.Files.{FileData}
 use Rattle.ps_machine.specs.declared.key.Order.{Order}
 use Rattle.ps_simulate.specs.declared.role.Role.{Role}
-use Rattle.ps_verify.specs.Judgements.{IsLosing}
+use Rattle.ps_verify.specs.Judgements.{IsLosing, IsWinning}
 use Rattle.ps_program.specs.Automata.{ReadsAutomaton}
 use Rattle.ps_program.specs.Determined.{AgreeAsLosing}
 use Rattle.ps_program.specs.Exchanged.{VerifiesSmaller}
@@ -25,7 +25,7 @@ ReadIsCircuit = (text : List ℕ) (c : CircuitData) → ReadsCircuit text (Ok c)
 module _ (automata : (text : List ℕ) → IsOne (ReadsAutomaton text)) (circuits : (text : List ℕ) →
     IsOne (ReadsCircuitText text)) (apart : NotBoth) (is_read : ReadIsCircuit) where
   module _ (order : Order) (role : Role) (file : FileData) (c : CircuitData) (text texts : List ℕ) (reply : Reply)
-      (automaton : ReadsAutomaton text (Ok file)) (is : IsSmallerReply order role file c reply)
+      (automaton : ReadsAutomaton text (Ok file)) (is : IsSmallerReply (IsWinning order role file) c reply)
       (cuts : CutsInTwo texts (Ok (text, reply.text))) where
     reads : ReadsCircuit reply.text (Ok is.small)
     reads = subst (λ bytes. ReadsCircuit bytes (Ok is.small)) (sym (ap (λ (r : Reply). r.text) is.is)) is.reads

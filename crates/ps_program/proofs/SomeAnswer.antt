@@ -59,6 +59,7 @@ module _ (below : Below) where
   line_some solvers (line.Verify order role) texts plain = absurd plain
   line_some solvers (line.VerifyTlsf role) texts plain = absurd plain
   line_some solvers (line.Shrink order role) texts plain = absurd plain
+  line_some solvers (line.ShrinkTlsf role) texts plain = absurd plain
   line_some solvers line.Agree texts plain = absurd plain
   line_some solvers line.Translate texts plain = absurd plain
   line_some solvers (line.Solve compact) texts plain = absurd plain
@@ -86,6 +87,7 @@ module _ (below : Below) where
   solved_line solvers may (line.Verify order role) texts solved = absurd solved
   solved_line solvers may (line.VerifyTlsf role) texts solved = absurd solved
   solved_line solvers may (line.Shrink order role) texts solved = absurd solved
+  solved_line solvers may (line.ShrinkTlsf role) texts solved = absurd solved
   solved_line solvers may line.Agree texts solved = absurd solved
   solved_line solvers may line.Translate texts solved = absurd solved
   solved_line solvers may (line.Solve compact) texts solved = solve_some below solvers.built_in compact texts may

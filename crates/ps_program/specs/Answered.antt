@@ -1,6 +1,7 @@
 -- For each command except `verify`, `shrink`, `agree`, `translate` and `synth --tlsf`, and under conditions on the
 -- solvers, each input has an answer: some reply (the printed bytes and the exit status) meets the definition of an
--- answer. - `HasReply solvers input`: some reply is an answer to the input
+-- answer.
+-- - `HasReply solvers input`: some reply is an answer to the input
 -- - `IsPlainLine line`: the line is of one of the other commands, and calls no solver
 -- - `HasSomeLine`: each first line has a meaning as a `Line`
 -- - `HasSomeAnswer solvers`: each input has an answer, if its first line is plain (`IsPlainLine`)

@@ -19,8 +19,8 @@ use Rattle.ps_simulate.specs.declared.role.Role.{Role}
 use Rattle.ps_simulate.specs.declared.role.Role.TheVariants.{Controller, Environment}
 use Rattle.ps_program.specs.declared.commands.Line.{Line}
 use Rattle.ps_program.specs.declared.commands.Line.TheVariants.{Refused, Help, Closed, Check, Judge, Sim, Lasso}
-use Rattle.ps_program.specs.declared.commands.Line.TheVariants.{LassoTlsf, Verify, VerifyTlsf, Shrink, Solve, Game}
-use Rattle.ps_program.specs.declared.commands.Line.TheVariants.{Agree, Cert, Synth, SynthTlsf, Translate}
+use Rattle.ps_program.specs.declared.commands.Line.TheVariants.{LassoTlsf, Verify, VerifyTlsf, Shrink, ShrinkTlsf}
+use Rattle.ps_program.specs.declared.commands.Line.TheVariants.{Agree, Cert, Game, Solve, Synth, SynthTlsf, Translate}
 use Rattle.ps_program.specs.declared.commands.SynthLine.{SynthLine}
 use Rattle.ps_program.specs.declared.commands.TheConstants.{ON_CLOSED, ON_CHECK, ON_JUDGE, ON_SIM, ON_LASSO}
 use Rattle.ps_program.specs.declared.commands.TheConstants.{ON_VERIFY, ON_SHRINK, ON_SOLVE, ON_GAME, ON_CERT}
@@ -80,6 +80,13 @@ abbrev pub verify_given : (Text → Bool) → Line
 verify_given given =
     if given tlsf_flag then (if given moore_flag then Refused else VerifyTlsf (role_given given))
     else Verify (order_given given) (role_given given)
+
+-- what `shrink` asks for: a smaller circuit by a specification if the flag `--tlsf` is given, and otherwise by an
+-- automaton; `--moore` and `--tlsf` exclude each other, as they do for `verify`
+abbrev pub shrink_given : (Text → Bool) → Line
+shrink_given given =
+    if given tlsf_flag then (if given moore_flag then Refused else ShrinkTlsf (role_given given))
+    else Shrink (order_given given) (role_given given)
 
 -- what `synth` is asked for, by its flags: the order of moves, and what is printed besides the circuit
 abbrev pub synth_given : (Text → Bool) → SynthLine
@@ -150,11 +157,11 @@ commands =
       says = ON_VERIFY.now;
     } ∷ record {
       name = codes "shrink";
-      flags = env_flag ∷ moore_flag ∷ [];
+      flags = env_flag ∷ moore_flag ∷ tlsf_flag ∷ [];
       texts = kind.Automaton ∷ kind.Circuit ∷ [];
       added = [];
-      replaced = [];
-      line = λ given. Shrink (order_given given) (role_given given);
+      replaced = (tlsf_flag, kind.Specification) ∷ [];
+      line = shrink_given;
       says = ON_SHRINK.now;
     } ∷ record {
       name = codes "agree";

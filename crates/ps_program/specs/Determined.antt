@@ -1,7 +1,7 @@
 -- The program's answer is determined, with five exceptions: which cycle `judge` reports if a player loses, which
--- stimulus `verify` (also with `--tlsf`) and `shrink` report, which smaller circuit `shrink` prints, which lasso `agree`
--- reports, and which certificate a solver, which circuit `synth --tlsf`, or which automaton `translate` chooses. Even in
--- the exceptional cases, any two answers have something in common.
+-- stimulus `verify` and `shrink` report, which smaller circuit `shrink` prints (both also with `--tlsf`), which lasso
+-- `agree` reports, and which certificate a solver, which circuit `synth --tlsf`, or which automaton `translate`
+-- chooses. Even in the exceptional cases, any two answers have something in common.
 -- - `IsUndetermined line texts`: for these texts, the command in the line may have more than one correct answer
 -- - `IsReplaying solver`: the solver only returns the result of parsing the text that it was fed, unless memory runs
 --   out
@@ -11,7 +11,7 @@
 -- - `AgreeAsReports order full compact text a b`: both answers show the same winner of the automaton's game
 -- - `AgreeInWinners compact game a b`: the answers a and b print certificates of the game with the same winners
 -- - `AgreeAsLosing Loses a b`: both answers show a stimulus on which the circuit loses
--- - `AgreeAsSmaller order role file c a b`: both answers print a circuit that wins and is not larger than the circuit
+-- - `AgreeAsSmaller Winning c a b`: both answers print a circuit that wins and is not larger than the circuit
 -- - `AgreeInLoser named given a b`: both answers report a cycle that the same player loses
 -- - `HasOneAnswer solvers`: any two answers to the same input are equal, or the command allows several answers; then
 --   the two agree as `Agree` states, or the command calls a solver and one of the two answers reports a fault
@@ -52,11 +52,11 @@ use Rattle.ps_program.specs.Solvers.{Solvers}
 use Rattle.ps_program.specs.Synthesis.{synthesis_reply}
 use Rattle.ps_program.specs.SynthesisTlsf.{winner_reply}
 use Rattle.ps_program.specs.Verifying.{ReadsVerified, loses_reply}
-use Rattle.ps_program.specs.VerifyingTlsf.{LosesSpecified, ReadsSpecified}
+use Rattle.ps_program.specs.VerifyingTlsf.{LosesSpecified, ReadsSpecified, WinsSpecified}
 use Rattle.ps_program.specs.Texts.{CutsInTwo, ReadsGameText, ReadsSpecificationText, missing_text}
 use Rattle.ps_program.specs.declared.commands.Line.{Line}
-use Rattle.ps_program.specs.declared.commands.Line.TheVariants.{Refused, Judge, Verify, VerifyTlsf, Shrink, Solve, Cert}
-use Rattle.ps_program.specs.declared.commands.Line.TheVariants.{Synth, SynthTlsf, Translate}
+use Rattle.ps_program.specs.declared.commands.Line.TheVariants.{Refused, Judge, Verify, VerifyTlsf, Shrink, ShrinkTlsf}
+use Rattle.ps_program.specs.declared.commands.Line.TheVariants.{Cert, Solve, Synth, SynthTlsf, Translate}
 use Rattle.ps_program.specs.declared.commands.Line.TheVariants as line
 use Rattle.ps_program.specs.declared.commands.SynthLine.{SynthLine}
 
@@ -72,8 +72,8 @@ AsksFor true texts text = (certificate : List ℕ) × CutsInTwo texts (Ok (text,
 -- may be printed. If a judged solution allows a cycle that makes a player lose, any cycle of this kind may be reported.
 -- If a verified circuit loses, any stimulus on which it loses may be reported; and so it is with a circuit that is to
 -- be made smaller. If it wins, any circuit that wins and is not larger may be printed. If an automaton and a
--- specification differ, any lasso on which they do may be reported. For a specification, any circuit that answers it may
--- be printed, or any automaton that agrees with it, or a fault in its place.
+-- specification differ, any lasso on which they do may be reported. For a specification, any circuit that answers it
+-- may be printed, or any automaton that agrees with it, or a fault in its place.
 abbrev pub IsUndetermined : Line → List ℕ → Type 0
 IsUndetermined (Judge compact) texts =
     (named : NamedGameData) × (given : SolutionData) × ReadsSolved texts (Ok (named, given)) × LosesCycle named given
@@ -86,6 +86,9 @@ IsUndetermined (VerifyTlsf role) texts =
 IsUndetermined (Shrink order role) texts =
     (file : FileData) × (c : CircuitData) × ReadsVerified texts file c ×
     (IsWinning order role file c ⊎ ((s : StimulusData) × IsLosing order role file c s))
+IsUndetermined (ShrinkTlsf role) texts =
+    (spec : Specification) × (c : CircuitData) × ReadsSpecified texts spec c ×
+    (WinsSpecified role spec c ⊎ ((s : StimulusData) × LosesSpecified role spec c s))
 IsUndetermined (Solve compact) text = (game : NamedGameData) × ReadsGameText text (Ok game)
 IsUndetermined (Cert order compact) text = HasAutomaton text
 IsUndetermined (Synth asked) texts = (text : List ℕ) × AsksFor asked.cert texts text × HasAutomaton text
@@ -133,10 +136,15 @@ pub record AgreeAsLosing (Loses : StimulusData → Type 0) (a b : Reply) : Type 
   pub is_other : b ≡ loses_reply other
 
 -- each of two answers prints a circuit that wins and is not larger than the circuit c
-pub record AgreeAsSmaller (order : Order) (role : Role) (file : FileData) (c : CircuitData) (a b : Reply) : Type 0 where
-  pub wins : IsWinning order role file c
-  pub one : IsSmallerReply order role file c a
-  pub other : IsSmallerReply order role file c b
+pub record AgreeAsSmaller (Winning : CircuitData → Type 0) (c : CircuitData) (a b : Reply) : Type 0 where
+  pub wins : Winning c
+  pub one : IsSmallerReply Winning c a
+  pub other : IsSmallerReply Winning c b
+
+-- both answers print a smaller circuit, or both print a stimulus on which the circuit loses
+abbrev pub AgreeOnCircuit :
+    (CircuitData → Type 0) → (CircuitData → StimulusData → Type 0) → CircuitData → Reply → Reply → Type 0
+AgreeOnCircuit Winning Losing c a b = AgreeAsSmaller Winning c a b ⊎ AgreeAsLosing (Losing c) a b
 
 -- each of two answers reports a cycle of the solution that the same player loses
 pub record AgreeInLoser (named : NamedGameData) (given : SolutionData) (a b : Reply) : Type 0 where
@@ -190,7 +198,10 @@ Agree (VerifyTlsf role) texts a b =
     AgreeAsLosing (LosesSpecified role spec c) a b
 Agree (Shrink order role) texts a b =
     (file : FileData) × (c : CircuitData) × ReadsVerified texts file c ×
-    (AgreeAsSmaller order role file c a b ⊎ AgreeAsLosing (IsLosing order role file c) a b)
+    AgreeOnCircuit (IsWinning order role file) (IsLosing order role file) c a b
+Agree (ShrinkTlsf role) texts a b =
+    (spec : Specification) × (c : CircuitData) × ReadsSpecified texts spec c ×
+    AgreeOnCircuit (WinsSpecified role spec) (LosesSpecified role spec) c a b
 Agree (Solve compact) text a b = (game : NamedGameData) × ReadsGameText text (Ok game) × AgreeInWinners compact game a b
 Agree (Cert order compact) text a b =
     (game : NamedGameData) × ReadsGameOf order text (Ok game) × AgreeInWinners compact game a b
@@ -211,6 +222,7 @@ AgreeOrFault (Judge compact) texts a b = Agree (Judge compact) texts a b
 AgreeOrFault (Verify order role) texts a b = Agree (Verify order role) texts a b
 AgreeOrFault (VerifyTlsf role) texts a b = Agree (VerifyTlsf role) texts a b
 AgreeOrFault (Shrink order role) texts a b = Agree (Shrink order role) texts a b
+AgreeOrFault (ShrinkTlsf role) texts a b = Agree (ShrinkTlsf role) texts a b
 AgreeOrFault line.Agree texts a b = Agree line.Agree texts a b
 AgreeOrFault line texts a b = IsFaultReply a ⊎ IsFaultReply b ⊎ Agree line texts a b
 

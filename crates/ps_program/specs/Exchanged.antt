@@ -8,6 +8,7 @@
 -- - `VerifiesCircuits solver`: `verify` answers `wins`, and nothing else, for each circuit that `synth` prints
 -- - `VerifiesWinners`: `verify --tlsf` answers `wins`, and nothing else, for each circuit that `synth --tlsf` prints
 -- - `VerifiesSmaller`: `verify` answers `wins`, and nothing else, for each circuit that `shrink` prints
+-- - `VerifiesSmallerSpecified`: `verify --tlsf` answers so for each circuit that `shrink --tlsf` prints
 use Rattle.std.specs.Prelude.{◌≡◌, ◌↔◌, ℕ, Bool, true, false, List, codes, length, Result, Ok, if◌then◌else◌}
 use Rattle.ps_certificate.specs.Certificates.{CertificateData}
 use Rattle.ps_certificate.specs.Written.{HasWords, text_in}
@@ -28,7 +29,7 @@ use Rattle.ps_synthesis.specs.Promises.{SynthesisData}
 use Rattle.ps_specification.specs.Promises.{KeepsSpecification}
 use Rattle.ps_tlsf.specs.Names.{names_in}
 use Rattle.ps_tlsf.specs.Specifications.{Specification}
-use Rattle.ps_verify.specs.Judgements.{IsLosing}
+use Rattle.ps_verify.specs.Judgements.{IsLosing, IsWinning}
 use Rattle.ps_program.specs.Checks.{AnswersCheck}
 use Rattle.ps_program.specs.Replies.{Reply, line_reply}
 use Rattle.ps_program.specs.Synthesis.{Synthesises, is_realizable}
@@ -38,7 +39,7 @@ use Rattle.ps_program.specs.Satisfying.{AnswersLassoTlsf, satisfaction_text}
 use Rattle.ps_program.specs.Automata.{ReadsAutomaton}
 use Rattle.ps_program.specs.Shrinking.{IsSmallerReply}
 use Rattle.ps_program.specs.Verifying.{AnswersVerify, stimulus_text, wins_reply}
-use Rattle.ps_program.specs.VerifyingTlsf.{AnswersVerifyTlsf, LosesSpecified}
+use Rattle.ps_program.specs.VerifyingTlsf.{AnswersVerifyTlsf, LosesSpecified, WinsSpecified}
 
 abbrev pub ReadsLosing : Type 0
 ReadsLosing = (order : Order) (role : Role) (file : FileData) (c : CircuitData) (s : StimulusData) →
@@ -87,8 +88,15 @@ VerifiesCircuits solver = (order : Order) (text texts : List ℕ) (s : Synthesis
 abbrev pub VerifiesSmaller : Type 0
 VerifiesSmaller = (order : Order) (role : Role) (file : FileData) (c : CircuitData) (text texts : List ℕ)
     (reply : Reply) (outcome : Result Reply (List ℕ)) → ReadsAutomaton text (Ok file) →
-    IsSmallerReply order role file c reply → CutsInTwo texts (Ok (text, reply.text)) →
+    IsSmallerReply (IsWinning order role file) c reply → CutsInTwo texts (Ok (text, reply.text)) →
     AnswersVerify order role texts outcome ↔ (outcome ≡ Ok wins_reply)
+
+-- `texts` are the text of a specification, and the smaller circuit that `shrink --tlsf` prints for it and a circuit
+abbrev pub VerifiesSmallerSpecified : Type 0
+VerifiesSmallerSpecified = (role : Role) (spec : Specification) (c : CircuitData) (text texts : List ℕ)
+    (reply : Reply) (outcome : Result Reply (List ℕ)) → ReadsSpecificationText text (Ok spec) →
+    IsSmallerReply (WinsSpecified role spec) c reply → CutsInTwo texts (Ok (text, reply.text)) →
+    AnswersVerifyTlsf role texts outcome ↔ (outcome ≡ Ok wins_reply)
 
 -- `texts` are the text of a specification, and a circuit that `synth --tlsf` prints for it
 abbrev pub VerifiesWinners : Type 0

@@ -28,6 +28,7 @@ pub mod SynthesisTlsf
 pub mod Texts
 pub mod TranslationTexts
 pub mod Shrinking
+pub mod ShrinkingTlsf
 pub mod Verifying
 pub mod VerifyingTlsf
 pub mod Watched

@@ -3,8 +3,8 @@ use Rattle.std.specs.Prelude.{◌≡◌, ◌≤◌, ◌<◌, ◌⊎◌, ℕ, Boo
 use Rattle.std.specs.Io.KnownBytes.{Appends}
 use Rattle.ps_program.specs.declared.commands.Line.{Line}
 use Rattle.ps_program.specs.declared.commands.Line.TheVariants.{Refused, Help, Closed, Check, Judge, Sim, Lasso}
-use Rattle.ps_program.specs.declared.commands.Line.TheVariants.{LassoTlsf, Verify, VerifyTlsf, Shrink, Solve, Game}
-use Rattle.ps_program.specs.declared.commands.Line.TheVariants.{Agree, Translate}
+use Rattle.ps_program.specs.declared.commands.Line.TheVariants.{LassoTlsf, Verify, VerifyTlsf, Shrink, ShrinkTlsf}
+use Rattle.ps_program.specs.declared.commands.Line.TheVariants.{Agree, Game, Solve, Translate}
 use Rattle.ps_program.specs.declared.commands.Line.TheVariants.{Cert, Synth, SynthTlsf}
 use Rattle.ps_specification.specs.Translating.{own_translator}
 use Rattle.ps_program.specs.CommandLine.{IsLine}
@@ -19,6 +19,7 @@ use Rattle.ps_program.specs.Outcomes.{printed}
 use Rattle.ps_program.specs.Replies.{Reply, usage, help, read_fault, out_of_memory}
 use Rattle.ps_program.specs.Satisfying.{AnswersLassoTlsf}
 use Rattle.ps_program.specs.Shrinking.{AnswersShrink}
+use Rattle.ps_program.specs.ShrinkingTlsf.{AnswersShrinkTlsf}
 use Rattle.ps_program.specs.Simulating.{AnswersSim}
 use Rattle.ps_program.specs.Solvers.{Solvers}
 use Rattle.ps_program.specs.Solving.{AnswersSolve}
@@ -43,6 +44,7 @@ AnswersLine solvers (LassoTlsf role) texts outcome = AnswersLassoTlsf role texts
 AnswersLine solvers (Verify order role) texts outcome = AnswersVerify order role texts outcome
 AnswersLine solvers (VerifyTlsf role) texts outcome = AnswersVerifyTlsf role texts outcome
 AnswersLine solvers (Shrink order role) texts outcome = AnswersShrink order role texts outcome
+AnswersLine solvers (ShrinkTlsf role) texts outcome = AnswersShrinkTlsf role texts outcome
 AnswersLine solvers Agree texts outcome = AnswersAgree texts outcome
 AnswersLine solvers Translate text outcome = AnswersTranslate own_translator text outcome
 AnswersLine solvers (Solve compact) texts outcome = AnswersSolve solvers.built_in compact texts outcome

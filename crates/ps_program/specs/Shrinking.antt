@@ -6,7 +6,7 @@ use Rattle.ps_circuit.specs.Texts.{ReadsCircuit}
 use Rattle.ps_circuit.specs.Written.{text_of}
 use Rattle.ps_hoa.specs.Files.{FileData}
 use Rattle.ps_machine.specs.declared.key.Order.{Order}
-use Rattle.ps_shrink.specs.Reductions.{IsSmallerWinner}
+use Rattle.ps_shrink.specs.Reductions.{IsSmallerBy}
 use Rattle.ps_simulate.specs.Stimuli.{StimulusData}
 use Rattle.ps_simulate.specs.declared.role.Role.{Role}
 use Rattle.ps_verify.specs.Judgements.{IsLosing, IsWinning}
@@ -17,19 +17,23 @@ use Rattle.ps_program.specs.Texts.{CutsInTwo, ReadsCircuitText}
 use Rattle.ps_program.specs.Verifying.{IsProductLine, loses_reply}
 
 -- the reply is the text of a circuit that wins and is not larger than the circuit c; it is read as this circuit again
-pub record IsSmallerReply (order : Order) (role : Role) (file : FileData) (c : CircuitData) (reply : Reply) : Type 0
-  where
-    pub small : CircuitData
-    pub smaller : IsSmallerWinner order role file c small
-    pub reads : ReadsCircuit (text_of small) (Ok small)
-    pub is : reply ≡ text_reply (text_of small)
+pub record IsSmallerReply (Winning : CircuitData → Type 0) (c : CircuitData) (reply : Reply) : Type 0 where
+  pub small : CircuitData
+  pub smaller : IsSmallerBy Winning c small
+  pub reads : ReadsCircuit (text_of small) (Ok small)
+  pub is : reply ≡ text_reply (text_of small)
+
+-- the circuit wins, and the reply is a smaller one that wins too, or one of the same size; or the reply is a stimulus
+-- on which the circuit loses
+abbrev pub IsReducedTo : (CircuitData → Type 0) → (CircuitData → StimulusData → Type 0) → CircuitData → Reply → Type 0
+IsReducedTo Winning Losing c reply = (Winning c × IsSmallerReply Winning c reply)
+    ⊎ ((s : StimulusData) × Losing c s × (reply ≡ loses_reply s))
 
 -- what is printed for a circuit: a smaller one that wins too, or one of the same size; or a stimulus on which the
 -- circuit loses; or the line that reports why it can't be judged
 abbrev pub TellsReduction : Order → Role → FileData → CircuitData → Result Reply (List ℕ) → Type 0
-TellsReduction order role file c (Ok reply) = IsCircuit c
-    × ((IsWinning order role file c × IsSmallerReply order role file c reply)
-    ⊎ ((s : StimulusData) × IsLosing order role file c s × (reply ≡ loses_reply s)))
+TellsReduction order role file c (Ok reply) =
+    IsCircuit c × IsReducedTo (IsWinning order role file) (IsLosing order role file) c reply
 TellsReduction order role file c (Err line) = IsProductLine order role file c line
 
 -- parses a text as a circuit, and makes the circuit smaller

@@ -209,6 +209,21 @@ pub fn verify_given(flags: &ArgMatches) -> Line
     }
 }
 
+/// `shrink`, or with `--tlsf` the same by a specification; `--moore` is refused as by `verify`.
+pub fn shrink_given(flags: &ArgMatches) -> Line
+    ensures { result ≡ words.shrink_given (λ name. words.is_given name (rows_of (found_of flags.now))) }
+{
+    let role = role_given(flags);
+    let order = order_given(flags);
+    if !is_given(flags, TLSF_FLAG) {
+        Line::Shrink { order, role }
+    } else if is_given(flags, MOORE_FLAG) {
+        Line::Refused
+    } else {
+        Line::ShrinkTlsf(role)
+    }
+}
+
 /// `synth`, or with `--tlsf` the same for a specification. Other flags are refused with it: a specification states the
 /// order of moves, and only the circuit is printed.
 pub fn synth_given(flags: &ArgMatches) -> Line

@@ -18,6 +18,7 @@ pub mod judge;
 pub mod lasso;
 pub mod lasso_tlsf;
 pub mod shrink;
+pub mod shrink_tlsf;
 pub mod sim;
 pub mod solve;
 pub mod synth;
@@ -28,7 +29,7 @@ pub mod verify_tlsf;
 
 use crate::answer::{Answer, Refusal};
 use crate::command_line::{
-    is_given, lasso_given, order_given, role_given, synth_given, verify_given,
+    is_given, lasso_given, order_given, shrink_given, synth_given, verify_given,
 };
 use clap::ArgMatches;
 use ps_machine::{Order, Solver};
@@ -71,6 +72,8 @@ pub enum Line {
         order: Order,
         role: Role,
     },
+    /// The same by a specification.
+    ShrinkTlsf(Role),
     /// Whether an automaton accepts just the words that satisfy a specification.
     Agree,
     /// An automaton that does.
@@ -199,7 +202,8 @@ pub const ON_VERIFY: &str = "\
 /// Of `shrink`.
 pub const ON_SHRINK: &str = "\
 : is there a smaller circuit that wins too? One
-           that is not larger; or `loses`, and a stimulus; --env, --moore";
+           that is not larger; or `loses`, and a stimulus;
+           --env, --moore, --tlsf";
 
 /// Of `agree`.
 pub const ON_AGREE: &str = "\
@@ -297,10 +301,10 @@ const COMMANDS: &[Usage<'static>] = &[
     },
     Usage {
         name: "shrink",
-        flags: &[ENV_FLAG, MOORE_FLAG],
+        flags: &[ENV_FLAG, MOORE_FLAG, TLSF_FLAG],
         texts: &[TextKind::Automaton, TextKind::Circuit],
         added: &[],
-        replaced: &[],
+        replaced: &[(TLSF_FLAG, TextKind::Specification)],
         line: Line::Shrink {
             order: Order::Mealy,
             role: Role::Controller,
@@ -398,10 +402,7 @@ impl Line {
             },
             Line::Lasso(_) => lasso_given(flags),
             Line::Verify { .. } => verify_given(flags),
-            Line::Shrink { .. } => Line::Shrink {
-                order: order_given(flags),
-                role: role_given(flags),
-            },
+            Line::Shrink { .. } => shrink_given(flags),
             Line::Solve { .. } => Line::Solve {
                 compact: is_given(flags, COMPACT_FLAG),
             },
@@ -441,6 +442,7 @@ pub(crate) fn answer_line<S: Solver, T: Solver>(
         Line::Verify { order, role } => verify::verify(alloc, order, role, texts),
         Line::VerifyTlsf(role) => verify_tlsf::verify_tlsf(alloc, role, texts),
         Line::Shrink { order, role } => shrink::shrink(alloc, order, role, texts),
+        Line::ShrinkTlsf(role) => shrink_tlsf::shrink_tlsf(alloc, role, texts),
         Line::Agree => agree::agree(alloc, texts),
         Line::Translate => translate::translate(alloc, texts, &OwnTranslator),
         Line::Solve { compact } => solve::solve(alloc, texts, built_in, compact),

@@ -6,7 +6,8 @@ ghost use Rattle.ps_program.specs.Answered.{MayCertify, MayReplay};
 ghost use Rattle.ps_program.specs.Answered.{ArePrinted, HasSomeAnswer, HasSomeLine, HasSomeSolved, HasSomeSynthesis};
 ghost use Rattle.ps_program.specs.Determined.{HasOneAnswer, HasOneCertified, NeedsItsTexts};
 ghost use Rattle.ps_program.specs.Exchanged.{ChecksCertificates, ConfirmsLosing, ReadsLosing, ReadsLosingSpecified};
-ghost use Rattle.ps_program.specs.Exchanged.{VerifiesCircuits, VerifiesSmaller, VerifiesWinners};
+ghost use Rattle.ps_program.specs.Exchanged.{VerifiesCircuits, VerifiesSmaller, VerifiesSmallerSpecified};
+ghost use Rattle.ps_program.specs.Exchanged.{VerifiesWinners};
 ghost use Rattle.ps_program.specs.Solvers.{Solvers, solvers_of};
 
 /// What is known of two solvers: any two, so a type with an `impl` of this trait needs no values.
@@ -165,6 +166,16 @@ pub fn specified_circuits_are_verified()
     ensures { VerifiesWinners }
 {
     ps_circuit::one_answer();
+    ps_models::laws::judgement_is_one();
+}
+
+/// `verify --tlsf` answers `wins`, and nothing else, for each circuit that `shrink --tlsf` prints in place of one that
+/// wins, given the same specification and flags.
+pub fn smaller_specified_circuits_are_verified()
+    ensures { VerifiesSmallerSpecified }
+{
+    ps_circuit::one_answer();
+    ps_circuit::read_circuit_is_circuit();
     ps_models::laws::judgement_is_one();
 }
 

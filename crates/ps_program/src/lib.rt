@@ -9,7 +9,7 @@
 //! | `first_line`, `read_line` | an input, cut after its first line; what this asks for, as a [`Line`] |
 //! | `answer_to(input, built_in, replay)` | the [`Answer`] to an input: what is written, and the exit status |
 //! | `closed`, `check`, `judge`, `sim`, `lasso`, `verify`, `shrink`, `game` | answers without a solver |
-//! | `lasso_tlsf`, `verify_tlsf`, `agree`, `translate` | answers about a specification |
+//! | `lasso_tlsf`, `verify_tlsf`, `shrink_tlsf`, `agree`, `translate` | answers about a specification |
 //! | `solve`, `cert`, `synth`, `synth_tlsf` | answers by a solver |
 //! | `two_texts`, `read_game`, `read_game_of`, `certify`, `print`, `settle` | what these answers are made with |
 //! | `lines_are_read`, `missing_text_is_told` | laws: how command lines are read; a missing text is told |
@@ -20,7 +20,7 @@
 //! | `losing_stimulus_is_read` | a law: `lasso` reads the stimulus that `verify` prints |
 //! | `losing_stimulus_is_confirmed` | a law: `lasso --tlsf` confirms that of `verify --tlsf` |
 //! | `circuits_are_verified`, `smaller_circuits_are_verified` | laws: what `synth`, `shrink` print wins by `verify` |
-//! | `specified_circuits_are_verified` | a law: what `synth --tlsf` prints wins by `verify --tlsf` |
+//! | `specified_circuits_are_verified`, `smaller_specified_circuits_are_verified` | laws: the same with `--tlsf` |
 //! | `certificates_are_checked` | a law: printed 64-bit certificates are valid by `check` |
 //!
 //! The file `specs/Program.antt` defines the answer to an input, by command.
@@ -56,6 +56,7 @@ pub use commands::judge::judge;
 pub use commands::lasso::lasso;
 pub use commands::lasso_tlsf::lasso_tlsf;
 pub use commands::shrink::shrink;
+pub use commands::shrink_tlsf::shrink_tlsf;
 pub use commands::sim::sim;
 pub use commands::solve::{certify, solve};
 pub use commands::synth::synth;
@@ -70,7 +71,7 @@ pub use laws::{
     KnownSolvers, OwnSolvers, certificates_are_checked, circuits_are_verified,
     fitting_texts_are_printed, losing_stimulus_is_confirmed, losing_stimulus_is_read,
     missing_text_is_told, one_answer, own_solvers_may_answer, smaller_circuits_are_verified,
-    some_answer, specified_circuits_are_verified,
+    smaller_specified_circuits_are_verified, some_answer, specified_circuits_are_verified,
 };
 pub use printing::print;
 pub use program::answer_to;

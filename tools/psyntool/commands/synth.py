@@ -99,8 +99,6 @@ def smaller(request, text, answer, passed):
         return answer
     from psyntool import shrinking
 
-    if text.kind is Kind.SPECIFICATION:
-        return shrinking.by_sentences(request, text, answer)
     return shrinking.in_answer(request, text, answer, passed)
 
 

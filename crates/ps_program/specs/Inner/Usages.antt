@@ -1,8 +1,8 @@
 -- The table of commands in the code.
 use Rattle.std.specs.Prelude.{Bool, map}
 use Rattle.clap.specs.Words.{Text}
-use Rattle.ps_program.specs.CommandLine.{Usage, compact_flag, lasso_given, order_given, role_given}
-use Rattle.ps_program.specs.CommandLine.{synth_line_given, verify_given}
+use Rattle.ps_program.specs.CommandLine.{Usage, compact_flag, lasso_given, order_given}
+use Rattle.ps_program.specs.CommandLine.{shrink_given, synth_line_given, verify_given}
 use Rattle.ps_program.specs.declared.commands.Line.{Line}
 use Rattle.ps_program.specs.declared.commands.Line.TheVariants.{Judge, Lasso, Verify, Shrink, Solve, Game}
 use Rattle.ps_program.specs.declared.commands.Line.TheVariants.{Cert, Synth}
@@ -13,7 +13,7 @@ abbrev pub with_flags : Line → (Text → Bool) → Line
 with_flags (Judge compact) given = Judge (given compact_flag)
 with_flags (Lasso role) given = lasso_given given
 with_flags (Verify order role) given = verify_given given
-with_flags (Shrink order role) given = Shrink (order_given given) (role_given given)
+with_flags (Shrink order role) given = shrink_given given
 with_flags (Solve compact) given = Solve (given compact_flag)
 with_flags (Game order) given = Game (order_given given)
 with_flags (Cert order compact) given = Cert (order_given given) (given compact_flag)

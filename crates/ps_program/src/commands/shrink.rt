@@ -22,7 +22,7 @@ use ps_simulate::Role;
 use std::alloc::Global;
 
 /// How many changes are tried.
-const STEPS: u32 = 100_000;
+pub const STEPS: u32 = 100_000;
 
 /// A circuit that wins and is not larger than the given one; if that loses, a stimulus on which it does. Fails as
 /// `verify` does.

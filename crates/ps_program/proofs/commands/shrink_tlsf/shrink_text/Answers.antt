@@ -1,0 +1,11 @@
+use Rattle.ps_tlsf.specs.SpecificationViews.{specification_data}
+use Rattle.ps_program.specs.Replies.{reply_of}
+use Rattle.ps_program.specs.Texts.{ReadsCircuitText}
+use Rattle.ps_program.specs.ShrinkingTlsf.{TellsReductionFor}
+use Rattle.ps_program.proofs.OutcomeLemmas.{gives_after}
+use Rattle.ps_program.proofs.commands.shrink_tlsf.shrink_text.Goals as goal
+
+pub returns : goal.returns
+returns c = gives_after (ReadsCircuitText c.args.aag.now) reply_of
+    (TellsReductionFor c.args.role (specification_data c.args.specification.now)) c.in_ok-circuit.circuit c.tell.result
+    c.in_ok-circuit.ensures c.tell.ensures
