@@ -1,5 +1,5 @@
 -- The answer of `agree` is determined, except for the lasso on which automaton and specification differ.
-use Rattle.std.proofs.Common.{◌≡◌, ◌⊎◌, ◌∙◌, ℕ, List, Result, Ok, Err, ap, inl, inr, refl, subst, sym}
+use Rattle.std.proofs.Common.{◌≡◌, ◌⊎◌, ◌∙◌, ℕ, List, Result, Ok, Err, ap, inl, inr, refl, sym}
 use Rattle.std.specs.Prelude.{length}
 use Rattle.ps_hoa.specs.Files.{FileData}
 use Rattle.ps_models.specs.Agreements.{ArePropositionsOf, IsAgreeing, IsAgreementOf}

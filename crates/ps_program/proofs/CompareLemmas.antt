@@ -1,5 +1,5 @@
 -- The results of parsing the specification and the automaton determine the possible results of the command `agree`.
-use Rattle.std.proofs.Common.{◌≡◌, ℕ, List, Result, Ok, Err, inl, refl, subst, sym}
+use Rattle.std.proofs.Common.{ℕ, List, Result, Ok, Err, inl, refl, subst, sym}
 use Rattle.ps_automaton.specs.Automata.{AutomatonData, IsBuiltFrom}
 use Rattle.ps_automaton.specs.Chains.{Chain}
 use Rattle.ps_hoa.specs.Files.{FileData}

@@ -1,5 +1,5 @@
 -- Two answers of `synth --tlsf` to a specification show circuits of the same role, or one of them reports a fault.
-use Rattle.std.proofs.Common.{arith, ◌≡◌, ◌⊎◌, ◌∙◌, ℕ, List, None, Result, Ok, Err, Some, ap, inl, inr, refl, subst}
+use Rattle.std.proofs.Common.{◌≡◌, ◌⊎◌, ◌∙◌, ℕ, List, Result, Ok, Err, Some, ap, inl, inr, refl, subst}
 use Rattle.std.proofs.Common.{sym}
 use Rattle.ps_text.specs.Answers.{Found}
 use Rattle.ps_circuit.specs.Circuits.{CircuitData}
@@ -17,9 +17,9 @@ use Rattle.ps_tlsf.specs.declared.fault.TlsfCause.{TlsfCause}
 use Rattle.ps_program.specs.Determined.{AgreeInRole, IsFaultReply}
 use Rattle.ps_program.specs.Outcomes.{printed}
 use Rattle.ps_program.specs.Replies.{Reply}
-use Rattle.ps_program.specs.SynthesisTlsf.{AnswersSpecification, AnswersSynthTlsf, specification_line, winner_reply}
+use Rattle.ps_program.specs.SynthesisTlsf.{AnswersSynthTlsf, specification_line, winner_reply}
 use Rattle.ps_program.specs.Texts.{ReadsSpecificationText}
-use Rattle.ps_program.proofs.OneStep.{err_of, ok_is_not_err}
+use Rattle.ps_program.proofs.OneStep.{err_of}
 
 -- a law of another crate, on which this file relies: no specification has both a controller and an environment that win
 abbrev pub NotBothPlayers : Type 0

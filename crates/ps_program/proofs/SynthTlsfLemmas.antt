@@ -1,13 +1,9 @@
 -- The result of synthesis for a specification determines the possible results of the command `synth --tlsf`.
-use Rattle.std.proofs.Common.{◌≡◌, ℕ, true, List, Result, Ok, Err, refl, inl, inr}
-use Rattle.ps_circuit.specs.Circuits.{CircuitData}
-use Rattle.ps_circuit.specs.Written.{text_of}
+use Rattle.std.proofs.Common.{◌≡◌, ℕ, true, List, Err, refl, inl}
 use Rattle.ps_machine.specs.Solvers.{SolverData, answers_now}
-use Rattle.ps_simulate.specs.declared.role.Role.{Role}
 use Rattle.ps_specification.specs.Faults.{IsSpecificationFault, IsSureSpecificationFault}
 use Rattle.ps_specification.specs.Translating.{MayGive}
 use Rattle.ps_specification.specs.declared.fault.SpecificationFault.{SpecificationFault}
-use Rattle.ps_synthesis.specs.Printing.{PrintsCircuit}
 use Rattle.ps_program.specs.declared.answer.Answer.{Answer}
 use Rattle.ps_program.specs.declared.answer.Refusal.{Refusal}
 use Rattle.ps_program.specs.declared.answer.Refusal.TheVariants as refusal

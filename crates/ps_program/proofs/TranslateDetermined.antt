@@ -1,5 +1,5 @@
 -- Two answers of `translate` to a specification are texts of automata that agree with it, or one of them reports a fault.
-use Rattle.std.proofs.Common.{arith, ◌≡◌, ◌⊎◌, ◌∙◌, ℕ, List, Result, Ok, Err, Some, ap, inl, inr, refl, sym}
+use Rattle.std.proofs.Common.{◌≡◌, ◌⊎◌, ◌∙◌, ℕ, List, Result, Ok, Err, Some, ap, inl, inr, refl, sym}
 use Rattle.ps_text.specs.Answers.{Found}
 use Rattle.ps_specification.specs.Translating.{MayGive}
 use Rattle.ps_specification.specs.TranslationFaults.{IsTranslationFault}
