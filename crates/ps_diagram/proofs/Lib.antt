@@ -12,6 +12,9 @@ pub mod LeafTables
 pub mod Letters
 pub mod Clashing
 pub mod Literals
+pub mod LetterSums
+pub mod Hiding
+pub mod HiddenLetters
 pub mod Seeing
 pub mod Spreading
 pub mod Mapping

@@ -16,7 +16,7 @@ use Rattle.ps_diagram.specs.declared.products.Product.{Product}
 pub in_or : (p a b : ℕ) → is_in p (bit_or a b) ≡ (is_in p a || is_in p b)
 in_or p a b = grind (arith, bit_at_or a b p, bit_at-lt a p, bit_at-lt b p)
 
-in_power : (p m : ℕ) → is_in p (2 ^ m) ≡ nat_eq p m
+pub in_power : (p m : ℕ) → is_in p (2 ^ m) ≡ nat_eq p m
 in_power p m = grind (arith, bit_at-pow_same m, bit_at-pow_other m p)
 
 in_more : (q p bits : ℕ) → p < 64 → is_in q (bit_or bits (1 * 2 ^ p % 2 ^ 64)) ≡ (is_in q bits || nat_eq q p)

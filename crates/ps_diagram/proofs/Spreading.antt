@@ -33,11 +33,9 @@ pub unread : (n mask : ℕ) (a : Tree) → IsFrom 0 n a → mask < 2 ^ root_of n
 unread n mask a from small f g = blind-from (root_of n a) n a (from_own_root n a from) (mixed mask f g) g
     (λ q le. rw (no_bit (root_of n a) mask q small le) refl)
 
--- a node of the table s that reads no proposition of the mask is its own cofactor in a table that keeps the nodes of s
-pub unread_cofactor : {s t : Table} (mask letter : ℕ) {node : ℕ} → Keeps s t → IsNode s node →
-    IsUnread mask (tree_of s node) → IsCofactor mask letter (tree_of s node) (tree_of t node)
-unread_cofactor {s} mask letter {node} k held h g =
-    rw (k.same node held) (sym (h (assignment letter) g))
+-- a tree that reads no proposition of the mask is its own cofactor
+pub unread_cofactor : (mask letter : ℕ) (a : Tree) → IsUnread mask a → IsCofactor mask letter a a
+unread_cofactor mask letter a h g = sym (h (assignment letter) g)
 
 pub unread_divided : {s t u : Table} (mask : ℕ) {node place : ℕ} {d : Tree} → Keeps s t → Keeps t u → IsNode s node →
     IsUnread mask (tree_of s node) → place ≡ node → d ≡ final place → IsDivided u mask (tree_of s node) d
@@ -70,12 +68,12 @@ cofactor_in mask letter p false a al ah d is bit test h g =
 
 -- the cofactor of a test is made of the cofactors of its sides, which are made one after the other while the table
 -- grows
-pub cofactor_sides : {E : Type 0} {s t u v w : Table} (mask letter : ℕ) {a p al ah low high made : ℕ} →
-    is_in p mask ≡ false → IsSides s a p al ah →
-    MakesTree {E = E} t u (Ok low) (IsCofactor mask letter (tree_of s al)) →
-    MakesTree {E = E} u v (Ok high) (IsCofactor mask letter (tree_of s ah)) →
+pub cofactor_sides : {E : Type 0} {t u v w : Table} (mask letter : ℕ) {a p al ah low high made : ℕ} →
+    is_in p mask ≡ false → IsSides t a p al ah →
+    MakesTree {E = E} t u (Ok low) (IsCofactor mask letter (tree_of t al)) →
+    MakesTree {E = E} u v (Ok high) (IsCofactor mask letter (tree_of u ah)) →
     MakesTree {E = E} v w (Ok made) (IsTestOf p (tree_of v low) (tree_of v high)) →
-    MakesTree {E = E} t w (Ok made) (IsCofactor mask letter (tree_of s a))
+    MakesTree {E = E} t w (Ok made) (IsCofactor mask letter (tree_of t a))
 cofactor_sides mask letter isnt sides l h test = by-sides l h test (λ g. rw (
   sides.leaf (mixed mask (assignment letter) g),
   test.leaf g,
@@ -83,6 +81,7 @@ cofactor_sides mask letter isnt sides l h test = by-sides l h test (λ g. rw (
   h.keeps.same _ l.held,
   l.leaf g,
   h.leaf g,
+  l.keeps.same _ sides.high_held,
 ) refl)
 
 -- ## All letters

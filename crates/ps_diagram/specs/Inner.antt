@@ -2,6 +2,7 @@
 
 pub mod Chosen
 pub mod Composed
+pub mod Hiding
 pub mod Kept
 pub mod Known
 pub mod LeafTables

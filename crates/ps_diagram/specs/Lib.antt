@@ -11,4 +11,5 @@ pub mod Views
 pub mod Reached
 pub mod Classes
 pub mod Composing
+pub mod Hidden
 pub mod Inner

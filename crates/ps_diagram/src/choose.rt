@@ -38,7 +38,8 @@ impl Store {
         self.chosen(truth, one, other, &mut known)
     }
 
-    fn chosen(
+    /// The same, by the results that `known` has.
+    pub(crate) fn chosen(
         &mut self,
         truth: Node,
         one: Node,

@@ -59,29 +59,27 @@ impl Store {
     {
         let _ = other.allocator();
         let mut known = Memo::new(self.allocator());
-        let rest = self.cofactor(other, node, split, letter, &mut known)?;
+        let rest = self.cofactor(node, split, letter, &mut known)?;
         self.intern(View::Leaf(rest.place as u64))
     }
 
-    /// The diagram of a node of `other`, with the propositions of `split` fixed as in `letter`.
-    fn cofactor(
+    /// The diagram of a node, with the propositions of `split` fixed as in `letter`.
+    pub(crate) fn cofactor(
         &mut self,
-        other: &Store,
         node: Node,
         split: u64,
         letter: u64,
         known: &mut Memo<Node>,
     ) -> Result<Node, AllocError>
-        requires lent { IsLent self.old other.now node }
-        requires kept { Keeps other.now self.old }
-        requires known { Knows (IsCofactor split letter) other.now self.old (result_for nat_eq known.old.table) }
-        ensures made { MakesTree self.old self.new result (IsCofactor split letter (tree_of other.now node)) }
-        ensures known { Knows (IsCofactor split letter) other.now self.new (result_for nat_eq known.new.table) }
+        requires held { IsNode self.old node }
+        requires known { Knows (IsCofactor split letter) self.old self.old (result_for nat_eq known.old.table) }
+        ensures made { MakesTree self.old self.new result (IsCofactor split letter (tree_of self.old node)) }
+        ensures known { Knows (IsCofactor split letter) self.new self.new (result_for nat_eq known.new.table) }
     {
-        if other.is_shared(node, split) {
+        if self.is_shared(node, split) {
             return Ok(node);
         }
-        match other.cell(node) {
+        match self.cell(node) {
             View::Nothing => self.constant(None),
             View::Leaf(value) => self.constant(Some(value)),
             View::Test {
@@ -91,15 +89,15 @@ impl Store {
             } => {
                 if split >> proposition & 1 == 1 {
                     if letter >> proposition & 1 == 1 {
-                        return self.cofactor(other, high, split, letter, known);
+                        return self.cofactor(high, split, letter, known);
                     }
-                    return self.cofactor(other, low, split, letter, known);
+                    return self.cofactor(low, split, letter, known);
                 }
                 if let Some(made) = known.get(node) {
                     return Ok(made);
                 }
-                let low = self.cofactor(other, low, split, letter, known)?;
-                let high = self.cofactor(other, high, split, letter, known)?;
+                let low = self.cofactor(low, split, letter, known)?;
+                let high = self.cofactor(high, split, letter, known)?;
                 let made = self.test(proposition, low, high)?;
                 known.put(node, made)?;
                 Ok(made)

@@ -25,6 +25,10 @@
 //! | `relabel_or(node, values, other)` | as `relabel`, but `other` where the node has none |
 //! | `relabel_from(other, node, values)` | as `relabel`, for a node of another store |
 //! | `composed_from(other, node, truths)` | that of a node of another store at the letter that the truths form |
+//! | `selected(node, value)` | 1 where the node has the leaf `value`, else none |
+//! | `projected(node, hidden)` | 1 if the node has a leaf for some values of the hidden propositions, else none |
+//! | `least_letters(node, hidden)` | the least letter over the hidden propositions that gives the node a leaf; none if no letter |
+//! | `behind(node, fixed, letter)` | the node's at the letter, but with the fixed propositions as in `letter` |
 //!
 //! These calls keep every node of the store with its leaves, even if they fail (`Keeps`). So does
 //! `classes(node, split)`, which divides the letters over the propositions of `split` into classes: two are in one
@@ -55,6 +59,7 @@ mod cofactors;
 mod composed;
 mod disjunction;
 mod fault;
+mod hidden;
 mod interning;
 mod labels;
 mod leaf_table;

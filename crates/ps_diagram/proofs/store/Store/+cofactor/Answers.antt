@@ -2,7 +2,7 @@ use Rattle.std.proofs.Common.{arith, sym, nat_eq, refl, rules}
 use Rattle.ps_diagram.specs.Inner.Kept.{result_for}
 use Rattle.ps_diagram.specs.Inner.Rests.{IsCofactor}
 use Rattle.ps_diagram.proofs.Alone.{bit_false}
-use Rattle.ps_diagram.proofs.Cells.{keeps_refl}
+use Rattle.ps_diagram.specs.Table.{tree_of}
 use Rattle.ps_diagram.proofs.KnownLemmas.{keeps_three, kept, knows_kept, knows_more}
 use Rattle.ps_diagram.proofs.Sides.{sides_of_test}
 use Rattle.ps_diagram.proofs.Spreading.{cofactor_blind, cofactor_sides, unread_cofactor}
@@ -26,10 +26,11 @@ returns-in_err-put-in-Test-clause-made t c = fails
 
 pub returns-in_err-put-in-Test-clause-known : goal.returns-in_err-put-in-Test-clause-known
 returns-in_err-put-in-Test-clause-known t c =
-    let other = c.args.other.now in
-    rw c.in_err-put-in-Test.ensures.err (knows_kept (IsCofactor c.args.split c.args.letter) other other
-    c.cofactor-in-Test-2.new.self c.test.new.self (result_for nat_eq c.cofactor-in-Test-2.new.known.table)
-    (keeps_refl other) c.test.ensures.keeps c.cofactor-in-Test-2.ensures.known)
+    let mid = c.cofactor-in-Test-2.new.self in
+    let last = c.test.new.self in
+    let k = c.test.ensures.keeps in
+    rw c.in_err-put-in-Test.ensures.err (knows_kept (IsCofactor c.args.split c.args.letter) mid last mid last
+    (result_for nat_eq c.cofactor-in-Test-2.new.known.table) k k c.cofactor-in-Test-2.ensures.known)
 
 pub returns-in_err-made-in-Test-clause-made : goal.returns-in_err-made-in-Test-clause-made
 returns-in_err-made-in-Test-clause-made t c = fails
@@ -38,10 +39,11 @@ returns-in_err-made-in-Test-clause-made t c = fails
 
 pub returns-in_err-made-in-Test-clause-known : goal.returns-in_err-made-in-Test-clause-known
 returns-in_err-made-in-Test-clause-known t c =
-    let other = c.args.other.now in
-    knows_kept (IsCofactor c.args.split c.args.letter) other other c.cofactor-in-Test-2.new.self c.test.new.self
-    (result_for nat_eq c.cofactor-in-Test-2.new.known.table) (keeps_refl other) c.test.ensures.keeps
-    c.cofactor-in-Test-2.ensures.known
+    let mid = c.cofactor-in-Test-2.new.self in
+    let last = c.test.new.self in
+    let k = c.test.ensures.keeps in
+    knows_kept (IsCofactor c.args.split c.args.letter) mid last mid last
+    (result_for nat_eq c.cofactor-in-Test-2.new.known.table) k k c.cofactor-in-Test-2.ensures.known
 
 pub returns-in_ok-put-in-Test-clause-made : goal.returns-in_ok-put-in-Test-clause-made
 returns-in_ok-put-in-Test-clause-made t c = cofactor_sides c.args.split c.args.letter
@@ -51,16 +53,17 @@ returns-in_ok-put-in-Test-clause-made t c = cofactor_sides c.args.split c.args.l
 
 pub returns-in_ok-put-in-Test-clause-known : goal.returns-in_ok-put-in-Test-clause-known
 returns-in_ok-put-in-Test-clause-known t c =
-    let other = c.args.other.now in
+    let rest = IsCofactor c.args.split c.args.letter in
+    let mid = c.cofactor-in-Test-2.new.self in
     let last = c.test.new.self in
+    let k = c.test.ensures.keeps in
     let was = result_for nat_eq c.cofactor-in-Test-2.new.known.table in
-    knows_more (IsCofactor c.args.split c.args.letter) other last was (result_for nat_eq c.put.new.self.table)
-    c.put.ensures.put (knows_kept (IsCofactor c.args.split c.args.letter) other other c.cofactor-in-Test-2.new.self last
-    was (keeps_refl other) c.test.ensures.keeps c.cofactor-in-Test-2.ensures.known) c.requires.lent.held
-    c.in_ok-made-in-Test.ensures.held (returns-in_ok-put-in-Test-clause-made t c).leaf
+    let made = returns-in_ok-put-in-Test-clause-made t c in
+    knows_more rest last last was (result_for nat_eq c.put.new.self.table) c.put.ensures.put
+    (knows_kept rest mid last mid last was k k c.cofactor-in-Test-2.ensures.known)
+    (made.keeps.held _ c.requires.held) made.held
+    (kept (λ u. rest u (tree_of last c.in_ok-made-in-Test.made)) made.keeps c.requires.held made.leaf)
 
 pub returns-then-is_shared-clause-made : goal.returns-then-is_shared-clause-made
-returns-then-is_shared-clause-made t c =
-    let keeps = c.requires.kept in
-    gives (keeps.held _ c.requires.lent.held) (unread_cofactor c.args.split c.args.letter keeps c.requires.lent.held
-    (c.if-is_shared.ensures refl))
+returns-then-is_shared-clause-made t c = gives c.requires.held
+    (unread_cofactor c.args.split c.args.letter (tree_of c.args.self.now c.args.node) (c.if-is_shared.ensures refl))

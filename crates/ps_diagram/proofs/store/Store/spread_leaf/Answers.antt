@@ -17,4 +17,4 @@ returns-clause-made c =
     (rw c.requires.lent.letters (c.allocator.ensures.sound.ordered c.args.node c.requires.lent.held))
     (k.held _ rest.held)
     (kept (IsCofactor c.args.split c.args.letter (tree_of other c.args.node)) k rest.held
-    rest.leaf) (is ∙ ap final c.rest.view_is)) c.intern.ensures
+    (rw (c.requires.kept.same _ c.requires.lent.held) at rest.leaf)) (is ∙ ap final c.rest.view_is)) c.intern.ensures

@@ -1,0 +1,8 @@
+use Rattle.ps_diagram.proofs.Cells.{keeps_refl}
+use Rattle.ps_diagram.proofs.HiddenLetters.{is_projection}
+use Rattle.ps_diagram.proofs.MadeDiagrams.{by-last}
+use Rattle.ps_diagram.proofs.store.Store.projected.Goals as goal
+
+pub returns : goal.returns
+returns c = by-last (keeps_refl c.args.self.now)
+    (λ made h. is_projection c.args.hidden c.args.node c.allocator.ensures.sound c.requires.held made h) c.hidden_by.ensures.made
