@@ -24,7 +24,6 @@ use crate::refusal::{fault_at, refused};
 use crate::rows::Rows;
 use crate::signs::{expect, is_name};
 use crate::tokens::{Kind, Token, Tokens};
-use crate::usual::Usual;
 use ps_label::Label;
 use std::alloc::Global;
 
@@ -189,7 +188,7 @@ fn state_label(
         return Ok(None);
     }
     expect(tokens, Kind::LeftBracket)?;
-    let label = label_in_brackets(alloc, tokens, header, Usual::new())?;
+    let label = label_in_brackets(alloc, tokens, header)?;
     Ok(Some(label))
 }
 

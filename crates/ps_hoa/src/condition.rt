@@ -15,9 +15,6 @@ use crate::signs::{expect, int_of};
 use crate::tokens::{Kind, Token, Tokens, is_same};
 use std::alloc::{AllocError, Global};
 
-/// The number of operands for which space is made at first.
-const SPACE: usize = 4;
-
 /// An acceptance condition (HOA v1, acceptance): a Boolean combination of statements that a run visits a set of edges
 /// infinitely often, or only finitely often.
 #[derive(Debug, Drop)]
@@ -94,7 +91,7 @@ impl Infix for Conditions {
         _connective: Connective,
         first: Cond,
     ) -> Result<Vec<Cond>, AllocError> {
-        infix::begun(alloc, first, SPACE)
+        infix::begun(alloc, first)
     }
 
     fn add(&self, _alloc: Global, operands: &mut Vec<Cond>, next: Cond) -> Result<(), AllocError> {

@@ -22,7 +22,6 @@ use crate::marks::Marks;
 use crate::refusal::{fault_at, refused};
 use crate::signs::{expect, int_of};
 use crate::tokens::{Kind, Token, Tokens};
-use crate::usual::Usual;
 use ps_label::Label;
 use std::alloc::Global;
 
@@ -115,7 +114,7 @@ fn labelled_edge(
         (row_data row.old)) tokens.old result tokens.new }
 {
     bracket(tokens, before, row)?;
-    let label = label_in_brackets(alloc, tokens, header, usual_in(row))?;
+    let label = label_in_brackets(alloc, tokens, header)?;
     let target = labelled_target(tokens, header)?;
     let marks = marks(alloc, tokens, header)?;
     row.edges.push(Edge {
@@ -180,28 +179,16 @@ fn bracket_of(token: Token, before: usize, row: &Row) -> Result<(), HoaFault>
     }
 }
 
-/// How many operands to make space for in the next label.
-fn usual_in(row: &Row) -> Usual {
-    match row.edges.last() {
-        Some(edge) => match &edge.guard {
-            Guard::Stated(label) => Usual::after(label),
-            _ => Usual::new(),
-        },
-        None => Usual::new(),
-    }
-}
-
 /// Parses what follows the `[` of a label.
 pub(crate) fn label_in_brackets(
     alloc: Global,
     tokens: &mut Tokens,
     header: &Header,
-    usual: Usual,
 ) -> Result<Label, HoaFault>
     ensures { ReadsAs (λ label. Some (expression label)) (parts.label_in_brackets (header_data header.now)) tokens.old
         result tokens.new }
 {
-    let scope = header.scope(usual);
+    let scope = header.scope();
     let label = label(alloc, tokens, &scope)?;
     expect(tokens, Kind::RightBracket)?;
     Ok(label)

@@ -8,7 +8,6 @@ use crate::condition::Cond;
 use crate::indices::Indices;
 use crate::names::{Names, Scope};
 use crate::propositions::Propositions;
-use crate::usual::Usual;
 use ps_label::Label;
 use std::alloc::Global;
 
@@ -66,13 +65,12 @@ impl<'a> Header<'a> {
     }
 
     /// What a label of the body may use.
-    pub(crate) fn scope(&self, usual: Usual) -> Scope<'_, 'a>
+    pub(crate) fn scope(&self) -> Scope<'_, 'a>
         ensures { result ≡ body_scope (header_data self.now) }
     {
         Scope {
             aliases: &self.alias_names,
             propositions: Some(self.propositions()),
-            usual,
         }
     }
 }

@@ -16,6 +16,9 @@ use std::alloc::{AllocError, Global};
 /// The greatest depth to which `!` and `(` may be nested.
 const NESTING_LIMIT: usize = 256;
 
+/// The number of operands of a row for which space is made at first.
+pub(crate) const SPACE: usize = 4;
+
 /// A connective; `&` binds tighter than `|`.
 #[derive(Clone, Copy)]
 pub(crate) enum Connective {
@@ -127,12 +130,12 @@ fn row<G: Infix>(
     Ok(grammar.together(alloc, connective, operands)?)
 }
 
-/// The first operand, with space for `count`.
+/// The first operand of a row, with space for more.
 #[inline(always)]
-pub(crate) fn begun<V: Drop>(alloc: Global, first: V, count: usize) -> Result<Vec<V>, AllocError>
+pub(crate) fn begun<V: Drop>(alloc: Global, first: V) -> Result<Vec<V>, AllocError>
     ensures { IfOk result (λ operands. operands.items ≡ first ∷ []) }
 {
-    let mut operands = Vec::with_capacity(alloc, count)?;
+    let mut operands = Vec::with_capacity(alloc, SPACE)?;
     operands.push(first)?;
     Ok(operands)
 }

@@ -24,7 +24,6 @@ use crate::refusal::{begins_capital, fault_at, refused};
 use crate::signs::{int, is_kind, start_state};
 use crate::skipped::{name, other, tool};
 use crate::tokens::{Kind, Token, Tokens, is_same};
-use crate::usual::Usual;
 use ps_label::Label;
 use std::alloc::Global;
 
@@ -261,7 +260,6 @@ fn header_label(alloc: Global, tokens: &mut Tokens, names: &Names) -> Result<Lab
     let scope = Scope {
         aliases: names,
         propositions: None,
-        usual: Usual::new(),
     };
     label(alloc, tokens, &scope)
 }

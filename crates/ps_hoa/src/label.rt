@@ -65,12 +65,12 @@ impl Infix for Scope<'_, '_> {
         connective: Connective,
         first: Label,
     ) -> Result<Operands, AllocError> {
-        Operands::new(alloc, connective, first, self.usual.count(connective))
+        Operands::new(alloc, connective, first)
     }
 
     #[inline(always)]
     fn add(&self, alloc: Global, operands: &mut Operands, next: Label) -> Result<(), AllocError> {
-        operands.push(alloc, next, self.usual.count(Connective::And))
+        operands.push(alloc, next)
     }
 
     #[inline(always)]

@@ -51,7 +51,6 @@ mod rows;
 mod signs;
 mod skipped;
 pub mod tokens;
-mod usual;
 
 pub use condition::Cond;
 pub use fault::{HoaCause, HoaFault};

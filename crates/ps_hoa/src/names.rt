@@ -3,7 +3,6 @@
 ghost use Rattle.std.specs.Prelude.{◌≡◌, ◌++◌, ◌∷◌, [], None, OnOk, OnErr, length};
 ghost use Rattle.ps_hoa.specs.Labels.{alias_number};
 
-use crate::usual::Usual;
 use std::alloc::{AllocError, Global};
 use std::collections::BTreeMap;
 use std::marker::Model;
@@ -73,8 +72,6 @@ pub(crate) struct Scope<'s, 'a> {
     pub(crate) aliases: &'s Names<'a>,
     /// The number of propositions, if it is known.
     pub(crate) propositions: Option<usize>,
-    /// How many operands to make space for.
-    pub(crate) usual: Usual,
 }
 
 impl<'s, 'a> Model for Scope<'s, 'a> {

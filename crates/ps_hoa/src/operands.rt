@@ -7,7 +7,7 @@ ghost use Rattle.ps_label.specs.Truth.{expressions};
 ghost use Rattle.ps_hoa.specs.Labels as grammar;
 ghost use Rattle.ps_hoa.specs.Inner.LabelRows.{HoldsLiterals, IsOfLiterals, operand_expressions};
 
-use crate::infix::{self, Connective};
+use crate::infix::{self, Connective, SPACE};
 use ps_label::{Label, Literals};
 use std::alloc::{AllocError, Global};
 
@@ -21,31 +21,25 @@ pub(crate) enum Operands {
 }
 
 impl Operands {
-    /// The first operand of a row, in memory for `count`, if any is needed.
+    /// A row with its first operand.
     #[inline(always)]
     pub(crate) fn new(
         alloc: Global,
         connective: Connective,
         first: Label,
-        count: usize,
     ) -> Result<Self, AllocError>
         ensures operands { IfOk result (λ row. operand_expressions row ≡ expression first ∷ []) }
         ensures literals { IfOk result (λ row. HoldsLiterals row ↔ ((connective ≡ Connective.And) × IsLiteral first)) }
     {
         match (connective, first.as_literal()) {
             (Connective::And, Some(literal)) => Ok(Operands::Literals(Literals::of(literal))),
-            _ => Ok(Operands::Labels(infix::begun(alloc, first, count)?)),
+            _ => Ok(Operands::Labels(infix::begun(alloc, first)?)),
         }
     }
 
-    /// Adds an operand at the end, in memory for `count` at least, if any is needed.
+    /// Adds an operand at the end.
     #[inline(always)]
-    pub(crate) fn push(
-        &mut self,
-        alloc: Global,
-        next: Label,
-        count: usize,
-    ) -> Result<(), AllocError>
+    pub(crate) fn push(&mut self, alloc: Global, next: Label) -> Result<(), AllocError>
         ensures operands { IfOk result
             (λ _. operand_expressions self.new ≡ operand_expressions self.old ++ expression next ∷ []) }
         ensures literals { IfOk result (λ _. HoldsLiterals self.new ↔
@@ -58,7 +52,7 @@ impl Operands {
                     Ok(())
                 }
                 _ => {
-                    *self = Operands::Labels(with_label(alloc, literals, next, count)?);
+                    *self = Operands::Labels(with_label(alloc, literals, next)?);
                     Ok(())
                 }
             },
@@ -90,32 +84,28 @@ impl Operands {
         ensures { IfOk result (λ labels. expressions labels.items ≡ operand_expressions self) }
     {
         match self {
-            Operands::Literals(literals) => infix::fitted(alloc, labels_of(alloc, &literals, 0)?),
+            Operands::Literals(literals) => infix::fitted(alloc, labels_of(alloc, &literals)?),
             Operands::Labels(labels) => infix::fitted(alloc, labels),
         }
     }
 }
 
-/// The literals and a label behind them, in memory for `count` labels at least.
-fn with_label(
-    alloc: Global,
-    literals: &Literals,
-    last: Label,
-    count: usize,
-) -> Result<Vec<Label>, AllocError>
+/// The literals and a label behind them.
+fn with_label(alloc: Global, literals: &Literals, last: Label) -> Result<Vec<Label>, AllocError>
     ensures { IfOk result
         (λ labels. expressions labels.items ≡ literal_expressions literals.now ++ expression last ∷ []) }
 {
-    let mut labels = labels_of(alloc, literals, count)?;
+    let mut labels = labels_of(alloc, literals)?;
     labels.push(last)?;
     Ok(labels)
 }
 
-fn labels_of(alloc: Global, literals: &Literals, count: usize) -> Result<Vec<Label>, AllocError>
+/// The literals as labels, with space for more.
+fn labels_of(alloc: Global, literals: &Literals) -> Result<Vec<Label>, AllocError>
     ensures { IfOk result (λ labels. expressions labels.items ≡ literal_expressions literals.now) }
 {
     let literals = literals.as_slice();
-    let mut labels = Vec::with_capacity(alloc, count.max(2 * literals.len()))?;
+    let mut labels = Vec::with_capacity(alloc, SPACE.max(2 * literals.len()))?;
     for literal in literals {
         labels.push(Label::of_literal(*literal))?;
     }
