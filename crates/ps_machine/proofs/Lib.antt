@@ -1,6 +1,6 @@
-mod BoardLetters
+pub mod BoardLetters
 mod BoardMoves
-mod BoardSteps
+pub mod BoardSteps
 mod ByLetters
 pub mod CertificateThere
 pub mod DecidedMoves
