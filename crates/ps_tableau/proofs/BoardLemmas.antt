@@ -12,7 +12,7 @@ use Rattle.ps_diagram.specs.Tree.{Tree, leaf_at}
 use Rattle.ps_formula.specs.NormalForms.{NormalFormula}
 use Rattle.ps_tableau.specs.Boards.{Grows, IsEdgeOf, IsSetOf, MakesEdges, cover_of, covers_of}
 use Rattle.ps_tableau.specs.Boards.{formulas_in}
-use Rattle.ps_tableau.specs.Sets.{AreSets, IsSet}
+use Rattle.ps_tableau.specs.Sets.{AreSets, IsSet, KeepsSets}
 use Rattle.ps_tableau.specs.Covers.{Cover}
 use Rattle.ps_tableau.specs.declared.board.Board.{Board}
 use Rattle.ps_tableau.specs.declared.edge.Edge.{Edge}
@@ -49,6 +49,18 @@ grows_guards b t sets keeps = record {
   sets = extends_refl b.sets;
   sound = sets;
   guards = keeps;
+}
+
+pub grows_sets : (b : Board) (sets : List (ℕ × ℕ)) → KeepsSets b.sets sets → AreSets sets →
+    Grows b (record b { sets = sets })
+grows_sets b sets keeps sound = record {
+  formulas = refl;
+  needed = refl;
+  untils = refl;
+  initial = refl;
+  sets = keeps;
+  sound = sound;
+  guards = keeps_refl b.guards;
 }
 
 -- ## Sets

@@ -16,3 +16,4 @@ pub mod WayLemmas
 pub mod PruneLemmas
 pub mod PruneSteps
 pub mod ReduceLemmas
+pub mod KnownLemmas

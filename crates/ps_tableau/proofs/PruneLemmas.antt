@@ -1,5 +1,6 @@
 -- Pruning cover by cover.
-use Rattle.std.proofs.Common.{ℕ, ◌⊎◌, inl, inr, List, [], ◌∷◌, ◌++◌, Option, Some, None, refl, subst, sym}
+use Rattle.std.proofs.Common.{ℕ, zero, suc, ◌<◌, ◌⊎◌, inl, inr, List, [], ◌∷◌, ◌++◌, Option, Some, None, arith}
+use Rattle.std.proofs.Common.{get_or, length, refl, set, subst, sym}
 use Rattle.std.proofs.lemmas.Bool.{false≢true}
 use Rattle.std.proofs.lemmas.List.Elements.{Contains-append_cases, Contains-append_left, Contains-append_right}
 use Rattle.std.specs.List.{Contains}
@@ -7,7 +8,7 @@ use Rattle.std.specs.Prelude.{IsTrue, is_some}
 use Rattle.ps_diagram.specs.Leaves.{chosen}
 use Rattle.ps_tableau.proofs.Brought.{brought_more}
 use Rattle.ps_tableau.proofs.Members.{first_in, in_more, in_none, in_one, later_in}
-use Rattle.ps_tableau.proofs.Products.{better_refl}
+use Rattle.ps_tableau.proofs.Products.{better_refl, pruned_refl}
 use Rattle.ps_tableau.specs.Covers.{Cover, of_known}
 use Rattle.ps_tableau.specs.Operators.{ArePruned, IsBetter}
 use Rattle.ps_tableau.specs.Inner.Pruning.{AsksLess}
@@ -52,76 +53,84 @@ pruned_push {xs} {ys} {zs} c first second = record {
   ];
 }
 
--- one more cover is settled beside the one that is added
-pub settle_more : (first kept : List Cover) {added : List Cover} (start : Cover) {edge left : Cover} (other : Cover) →
-    ArePruned (first ++ start ∷ []) (kept ++ edge ∷ []) → ArePruned (edge ∷ other ∷ []) (left ∷ added) →
-    ArePruned ((first ++ other ∷ []) ++ start ∷ []) ((kept ++ added) ++ left ∷ [])
-settle_more first kept {added} start {edge} {left} other before now =
-    let olds = (first ++ other ∷ []) ++ start ∷ [] in
-    let news = (kept ++ added) ++ left ∷ [] in
-    let old_in : (c : Cover) → Contains (first ++ start ∷ []) c → Contains olds c =
-    λ c there. elim (Contains-append_cases first (start ∷ []) c there) [
-      | inl l ↦ Contains-append_left (first ++ other ∷ []) (start ∷ []) c (Contains-append_left first (other ∷ []) c l)
-      | inr r ↦ Contains-append_right (first ++ other ∷ []) (start ∷ []) c r
-    ] in
-    let other_in : Contains olds other =
-    Contains-append_left (first ++ other ∷ []) (start ∷ []) other (in_end first other)
-    in
-    let new_in : (c : Cover) → Contains (left ∷ added) c → Contains news c =
-    λ c there. elim (in_more left added c there) [
-      | inl is ↦ subst (λ (d : Cover). Contains news d) is (in_end (kept ++ added) left)
-      | inr more ↦ Contains-append_left (kept ++ added) (left ∷ []) c (Contains-append_right kept added c more)
-    ] in
-    let sound_now : (c : Cover) (letter : ℕ) → Contains (left ∷ added) c → IsTrue (c.guard letter) →
-    (d : Cover) × Contains olds d × IsBetter d c letter = λ c letter there serves.
-    let d = now.sound c letter there serves in
-    elim (in_more edge (other ∷ []) d.0 d.1) [
-      | inl is ↦
-          let same = subst (λ (e : Cover). IsBetter e c letter) (sym is) d.2 in
-          let e = before.sound edge letter (in_end kept edge) same.serves in
-          (e.0, old_in e.0 e.1, better_trans e.2 same)
-      | inr is ↦ (other, other_in, subst (λ (e : Cover). IsBetter e c letter) (sym (in_one other d.0 is)) d.2)
-    ] in
-    let complete_now : (c : Cover) (letter : ℕ) → Contains (edge ∷ other ∷ []) c → IsTrue (c.guard letter) →
-    (d : Cover) × Contains news d × IsBetter d c letter = λ c letter there serves.
-    let d = now.complete c letter there serves in (d.0, new_in d.0 d.1, d.2) in
-    let complete_before : (c : Cover) (letter : ℕ) → Contains (first ++ start ∷ []) c → IsTrue (c.guard letter) →
-    (d : Cover) × Contains news d × IsBetter d c letter = λ c letter there serves.
-    let d = before.complete c letter there serves in
-    elim (Contains-append_cases kept (edge ∷ []) d.0 d.1) [
-      | inl l ↦ (
-        d.0,
-        Contains-append_left (kept ++ added) (left ∷ []) d.0 (Contains-append_left kept added d.0 l),
-        d.2,
-      )
-      | inr is ↦
-          let same = subst (λ (e : Cover). IsBetter e c letter) (sym (in_one edge d.0 is)) d.2 in
-          let e = complete_now edge letter (first_in edge (other ∷ [])) same.serves in
-          (e.0, e.1, better_trans e.2 same)
-    ] in
-    record {
-      sound = λ c letter there serves. elim (Contains-append_cases (kept ++ added) (left ∷ []) c there) [
-        | inl l ↦ elim (Contains-append_cases kept added c l) [
-          | inl k ↦
-              let d = before.sound c letter (Contains-append_left kept (edge ∷ []) c k) serves in
-              (d.0, old_in d.0 d.1, d.2)
-          | inr a ↦ sound_now c letter (later_in left added c a) serves
-        ]
-        | inr is ↦
-            let same = in_one left c is in
-            sound_now c letter (subst (λ (e : Cover). Contains (left ∷ added) e) same (first_in left added)) serves
-      ];
-      complete = λ c letter there serves. elim (Contains-append_cases (first ++ other ∷ []) (start ∷ []) c there) [
-        | inl l ↦ elim (Contains-append_cases first (other ∷ []) c l) [
-          | inl f ↦ complete_before c letter (Contains-append_left first (start ∷ []) c f) serves
-          | inr is ↦
-              let same = in_one other c is in
-              complete_now c letter (later_in edge (other ∷ []) c (subst (λ (e : Cover). Contains (other ∷ []) e) same
-              (first_in other []))) serves
-        ]
-        | inr is ↦ complete_before c letter (Contains-append_right first (start ∷ []) c is) serves
-      ];
-    }
+-- lists of the same covers
+pub pruned_same : {xs ys : List Cover} → ((c : Cover) → Contains xs c → Contains ys c) →
+    ((c : Cover) → Contains ys c → Contains xs c) → ArePruned xs ys
+pruned_same there back = record {
+  sound = λ c letter new serves. (c, back c new, better_refl c letter serves);
+  complete = λ c letter old serves. (c, there c old, better_refl c letter serves);
+}
+
+swapped : (xs ys : List Cover) (c : Cover) → Contains (xs ++ ys) c → Contains (ys ++ xs) c
+swapped xs ys c h = elim (Contains-append_cases xs ys c h) [
+  | inl l ↦ Contains-append_right ys xs c l
+  | inr r ↦ Contains-append_left ys xs c r
+]
+
+pub pruned_turned : (xs ys : List Cover) → ArePruned (xs ++ ys) (ys ++ xs)
+pruned_turned xs ys = pruned_same (swapped xs ys) (swapped ys xs)
+
+pub pruned_trans : {xs ys zs : List Cover} → ArePruned xs ys → ArePruned ys zs → ArePruned xs zs
+pruned_trans first second = record {
+  sound = λ c letter there serves.
+      let d = second.sound c letter there serves in
+      let e = first.sound d.0 letter d.1 d.2.serves in
+      (e.0, e.1, better_trans e.2 d.2);
+  complete = λ c letter there serves.
+      let d = first.complete c letter there serves in
+      let e = second.complete d.0 letter d.1 d.2.serves in
+      (e.0, e.1, better_trans e.2 d.2);
+}
+
+pub pruned_both : (xs ys us vs : List Cover) → ArePruned xs ys → ArePruned us vs → ArePruned (xs ++ us) (ys ++ vs)
+pruned_both xs ys us vs first second = record {
+  sound = λ c letter there serves. elim (Contains-append_cases ys vs c there) [
+    | inl l ↦ let d = first.sound c letter l serves in (d.0, Contains-append_left xs us d.0 d.1, d.2)
+    | inr r ↦ let d = second.sound c letter r serves in (d.0, Contains-append_right xs us d.0 d.1, d.2)
+  ];
+  complete = λ c letter there serves. elim (Contains-append_cases xs us c there) [
+    | inl l ↦ let d = first.complete c letter l serves in (d.0, Contains-append_left ys vs d.0 d.1, d.2)
+    | inr r ↦ let d = second.complete c letter r serves in (d.0, Contains-append_right ys vs d.0 d.1, d.2)
+  ];
+}
+
+-- what is left of a cover beside one of others, beside all of them
+two_in : (kept : List Cover) (a other c : Cover) → Contains kept other → Contains (a ∷ other ∷ []) c →
+    Contains (kept ++ a ∷ []) c
+two_in kept a other c there h = elim (in_more a (other ∷ []) c h) [
+  | inl is ↦ subst (λ (d : Cover). Contains (kept ++ a ∷ []) d) is (in_end kept a)
+  | inr is ↦ Contains-append_left kept (a ∷ []) c (subst (λ (d : Cover). Contains kept d) (in_one other c is) there)
+]
+
+one_of_two : (a other c : Cover) → Contains (a ∷ []) c → Contains (a ∷ other ∷ []) c
+one_of_two a other c h = subst (λ (d : Cover). Contains (a ∷ other ∷ []) d) (in_one a c h) (first_in a (other ∷ []))
+
+pub beside_more : (kept : List Cover) (a b other : Cover) → Contains kept other →
+    ArePruned (a ∷ other ∷ []) (b ∷ other ∷ []) → ArePruned (kept ++ a ∷ []) (kept ++ b ∷ [])
+beside_more kept a b other there now = record {
+  sound = λ c letter h serves. elim (Contains-append_cases kept (b ∷ []) c h) [
+    | inl k ↦ (c, Contains-append_left kept (a ∷ []) c k, better_refl c letter serves)
+    | inr is ↦
+        let d = now.sound c letter (one_of_two b other c is) serves in
+        (d.0, two_in kept a other d.0 there d.1, d.2)
+  ];
+  complete = λ c letter h serves. elim (Contains-append_cases kept (a ∷ []) c h) [
+    | inl k ↦ (c, Contains-append_left kept (b ∷ []) c k, better_refl c letter serves)
+    | inr is ↦
+        let d = now.complete c letter (one_of_two a other c is) serves in
+        (d.0, two_in kept b other d.0 there d.1, d.2)
+  ];
+}
+
+-- one of the covers becomes one with another
+pub pruned_at : (xs : List Cover) (i : ℕ) (u c : Cover) → i < length xs →
+    ArePruned (get_or xs i c ∷ c ∷ []) (u ∷ []) → ArePruned (xs ++ c ∷ []) (set xs i u)
+pruned_at [] i u c within now = absurd (omega (arith, within))
+pruned_at (x ∷ xs) zero u c within now = pruned_trans
+    (pruned_both (x ∷ []) (x ∷ []) (xs ++ c ∷ []) (c ∷ xs) (pruned_refl (x ∷ [])) (pruned_turned xs (c ∷ [])))
+    (pruned_both (x ∷ c ∷ []) (u ∷ []) xs xs now (pruned_refl xs))
+pruned_at (x ∷ xs) (suc i) u c within now = pruned_both (x ∷ []) (x ∷ []) (xs ++ c ∷ []) (set xs i u)
+    (pruned_refl (x ∷ [])) (pruned_at xs i u c (omega (arith, within)) now)
 
 -- the cover that is left is added at the end
 pub pruned_last : {xs : List Cover} (ys : List Cover) {zs : List Cover} (c : Cover) → ArePruned xs (ys ++ c ∷ []) →
@@ -216,33 +225,6 @@ pruned_one a b c ca ac cb bc outside first second = record {
         (c, first_in c [], subst (λ (e : Cover). IsBetter c e letter) is (better_by letter cb (second letter on)))
   ];
 }
-
--- the order of two covers
-pub pruned_swap : {a b : Cover} {zs : List Cover} → ArePruned (b ∷ a ∷ []) zs → ArePruned (a ∷ b ∷ []) zs
-pruned_swap {a} {b} {zs} pruned =
-    let over : (x y c : Cover) → Contains (x ∷ y ∷ []) c → Contains (y ∷ x ∷ []) c = λ x y c there.
-    elim (in_more x (y ∷ []) c there) [
-      | inl is ↦ later_in y (x ∷ []) c (subst (λ (e : Cover). Contains (x ∷ []) e) is (first_in x []))
-      | inr is ↦ subst (λ (e : Cover). Contains (y ∷ x ∷ []) e) (in_one y c is) (first_in y (x ∷ []))
-    ] in
-    record {
-      sound = λ c letter there serves.
-          let d = pruned.sound c letter there serves in (d.0, over b a d.0 d.1, d.2);
-      complete = λ c letter there serves. pruned.complete c letter (over a b c there) serves;
-    }
-
-pub pruned_later : {xs : List Cover} {a b : Cover} → ArePruned xs (a ∷ b ∷ []) → ArePruned xs (b ∷ a ∷ [])
-pruned_later {xs} {a} {b} pruned =
-    let over : (x y c : Cover) → Contains (x ∷ y ∷ []) c → Contains (y ∷ x ∷ []) c = λ x y c there.
-    elim (in_more x (y ∷ []) c there) [
-      | inl is ↦ later_in y (x ∷ []) c (subst (λ (e : Cover). Contains (x ∷ []) e) is (first_in x []))
-      | inr is ↦ subst (λ (e : Cover). Contains (y ∷ x ∷ []) e) (in_one y c is) (first_in y (x ∷ []))
-    ] in
-    record {
-      sound = λ c letter there serves. pruned.sound c letter (over b a c there) serves;
-      complete = λ c letter there serves.
-          let d = pruned.complete c letter there serves in (d.0, over a b d.0 d.1, d.2);
-    }
 
 -- ## Guards
 

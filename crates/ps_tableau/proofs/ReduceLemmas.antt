@@ -3,7 +3,6 @@ use Rattle.std.proofs.Common.{◌≡◌, ◌∙◌, inl, inr, ℕ, ◌+◌, ◌<
 use Rattle.std.proofs.Common.{Some}
 use Rattle.std.proofs.Common.{length-drop, subst, sym, take}
 use Rattle.std.proofs.lemmas.List.Elements.{All-contains, All-contains_itself, All-drop, All-take}
-use Rattle.std.proofs.lemmas.List.Elements.{Contains-append_cases, Contains-append_left, Contains-append_right}
 use Rattle.std.proofs.lemmas.List.{map-append}
 use Rattle.std.specs.List.{Contains, slice_get}
 use Rattle.std.specs.Prelude.{IsTrue}
@@ -15,7 +14,7 @@ use Rattle.ps_tableau.proofs.BoardLemmas.{cover_kept, covers_kept}
 use Rattle.ps_tableau.proofs.Brought.{brought_more}
 use Rattle.ps_tableau.proofs.JoinLemmas.{from_map, in_map}
 use Rattle.ps_tableau.proofs.Members.{first_in, in_none, in_one}
-use Rattle.ps_tableau.proofs.PruneLemmas.{better_trans}
+use Rattle.ps_tableau.proofs.PruneLemmas.{pruned_both, pruned_trans}
 use Rattle.ps_tableau.proofs.SetLemmas.{more_cases}
 use Rattle.ps_tableau.proofs.WayLemmas.{needed_within}
 use Rattle.ps_tableau.specs.Boards.{Grows, IsBoard, IsEdgeOf, IsState, MakesEdges, cover_of, covers_of, formulas_in}
@@ -131,30 +130,6 @@ reduced_fewer {old} {new} {set} {reduced} formulas is f there =
     (in_map (normal_formula_at old.formulas) (indices_in old.sets set) k.0 (is.fewer k.0 k.1))
 
 -- ## Covers
-
-pub pruned_trans : {xs ys zs : List Cover} → ArePruned xs ys → ArePruned ys zs → ArePruned xs zs
-pruned_trans first second = record {
-  sound = λ c letter there serves.
-      let d = second.sound c letter there serves in
-      let e = first.sound d.0 letter d.1 d.2.serves in
-      (e.0, e.1, better_trans e.2 d.2);
-  complete = λ c letter there serves.
-      let d = first.complete c letter there serves in
-      let e = second.complete d.0 letter d.1 d.2.serves in
-      (e.0, e.1, better_trans e.2 d.2);
-}
-
-pub pruned_both : (xs ys us vs : List Cover) → ArePruned xs ys → ArePruned us vs → ArePruned (xs ++ us) (ys ++ vs)
-pruned_both xs ys us vs first second = record {
-  sound = λ c letter there serves. elim (Contains-append_cases ys vs c there) [
-    | inl l ↦ let d = first.sound c letter l serves in (d.0, Contains-append_left xs us d.0 d.1, d.2)
-    | inr r ↦ let d = second.sound c letter r serves in (d.0, Contains-append_right xs us d.0 d.1, d.2)
-  ];
-  complete = λ c letter there serves. elim (Contains-append_cases xs us c there) [
-    | inl l ↦ let d = first.complete c letter l serves in (d.0, Contains-append_left ys vs d.0 d.1, d.2)
-    | inr r ↦ let d = second.complete c letter r serves in (d.0, Contains-append_right ys vs d.0 d.1, d.2)
-  ];
-}
 
 -- a cover whose next obligations are some of another's, and bring all of them
 pub pruned_reduced : (a c : Cover) → ((letter : ℕ) → IsTrue (a.guard letter) → IsTrue (c.guard letter)) →

@@ -3,8 +3,11 @@ use Rattle.std.proofs.Common.{◌≡◌, ◌∙◌, ℕ, zero, suc, ◌<◌, ◌
 use Rattle.std.proofs.Common.{ap, arith}
 use Rattle.std.proofs.Common.{get_or, length, subst, sym, Vec}
 use Rattle.std.proofs.lemmas.Option.{slice_get-get_or}
+use Rattle.std.proofs.lemmas.Result.{IfOk-weaker}
 use Rattle.std.proofs.lemmas.Bool.{false≢true}
 use Rattle.std.specs.Global.{Global}
+use Rattle.std.specs.Prelude.{IfOk, Result}
+use Rattle.std.specs.declared.alloc.AllocError.{AllocError}
 use Rattle.std.specs.List.{Contains, slice_get}
 use Rattle.ps_formula.proofs.NormalTrees.{normal_formula_at-node}
 use Rattle.ps_formula.proofs.Tables.{old_or_pushed}
@@ -22,7 +25,7 @@ use Rattle.ps_tableau.proofs.Members.{first_in, in_one, later_in}
 use Rattle.ps_tableau.specs.Boards.{Grows, HasCovers, HaveWays, IsBoard, IsRight, IsSetOf, IsState, IsTableauOf}
 use Rattle.ps_tableau.specs.Boards.{formulas_in}
 use Rattle.ps_tableau.specs.Inner.SetSteps.{ArePartsOf}
-use Rattle.ps_tableau.specs.Needs.{IsNeeded}
+use Rattle.ps_tableau.specs.Needs.{IsNeeded, NeedsOperands}
 use Rattle.ps_tableau.specs.Sets.{KeepsSets, IsSet, indices_in}
 use Rattle.ps_tableau.specs.Covers.{AreCoversOf, SatisfiesAll}
 use Rattle.ps_tableau.specs.declared.board.Board.{Board}
@@ -166,6 +169,23 @@ pub formula_node : (nodes : List NormalNode) (k : ℕ) (node other : NormalNode)
     normal_formula_at nodes k ≡ normal_formula_of (normal_formulas_of nodes) other
 formula_node nodes k node other table at is =
     normal_formula_at-node nodes k other table.earlier (at ∙ ap (λ (n : NormalNode). Some n) is)
+
+pub covers_by : (b : Board) {f g : NormalFormula} (r : Result (Vec Edge Global) AllocError) → g ≡ f →
+    IfOk r (λ out. HasCovers b (f ∷ []) out.items) → IfOk r (λ out. HasCovers b (g ∷ []) out.items)
+covers_by b {f} {g} r is = IfOk-weaker r (λ out. HasCovers b (f ∷ []) out.items)
+    (λ out. HasCovers b (g ∷ []) out.items)
+    (λ out made. subst (λ (h : NormalFormula). HasCovers b (h ∷ []) out.items) (sym is) made)
+
+pub operands_known : {b : Board} {index count : ℕ} {node other : NormalNode} → IsBoard b →
+    slice_get b.formulas index ≡ Some node → count ≡ index → node ≡ other → IsNormalOver count other
+operands_known {b} {index} {count} {node} {other} board at before is = subst (λ n. IsNormalOver n other) (sym before)
+    (subst (λ (n : NormalNode). IsNormalOver index n) is (board.table.earlier index node at))
+
+pub operands_needed : {b : Board} (index : ℕ) {node other : NormalNode} → IsBoard b →
+    slice_get b.formulas index ≡ Some node → IsNeeded b.needed.items index → node ≡ other →
+    NeedsOperands b.needed.items other
+operands_needed {b} index {node} {other} board at need is =
+    subst (λ (n : NormalNode). NeedsOperands b.needed.items n) is (board.needs.operands index node at need)
 
 pub ways_there : {b : Board} (ways : List (Vec Edge Global)) (k : ℕ) (covers : Vec Edge Global) → HaveWays b ways →
     k < length ways → IsNeeded b.needed.items k → covers ≡ get_or ways k covers →

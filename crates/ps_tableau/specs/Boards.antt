@@ -11,6 +11,7 @@ use Rattle.ps_tableau.specs.Needs.{AreUntils, IsNeeded, NeedsAll}
 use Rattle.ps_tableau.specs.Sets.{AreSets, KeepsSets, IsSet, indices_in}
 use Rattle.ps_tableau.specs.declared.board.Board.{Board}
 use Rattle.ps_tableau.specs.declared.edge.Edge.{Edge}
+use Rattle.ps_tableau.specs.declared.known.Known.{Known}
 
 -- ## Sets and edges
 
@@ -84,6 +85,13 @@ pub record IsRight (b : Board) (known : List (Vec Edge Global)) : Type 0 where
   pub ways : HaveWays b known
   pub count : length known ≡ length b.formulas
   pub initial : IsState b b.initial
+
+-- the covers of sets of formulas, each in the place of its set
+pub record AreKnown (b : Board) (known : Known) : Type 0 where
+  pub count : length known.sets ≡ length known.covers.items
+  pub held : (place set : ℕ) → slice_get known.sets place ≡ Some set → IsSet b.sets set
+  pub each : (place set : ℕ) (covers : Vec Edge Global) → slice_get known.sets place ≡ Some set →
+      slice_get known.covers.items place ≡ Some covers → HasCovers b (formulas_in b set) covers.items
 
 -- the edges from a state: its covers
 abbrev pub AreEdgesOf : Board → ℕ → List Edge → Type 0

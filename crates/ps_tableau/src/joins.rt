@@ -56,7 +56,11 @@ impl Board {
     }
 
     /// As `joined`, not pruned.
-    fn products(&mut self, first: &[Edge], second: &[Edge]) -> Result<Vec<Edge>, AllocError>
+    pub(crate) fn products(
+        &mut self,
+        first: &[Edge],
+        second: &[Edge],
+    ) -> Result<Vec<Edge>, AllocError>
         requires board { IsBoard self.old }
         requires first { All (IsEdgeOf self.old) first.now }
         requires second { All (IsEdgeOf self.old) second.now }

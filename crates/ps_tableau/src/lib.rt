@@ -27,15 +27,17 @@
 //! | `laws::covers_of_more_obligations` | a law: the covers of several obligations are products |
 //! | `laws::pruned_covers_are_covers` | a law: covers stay covers if they are pruned letter by letter |
 //!
-//! Covers of a formula are made from those of its operands, and those of a state, as products, from its formulas'. Then
-//! they are pruned: a cover loses the letters at which another asks for no more, covers that ask for the same become
-//! one, and an obligation that follows from others at the next index is dropped. Formulas that the root does not
-//! need get no covers. A set with one more formula is found by a hash table.
+//! Covers of a formula are made from those of its operands, and those of a set, as products, from those of its greatest
+//! formula and those of the set of the others, which are kept. Then they are pruned: a cover loses the letters at which
+//! another asks for no more, covers that ask for the same become one, and an obligation that follows from others at the
+//! next index is dropped. Formulas that the root does not need get no covers. A set with one more formula is found by a
+//! hash table.
 #![tactic(auto)]
 
 mod board;
 mod edge;
 mod joins;
+mod known;
 pub mod laws;
 mod needs;
 mod operators;

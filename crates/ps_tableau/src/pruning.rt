@@ -1,8 +1,8 @@
 //! A cover loses the letters at which another asks for no more.
 
-ghost use Rattle.std.specs.Prelude.{◌≡◌, ◌++◌, ◌∷◌, [], All, IfOk, IsTrue, OnOk};
+ghost use Rattle.std.specs.Prelude.{◌≡◌, ◌++◌, ◌∷◌, [], All, IfOk, IsTrue, OnOk, position};
 ghost use Rattle.ps_tableau.specs.Boards.{Grows, IsBoard, IsEdgeOf, MakesEdges, cover_of, covers_of};
-ghost use Rattle.ps_tableau.specs.Inner.Pruning.{AddsEdge, AsksLess, Makes, Settles};
+ghost use Rattle.ps_tableau.specs.Inner.Pruning.{AddsEdge, AsksLess, Makes, asks_same};
 ghost use Rattle.ps_tableau.specs.Operators.{ArePruned};
 
 use crate::board::Board;
@@ -10,8 +10,55 @@ use crate::edge::Edge;
 use std::alloc::AllocError;
 
 impl Board {
-    /// The covers of a list, each without such letters.
+    /// The covers of a list, each without such letters. Covers that ask for the same become one, in the place of the
+    /// last.
     pub(crate) fn pruned(&mut self, edges: &[Edge]) -> Result<Vec<Edge>, AllocError>
+        requires board { IsBoard self.old }
+        requires edges { All (IsEdgeOf self.old) edges.now }
+        ensures grows { Grows self.old self.new }
+        ensures pruned { IfOk result (λ pruned. MakesEdges self.new (ArePruned (covers_of self.old edges.now))
+            pruned.items) }
+    {
+        let united = self.united_all(edges)?;
+        let mut lessened = self.lessened_all(&united)?;
+        lessened.reverse();
+        self.lessened_all(&lessened)
+    }
+
+    /// One cover for those that ask for the same, from the last to the first.
+    fn united_all(&mut self, edges: &[Edge]) -> Result<Vec<Edge>, AllocError>
+        requires board { IsBoard self.old }
+        requires edges { All (IsEdgeOf self.old) edges.now }
+        ensures grows { Grows self.old self.new }
+        ensures united { IfOk result (λ united. MakesEdges self.new (ArePruned (covers_of self.old edges.now))
+            united.items) }
+    {
+        let mut united = Vec::new(self.alloc);
+        for place in (0..edges.len()).rev() {
+            self.unite(edges[place], &mut united)?;
+        }
+        Ok(united)
+    }
+
+    /// Adds a cover to a list, or unites it with one that asks for the same.
+    fn unite(&mut self, edge: Edge, united: &mut Vec<Edge>) -> Result<(), AllocError>
+        requires board { IsBoard self.old }
+        requires edge { IsEdgeOf self.old edge }
+        requires united { All (IsEdgeOf self.old) united.old.items }
+        ensures grows { Grows self.old self.new }
+        ensures united { OnOk result (MakesEdges self.new
+            (ArePruned (covers_of self.old united.old.items ++ cover_of self.old edge ∷ [])) united.new.items) }
+    {
+        if let Some(place) = place_of_same(edge, united) {
+            united[place] = self.united(united[place], edge)?;
+            return Ok(());
+        }
+        united.push(edge)?;
+        Ok(())
+    }
+
+    /// Each cover of a list without the letters at which one before it asks for no more.
+    fn lessened_all(&mut self, edges: &[Edge]) -> Result<Vec<Edge>, AllocError>
         requires board { IsBoard self.old }
         requires edges { All (IsEdgeOf self.old) edges.now }
         ensures grows { Grows self.old self.new }
@@ -20,51 +67,42 @@ impl Board {
     {
         let mut kept = Vec::new(self.alloc);
         for edge in edges {
-            kept = self.with_edge(&kept, edge)?;
+            let left = self.left_beside(*edge, &kept)?;
+            self.add_edge(left, &mut kept)?;
         }
         Ok(kept)
     }
 
-    /// The same for one more cover.
-    pub(crate) fn with_edge(&mut self, edges: &[Edge], edge: &Edge) -> Result<Vec<Edge>, AllocError>
-        requires board { IsBoard self.old }
-        requires edges { All (IsEdgeOf self.old) edges.now }
-        requires edge { IsEdgeOf self.old edge.now }
-        ensures grows { Grows self.old self.new }
-        ensures pruned { IfOk result (λ pruned. MakesEdges self.new
-            (ArePruned (covers_of self.old edges.now ++ cover_of self.old edge.now ∷ [])) pruned.items) }
-    {
-        let mut kept = Vec::new(self.alloc);
-        let mut left = *edge;
-        for other in edges {
-            left = self.settle(left, *other, &mut kept)?;
-        }
-        self.add_edge(left, &mut kept)?;
-        Ok(kept)
-    }
-
-    /// What is left of a cover beside another; what is left of that is added to the list.
-    fn settle(&mut self, edge: Edge, other: Edge, kept: &mut Vec<Edge>) -> Result<Edge, AllocError>
+    /// What is left of a cover beside others.
+    fn left_beside(&mut self, edge: Edge, others: &[Edge]) -> Result<Edge, AllocError>
         requires board { IsBoard self.old }
         requires edge { IsEdgeOf self.old edge }
-        requires other { IsEdgeOf self.old other }
+        requires others { All (IsEdgeOf self.old) others.now }
         ensures grows { Grows self.old self.new }
-        ensures settles { IfOk result (Settles self.old self.new edge other kept.old.items kept.new.items) }
+        ensures left { IfOk result (Makes self.new (λ c. ArePruned
+            (covers_of self.old others.now ++ cover_of self.old edge ∷ [])
+            (covers_of self.old others.now ++ c ∷ []))) }
     {
-        if edge.next == other.next && edge.postponed == other.postponed {
-            return self.united(edge, other);
+        let mut left = edge;
+        for other in others {
+            left = self.left_of(&left, other)?;
         }
-        if self.asks_less(other, edge) {
-            kept.push(other)?;
-            return self.lessened(edge, other);
+        Ok(left)
+    }
+
+    /// What is left of a cover beside another: if that asks for no more, its letters are taken away.
+    fn left_of(&mut self, edge: &Edge, other: &Edge) -> Result<Edge, AllocError>
+        requires board { IsBoard self.old }
+        requires edge { IsEdgeOf self.old edge.now }
+        requires other { IsEdgeOf self.old other.now }
+        ensures grows { Grows self.old self.new }
+        ensures left { IfOk result (Makes self.new (λ c. ArePruned
+            (cover_of self.old edge.now ∷ cover_of self.old other.now ∷ []) (c ∷ cover_of self.old other.now ∷ []))) }
+    {
+        if self.asks_less(*other, *edge) {
+            return self.lessened(*edge, *other);
         }
-        if self.asks_less(edge, other) {
-            let rest = self.lessened(other, edge)?;
-            self.add_edge(rest, kept)?;
-            return Ok(edge);
-        }
-        kept.push(other)?;
-        Ok(edge)
+        Ok(*edge)
     }
 
     /// Adds a cover, unless it serves at no letter.
@@ -122,4 +160,11 @@ impl Board {
         let guard = self.guards.choose(edge.guard, edge.guard, other.guard)?;
         Ok(Edge { guard, ..edge })
     }
+}
+
+/// The place of the first cover of a list that asks for the same as another.
+fn place_of_same(edge: Edge, covers: &[Edge]) -> Option<usize>
+    ensures { result ≡ position (asks_same edge) covers.now }
+{
+    covers.iter().position(|other| other.next == edge.next && other.postponed == edge.postponed)
 }

@@ -23,12 +23,12 @@ impl Board {
         ensures pruned { IfOk result (λ reduced. MakesEdges self.new (ArePruned (covers_of self.old edges.now))
             reduced.items) }
     {
-        let mut kept = Vec::new(self.alloc);
+        let mut reduced = Vec::new(self.alloc);
         for edge in edges {
-            let reduced = self.reduced_edge(edge)?;
-            kept = self.with_edge(&kept, &reduced)?;
+            let one = self.reduced_edge(edge)?;
+            reduced.push(one)?;
         }
-        Ok(kept)
+        self.pruned(&reduced)
     }
 
     fn reduced_edge(&mut self, edge: &Edge) -> Result<Edge, AllocError>

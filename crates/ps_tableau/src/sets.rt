@@ -15,6 +15,8 @@ use std::marker::Model;
 #[derive(Debug, Drop)]
 pub(crate) struct Sets {
     pairs: KeyList<(u32, Set)>,
+    /// For each pair, a word with a bit for each formula of its set; formulas may share a bit.
+    words: Vec<u64>,
     alloc: Global,
 }
 
@@ -60,6 +62,7 @@ impl Sets {
     {
         Sets {
             pairs: KeyList::new(alloc),
+            words: Vec::new(alloc),
             alloc,
         }
     }
@@ -88,8 +91,10 @@ impl Sets {
         ensures sets { AreSets self.new }
         ensures set { IfOk result (MakesSet self.new (λ is. is ≡ index ∷ indices_in self.old rest)) }
     {
+        let word = self.word(rest) | 1 << (index % 64);
         let place = self.pairs.place_of((index, rest))?;
         let _ = self.pairs.len();
+        add_word(&mut self.words, place, word)?;
         Ok(Set {
             number: place as u32 + 1,
         })
@@ -157,12 +162,25 @@ impl Sets {
         Ok(set)
     }
 
+    /// The word of a set. It has each bit if memory ran out when it was to be added.
+    fn word(&self, set: Set) -> u64 {
+        let _ = &self.pairs;
+        if set == Set::EMPTY {
+            return 0;
+        }
+        let place = set.number as usize - 1;
+        self.words.get(place).copied().unwrap_or(u64::MAX)
+    }
+
     /// Whether each formula of a set is in another.
     pub(crate) fn is_within(&self, a: Set, b: Set) -> bool
         requires a { IsSet self.now a }
         requires b { IsSet self.now b }
         ensures { IsTrue result → IsWithin self.now a b }
     {
+        if self.word(a) & !self.word(b) != 0 {
+            return false;
+        }
         let mut first = a;
         let mut second = b;
         while first != second {
@@ -210,4 +228,12 @@ impl Sets {
         }
         Ok(members)
     }
+}
+
+/// Adds the word of the set at a place, if it is new.
+fn add_word(words: &mut Vec<u64>, place: usize, word: u64) -> Result<(), AllocError> {
+    if place == words.len() {
+        words.push(word)?;
+    }
+    Ok(())
 }

@@ -1,12 +1,15 @@
 //! The covers of a state.
 
-ghost use Rattle.std.specs.Prelude.{◌≡◌, ◌<◌, ◌++◌, ◌∷◌, [], All, IfOk, List, length};
+ghost use Rattle.std.specs.Prelude.{◌≡◌, ◌<◌, ◌∷◌, ℕ, [], All, IfOk, List, length};
 ghost use Rattle.ps_formula.specs.NormalForms.{NormalFormula, normal_formula_at};
-ghost use Rattle.ps_tableau.specs.Boards.{Grows, HasCovers, IsBoard, IsEdgeOf, IsRight, IsState, formulas_in};
+ghost use Rattle.ps_tableau.specs.Boards.{AreKnown, Grows, HasCovers, IsBoard, IsEdgeOf, IsRight, IsState};
+ghost use Rattle.ps_tableau.specs.Boards.{formulas_in};
+ghost use Rattle.ps_tableau.specs.Inner.Joins.{IsPlaceOf};
 ghost use Rattle.ps_tableau.specs.Needs.{IsNeeded};
 
 use crate::board::Board;
 use crate::edge::Edge;
+use crate::known::Known;
 use crate::needs::{needs_of, untils_of};
 use crate::set::Set;
 use crate::sets::Sets;
@@ -43,38 +46,87 @@ impl Board {
         })
     }
 
-    /// The edges from a state, by the covers of each formula.
-    pub(crate) fn edges(&mut self, ways: &[Vec<Edge>], state: Set) -> Result<Vec<Edge>, AllocError>
+    /// The edges from a state. The covers of its sets of least formulas are kept.
+    pub(crate) fn edges(
+        &mut self,
+        ways: &[Vec<Edge>],
+        known: &mut Known,
+        state: Set,
+    ) -> Result<Vec<Edge>, AllocError>
         requires right { IsRight self.old ways.now }
+        requires known { AreKnown self.old known.old }
         requires state { IsState self.old state }
         ensures grows { Grows self.old self.new }
+        ensures known { AreKnown self.new known.new }
         ensures edges { IfOk result (λ edges. HasCovers self.new (formulas_in self.old state) edges.items) }
     {
-        let free = self.free()?;
-        let mut edges = self.appended(&[free], &[])?;
-        let mut rest = state;
-        while let Some(parts) = self.sets.parts(rest) {
-            edges = self.joined_with(&edges, ways, parts.greatest)?;
-            rest = parts.others;
+        let formulas = self.sets.members(state)?;
+        let mut last = self.place_of_none(known)?;
+        for place in (0..formulas.len()).rev() {
+            last = self.place_with(ways, known, formulas[place], last)?;
         }
-        self.reduced(&edges)
+        self.appended(&known.covers[last], &[])
     }
 
+    /// The place of the empty set.
+    fn place_of_none(&mut self, known: &mut Known) -> Result<usize, AllocError>
+        requires board { IsBoard self.old }
+        requires known { AreKnown self.old known.old }
+        ensures grows { Grows self.old self.new }
+        ensures known { AreKnown self.new known.new }
+        ensures place { IfOk result (IsPlaceOf self.new known.new []) }
+    {
+        if let Some(place) = known.sets.find(Set::EMPTY) {
+            return Ok(place);
+        }
+        let free = self.free()?;
+        let covers = self.appended(&[free], &[])?;
+        known.add(Set::EMPTY, covers)
+    }
+
+    /// The place of the set with the formulas of another and one more, the greatest, by the place of the other.
+    fn place_with(
+        &mut self,
+        ways: &[Vec<Edge>],
+        known: &mut Known,
+        index: u32,
+        others: usize,
+    ) -> Result<usize, AllocError>
+        requires right { IsRight self.old ways.now }
+        requires known { AreKnown self.old known.old }
+        requires needed { IsNeeded self.old.needed.items index }
+        requires others { others < length known.old.sets }
+        ensures grows { Grows self.old self.new }
+        ensures known { AreKnown self.new known.new }
+        ensures place { (rest : List ℕ) → IsPlaceOf self.old known.old rest others →
+            IfOk result (IsPlaceOf self.new known.new (index ∷ rest)) }
+    {
+        let rest = known.sets.as_slice()[others];
+        let set = self.sets.with(index, rest)?;
+        if let Some(place) = known.sets.find(set) {
+            return Ok(place);
+        }
+        let covers = self.joined_with(ways, index, &known.covers[others])?;
+        known.add(set, covers)
+    }
+
+    /// The covers of a formula and others, by those of the others.
     fn joined_with(
         &mut self,
-        edges: &[Edge],
         ways: &[Vec<Edge>],
         index: u32,
+        edges: &[Edge],
     ) -> Result<Vec<Edge>, AllocError>
         requires right { IsRight self.old ways.now }
         requires edges { All (IsEdgeOf self.old) edges.now }
         requires needed { IsNeeded self.old.needed.items index }
         ensures grows { Grows self.old self.new }
-        ensures covers { (some : List NormalFormula) → HasCovers self.old some edges.now →
-            IfOk result (λ covers. HasCovers self.new (some ++ normal_formula_at self.old.formulas index ∷ [])
+        ensures covers { (others : List NormalFormula) → HasCovers self.old others edges.now →
+            IfOk result (λ covers. HasCovers self.new (normal_formula_at self.old.formulas index ∷ others)
             covers.items) }
     {
-        let others = self.ways_at(ways, index);
-        self.joined(edges, others)
+        let first = self.ways_at(ways, index);
+        let products = self.products(first, edges)?;
+        self.reduced(&products)
     }
 }

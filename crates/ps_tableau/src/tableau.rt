@@ -8,6 +8,7 @@ ghost use Rattle.ps_tableau.specs.Boards.{IsTableauOf, formulas_in};
 
 use crate::board::Board;
 use crate::edge::Edge;
+use crate::known::Known;
 use crate::set::Set;
 use ps_diagram::Store;
 use ps_formula::Formulas;
@@ -20,17 +21,19 @@ pub struct Tableau {
     board: Board,
     /// The covers of each formula that is needed.
     ways: Vec<Vec<Edge>>,
+    /// The covers of states whose edges were asked for, and of the sets of their least formulas.
+    known: Known,
 }
 
 impl Model for Tableau {
-    ghost use Rattle.ps_tableau.specs.Boards.{IsRight};
+    ghost use Rattle.ps_tableau.specs.Boards.{AreKnown, IsRight};
     ghost use Rattle.ps_tableau.specs.declared.board.Board.{Board};
 
     ghost Value = { Board };
 
     ghost view = { λ t. t.board };
 
-    ghost invariant = { λ t. IsRight t.board t.ways.items };
+    ghost invariant = { λ t. IsRight t.board t.ways.items × AreKnown t.board t.known };
 }
 
 impl Tableau {
@@ -53,7 +56,11 @@ impl Tableau {
         };
         let mut board = Board::new(alloc, normal.table, root)?;
         let ways = board.all_ways()?;
-        Ok(Tableau { board, ways })
+        Ok(Tableau {
+            board,
+            ways,
+            known: Known::new(alloc),
+        })
     }
 
     /// The state of the formula.
@@ -87,7 +94,7 @@ impl Tableau {
         ensures grows { Grows self.old self.new }
         ensures edges { IfOk result (λ edges. AreEdgesOf self.new state edges.items) }
     {
-        self.board.edges(&self.ways, state)
+        self.board.edges(&self.ways, &mut self.known, state)
     }
 
     /// Whether an edge postpones an until, given by the index of its formula.

@@ -1,11 +1,13 @@
 -- Covers that are joined. (For private functions.)
-use Rattle.std.specs.Prelude.{◌≡◌, ◌↔◌, ◌⊎◌, ℕ, All, Contains, IsTrue, List, [], ◌∷◌, ◌++◌}
+use Rattle.std.specs.Prelude.{◌≡◌, ◌↔◌, ◌⊎◌, ℕ, All, Contains, IsTrue, List, [], ◌∷◌, ◌++◌, Some, slice_get}
 use Rattle.ps_formula.specs.NormalForms.{NormalFormula}
 use Rattle.ps_tableau.specs.Boards.{IsEdgeOf, cover_of, covers_of}
 use Rattle.ps_tableau.specs.Covers.{Cover}
 use Rattle.ps_tableau.specs.Operators.{AreProducts, ArePruned}
 use Rattle.ps_tableau.specs.declared.board.Board.{Board}
 use Rattle.ps_tableau.specs.declared.edge.Edge.{Edge}
+use Rattle.ps_tableau.specs.declared.known.Known.{Known}
+use Rattle.ps_tableau.specs.Sets.{indices_in}
 
 -- an edge that is a given cover
 pub record MakesEdge (b : Board) (c : Cover) (e : Edge) : Type 0 where
@@ -37,3 +39,9 @@ pub record AsksForBoth (old new : Board) (node : ℕ) (a b e : Edge) : Type 0 wh
 -- two covers serve together at no letter
 abbrev pub AreApart : Cover → Cover → Type 0
 AreApart a b = (letter : ℕ) → IsTrue (a.guard letter) → IsTrue (b.guard letter) → ⊥
+
+-- the place of a set with these indices
+pub record IsPlaceOf (b : Board) (known : Known) (indices : List ℕ) (place : ℕ) : Type 0 where
+  pub set : ℕ
+  pub there : slice_get known.sets place ≡ Some set
+  pub is : indices_in b.sets set ≡ indices

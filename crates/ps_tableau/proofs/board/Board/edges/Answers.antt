@@ -1,73 +1,62 @@
-use Rattle.std.proofs.Common.{◌≡◌, ◌∙◌, ◌++◌, ◌∷◌, List, [], ap, append-nil, append_assoc, map, refl, subst, sym}
+use Rattle.std.proofs.Common.{◌≡◌, ◌∙◌, ◌+◌, ◌-◌, ◌<◌, ◌∷◌, List, ℕ, ap, append-nil, arith, drop}
+use Rattle.std.proofs.Common.{length, map, subst, sym}
 use Rattle.std.proofs.lemmas.Result.{IfOk-weaker}
 use Rattle.ps_formula.specs.NormalForms.{NormalFormula, normal_formula_at}
 use Rattle.ps_formula.specs.declared.normal_node.NormalNode.{NormalNode}
 use Rattle.ps_tableau.proofs.BoardLemmas.{grows_trans}
-use Rattle.ps_tableau.proofs.CoverRows.{one_edge}
-use Rattle.ps_tableau.proofs.WayLemmas.{others_of, parts_before, right_kept}
-use Rattle.ps_tableau.proofs.Ways.{of_none, pruned_covers}
-use Rattle.ps_tableau.specs.Boards.{HasCovers, covers_of, formulas_in}
-use Rattle.ps_tableau.specs.Operators.{ArePruned}
-use Rattle.ps_tableau.specs.Needs.{IsNeeded}
-use Rattle.ps_tableau.specs.Covers.{AreCoversOf}
+use Rattle.ps_tableau.proofs.KnownLemmas.{covers_at, drop_one, place_within}
+use Rattle.ps_tableau.proofs.WayLemmas.{right_kept}
+use Rattle.ps_tableau.specs.Boards.{HasCovers, formulas_in}
+use Rattle.ps_tableau.specs.Inner.Joins.{IsPlaceOf}
+use Rattle.ps_tableau.specs.Sets.{indices_in}
 use Rattle.ps_tableau.specs.declared.edge.Edge.{Edge}
 use Rattle.ps_tableau.proofs.board.Board.edges.Goals as goal
 
-pub loop-parts-init : goal.loop-parts-init
-loop-parts-init c = record {
-  grows = c.free.ensures.grows;
-  rest = c.requires.state;
-  done = [];
-  covers = subst (λ (es : List Edge). HasCovers c.free.new.self [] es) (sym c.in_ok-edges.ensures)
-      (one_edge (AreCoversOf []) c.in_ok-free.ensures.edge of_none);
-  split = refl;
-}
+pub place_with-requires-clause-right : goal.place_with-requires-clause-right
+place_with-requires-clause-right c = right_kept c.loop-place.invariant.grows c.requires.right
 
-pub joined_with-requires-clause-right : goal.joined_with-requires-clause-right
-joined_with-requires-clause-right c = right_kept c.loop-parts.invariant.grows c.requires.right
+pub place_with-requires-clause-others : goal.place_with-requires-clause-others
+place_with-requires-clause-others c = place_within c.loop-place.invariant.last
 
-pub joined_with-requires-clause-needed : goal.joined_with-requires-clause-needed
-joined_with-requires-clause-needed c =
-    let grows = c.loop-parts.invariant.grows in
-    let parts = parts_before grows.sets c.loop-parts.invariant.rest.held c.in-Some.ensures.parts in
-    rw grows.needed (others_of {P = IsNeeded c.args.self.now.needed.items} {b = c.args.self.now} parts
-    c.loop-parts.invariant.rest).0
+pub returns-in_err-last-2-clause-grows : goal.returns-in_err-last-2-clause-grows
+returns-in_err-last-2-clause-grows c = grows_trans c.loop-place.invariant.grows c.place_with.ensures.grows
 
-pub loop-parts-preserved : goal.loop-parts-preserved
-loop-parts-preserved c =
-    let b = c.args.self.now in
-    let v = c.loop-parts.invariant in
-    let parts = parts_before v.grows.sets v.rest.held c.in-Some.ensures.parts in
-    let f = normal_formula_at b.formulas c.in-Some.parts.greatest in
-    let others = formulas_in b c.in-Some.parts.others in
-    let same : normal_formula_at c.loop-parts.self.formulas c.in-Some.parts.greatest ≡ f =
-    ap (λ (nodes : List NormalNode). normal_formula_at nodes c.in-Some.parts.greatest) v.grows.formulas in
+pub loop-place-preserved : goal.loop-place-preserved
+loop-place-preserved c =
+    let items = c.in_ok-formulas.formulas.items in
+    let place = c.loop-place.place - 1 in
+    let next : place + 1 ≡ c.loop-place.place = omega arith in
+    let within : place < length items = omega (arith, c.len-place.ensures) in
+    let index = c.index.result.now in
+    let split : drop place items ≡ index ∷ drop c.loop-place.place items =
+    subst (λ n. drop place items ≡ index ∷ drop n items) next (drop_one items place index within c.index.ensures) in
     record {
-      grows = grows_trans v.grows c.joined_with.ensures.grows;
-      rest = (others_of {P = IsNeeded b.needed.items} {b = b} parts v.rest).1;
-      done = v.done ++ f ∷ [];
-      covers =
-          subst (λ (h : NormalFormula). HasCovers c.joined_with.new.self (v.done ++ h ∷ []) c.in_ok-edges-2.edges.items)
-          same (c.in_ok-edges-2.ensures.covers v.done
-          (subst (λ (es : List Edge). HasCovers c.loop-parts.self v.done es) (sym c.deref.ensures.value) v.covers));
-      split = append_assoc v.done (f ∷ []) others
-          ∙ ap (λ (fs : List NormalFormula). v.done ++ fs) (sym (ap (map (normal_formula_at b.formulas)) parts.is))
-          ∙ v.split;
+      grows = grows_trans c.loop-place.invariant.grows c.place_with.ensures.grows;
+      known = c.place_with.ensures.known;
+      last = subst (λ (ks : List ℕ). IsPlaceOf c.place_with.new.self c.place_with.new.known ks c.in_ok-last-2.last)
+          (sym split)
+          (c.in_ok-last-2.ensures.place (drop c.loop-place.place items) c.loop-place.invariant.last);
     }
 
+pub index-requires-2 : goal.index-requires-2
+index-requires-2 c =
+    let low = place_within c.loop-place.invariant.last in
+    omega (arith, low, c.loop-place.invariant.known.count, c.loop-place.known.covers.ok.0)
+
 pub returns-clause-edges : goal.returns-clause-edges
-returns-clause-edges c = IfOk-weaker c.reduced.result _ _ (λ out made.
+returns-clause-edges c = IfOk-weaker c.appended.result _ _ (λ out is.
     let b = c.args.self.now in
-    let mid = c.loop-parts.self in
-    let new = c.reduced.new.self in
-    let v = c.loop-parts.invariant in
-    let state = formulas_in b c.args.state in
-    let covers = covers_of mid c.loop-parts.edges.items in
-    let whole : v.done ≡ state = sym (append-nil v.done)
-    ∙ subst (λ s. v.done ++ formulas_in b s ≡ state) c.in_default.ensures.parts v.split in
-    let exact = subst (λ (fs : List NormalFormula). AreCoversOf fs covers) whole v.covers.right in
-    let pruned =
-    subst (λ (es : List Edge). ArePruned (covers_of mid es) (covers_of new out.items)) c.deref-2.ensures.value
-    made.right in
-    record { held = made.held; right = pruned_covers state covers (covers_of new out.items) exact pruned })
-    c.reduced.ensures.pruned
+    let mid = c.loop-place.self in
+    let v = c.loop-place.invariant in
+    let items = c.in_ok-formulas.formulas.items in
+    let done : c.loop-place.place ≡ 0 = omega arith in
+    let found = c.index-2.result.now in
+    let made = covers_at found v.known v.last c.index-2.ensures in
+    let whole : map (normal_formula_at mid.formulas) (drop c.loop-place.place items) ≡ formulas_in b c.args.state =
+    ap (λ n. map (normal_formula_at mid.formulas) (drop n items)) done
+    ∙ ap (map (normal_formula_at mid.formulas)) c.in_ok-formulas.ensures
+    ∙ ap (λ (nodes : List NormalNode). map (normal_formula_at nodes) (indices_in b.sets c.args.state))
+    v.grows.formulas in
+    let same = is ∙ append-nil c.deref.result.now ∙ c.deref.ensures.value in
+    subst (λ (es : List Edge). HasCovers mid (formulas_in b c.args.state) es) (sym same)
+    (subst (λ (fs : List NormalFormula). HasCovers mid fs found.items) whole made)) c.appended.ensures

@@ -6,5 +6,5 @@ use Rattle.ps_tableau.proofs.board.Board.reduced.Given as goal
 abbrev pub invariant-loop-edge : goal.invariant-loop-edge
 invariant-loop-edge l = record {
   grows : Grows l.fn.self l.self;
-  pruned : MakesEdges l.self (ArePruned (covers_of l.fn.self (take l.edge-index l.edges))) l.kept.items;
+  reduced : MakesEdges l.self (ArePruned (covers_of l.fn.self (take l.edge-index l.edges))) l.reduced.items;
 }

@@ -1,10 +1,10 @@
-use Rattle.std.proofs.Common.{arith, ◌∷◌, [], subst, sym}
+use Rattle.std.proofs.Common.{◌∷◌, [], subst, sym}
 use Rattle.std.proofs.lemmas.Result.{IfOk-weaker}
 use Rattle.ps_formula.specs.NormalForms.{NormalFormula, normal_formula_at}
 use Rattle.ps_formula.specs.declared.normal_node.NormalNode.TheVariants.{Constant, Proposition, Negated, And, Or, Next}
 use Rattle.ps_formula.specs.declared.normal_node.NormalNode.TheVariants.{Until, Release}
 use Rattle.ps_tableau.proofs.OperatorLemmas.{covers_of_and, covers_of_or}
-use Rattle.ps_tableau.proofs.WayLemmas.{formula_node}
+use Rattle.ps_tableau.proofs.WayLemmas.{covers_by, formula_node, operands_known, operands_needed}
 use Rattle.ps_tableau.specs.Boards.{HasCovers}
 use Rattle.ps_tableau.proofs.board.Board.ways_of.Goals as goal
 
@@ -22,131 +22,91 @@ ways_of_next-requires-clause-needed c =
 
 pub ways_at-first-requires-clause-within : goal.ways_at-first-requires-clause-within
 ways_at-first-requires-clause-within c =
-    let over = rw c.in-And.is at (c.requires.board.table.earlier c.args.index c.args.node c.requires.node) in
-    let low = over.0 in
-    omega (arith, low, c.requires.before)
+    (operands_known c.requires.board c.requires.node c.requires.before c.in-And.is).0
 
 pub ways_at-first-requires-clause-needed : goal.ways_at-first-requires-clause-needed
 ways_at-first-requires-clause-needed c =
-    let needs = rw c.in-And.is at
-    (c.requires.board.needs.operands c.args.index c.args.node c.requires.node c.requires.needed) in
-    needs.0
+    (operands_needed c.args.index c.requires.board c.requires.node c.requires.needed c.in-And.is).0
 
 pub ways_at-second-requires-clause-within : goal.ways_at-second-requires-clause-within
 ways_at-second-requires-clause-within c =
-    let over = rw c.in-And.is at (c.requires.board.table.earlier c.args.index c.args.node c.requires.node) in
-    let low = over.1 in
-    omega (arith, low, c.requires.before)
+    (operands_known c.requires.board c.requires.node c.requires.before c.in-And.is).1
 
 pub ways_at-second-requires-clause-needed : goal.ways_at-second-requires-clause-needed
 ways_at-second-requires-clause-needed c =
-    let needs = rw c.in-And.is at
-    (c.requires.board.needs.operands c.args.index c.args.node c.requires.node c.requires.needed) in
-    needs.1
+    (operands_needed c.args.index c.requires.board c.requires.node c.requires.needed c.in-And.is).1
 
 pub ways_at-first-requires-in-Or-clause-within : goal.ways_at-first-requires-in-Or-clause-within
 ways_at-first-requires-in-Or-clause-within c =
-    let over = rw c.in-Or.is at (c.requires.board.table.earlier c.args.index c.args.node c.requires.node) in
-    let low = over.0 in
-    omega (arith, low, c.requires.before)
+    (operands_known c.requires.board c.requires.node c.requires.before c.in-Or.is).0
 
 pub ways_at-first-requires-in-Or-clause-needed : goal.ways_at-first-requires-in-Or-clause-needed
 ways_at-first-requires-in-Or-clause-needed c =
-    let needs =
-    rw c.in-Or.is at (c.requires.board.needs.operands c.args.index c.args.node c.requires.node c.requires.needed) in
-    needs.0
+    (operands_needed c.args.index c.requires.board c.requires.node c.requires.needed c.in-Or.is).0
 
 pub ways_at-second-requires-in-Or-clause-within : goal.ways_at-second-requires-in-Or-clause-within
 ways_at-second-requires-in-Or-clause-within c =
-    let over = rw c.in-Or.is at (c.requires.board.table.earlier c.args.index c.args.node c.requires.node) in
-    let low = over.1 in
-    omega (arith, low, c.requires.before)
+    (operands_known c.requires.board c.requires.node c.requires.before c.in-Or.is).1
 
 pub ways_at-second-requires-in-Or-clause-needed : goal.ways_at-second-requires-in-Or-clause-needed
 ways_at-second-requires-in-Or-clause-needed c =
-    let needs =
-    rw c.in-Or.is at (c.requires.board.needs.operands c.args.index c.args.node c.requires.node c.requires.needed) in
-    needs.1
+    (operands_needed c.args.index c.requires.board c.requires.node c.requires.needed c.in-Or.is).1
 
 pub ways_at-first-requires-in-Until-clause-within : goal.ways_at-first-requires-in-Until-clause-within
 ways_at-first-requires-in-Until-clause-within c =
-    let over = rw c.in-Until.is at (c.requires.board.table.earlier c.args.index c.args.node c.requires.node) in
-    let low = over.0 in
-    omega (arith, low, c.requires.before)
+    (operands_known c.requires.board c.requires.node c.requires.before c.in-Until.is).0
 
 pub ways_at-first-requires-in-Until-clause-needed : goal.ways_at-first-requires-in-Until-clause-needed
 ways_at-first-requires-in-Until-clause-needed c =
-    let needs = rw c.in-Until.is at
-    (c.requires.board.needs.operands c.args.index c.args.node c.requires.node c.requires.needed) in
-    needs.0
+    (operands_needed c.args.index c.requires.board c.requires.node c.requires.needed c.in-Until.is).0
 
 pub ways_at-second-requires-in-Until-clause-within : goal.ways_at-second-requires-in-Until-clause-within
 ways_at-second-requires-in-Until-clause-within c =
-    let over = rw c.in-Until.is at (c.requires.board.table.earlier c.args.index c.args.node c.requires.node) in
-    let low = over.1 in
-    omega (arith, low, c.requires.before)
+    (operands_known c.requires.board c.requires.node c.requires.before c.in-Until.is).1
 
 pub ways_at-second-requires-in-Until-clause-needed : goal.ways_at-second-requires-in-Until-clause-needed
 ways_at-second-requires-in-Until-clause-needed c =
-    let needs = rw c.in-Until.is at
-    (c.requires.board.needs.operands c.args.index c.args.node c.requires.node c.requires.needed) in
-    needs.1
+    (operands_needed c.args.index c.requires.board c.requires.node c.requires.needed c.in-Until.is).1
 
 pub ways_at-first-requires-in-Release-clause-within : goal.ways_at-first-requires-in-Release-clause-within
 ways_at-first-requires-in-Release-clause-within c =
-    let over = rw c.in-Release.is at (c.requires.board.table.earlier c.args.index c.args.node c.requires.node) in
-    let low = over.0 in
-    omega (arith, low, c.requires.before)
+    (operands_known c.requires.board c.requires.node c.requires.before c.in-Release.is).0
 
 pub ways_at-first-requires-in-Release-clause-needed : goal.ways_at-first-requires-in-Release-clause-needed
 ways_at-first-requires-in-Release-clause-needed c =
-    let needs = rw c.in-Release.is at
-    (c.requires.board.needs.operands c.args.index c.args.node c.requires.node c.requires.needed) in
-    needs.0
+    (operands_needed c.args.index c.requires.board c.requires.node c.requires.needed c.in-Release.is).0
 
 pub ways_at-second-requires-in-Release-clause-within : goal.ways_at-second-requires-in-Release-clause-within
 ways_at-second-requires-in-Release-clause-within c =
-    let over = rw c.in-Release.is at (c.requires.board.table.earlier c.args.index c.args.node c.requires.node) in
-    let low = over.1 in
-    omega (arith, low, c.requires.before)
+    (operands_known c.requires.board c.requires.node c.requires.before c.in-Release.is).1
 
 pub ways_at-second-requires-in-Release-clause-needed : goal.ways_at-second-requires-in-Release-clause-needed
 ways_at-second-requires-in-Release-clause-needed c =
-    let needs = rw c.in-Release.is at
-    (c.requires.board.needs.operands c.args.index c.args.node c.requires.node c.requires.needed) in
-    needs.1
+    (operands_needed c.args.index c.requires.board c.requires.node c.requires.needed c.in-Release.is).1
 
 pub returns-in-Constant-clause-ways : goal.returns-in-Constant-clause-ways
 returns-in-Constant-clause-ways c =
     let is = formula_node c.args.self.now.formulas c.args.index c.args.node (Constant c.in-Constant.value)
     c.requires.board.table c.requires.node c.in-Constant.is in
-    IfOk-weaker c.ways_of_constant.result _ _ (λ out made.
-    subst (λ (h : NormalFormula). HasCovers c.ways_of_constant.new.self (h ∷ []) out.items) (sym is) made)
-    c.ways_of_constant.ensures.ways
+    covers_by c.ways_of_constant.new.self c.ways_of_constant.result is c.ways_of_constant.ensures.ways
 
 pub returns-in-Proposition-clause-ways : goal.returns-in-Proposition-clause-ways
 returns-in-Proposition-clause-ways c =
     let is = formula_node c.args.self.now.formulas c.args.index c.args.node (Proposition c.in-Proposition.p)
     c.requires.board.table c.requires.node c.in-Proposition.is in
-    IfOk-weaker c.ways_of_literal.result _ _ (λ out made.
-    subst (λ (h : NormalFormula). HasCovers c.ways_of_literal.new.self (h ∷ []) out.items) (sym is) made)
-    c.ways_of_literal.ensures.ways
+    covers_by c.ways_of_literal.new.self c.ways_of_literal.result is c.ways_of_literal.ensures.ways
 
 pub returns-in-Negated-clause-ways : goal.returns-in-Negated-clause-ways
 returns-in-Negated-clause-ways c =
     let is = formula_node c.args.self.now.formulas c.args.index c.args.node (Negated c.in-Negated.p)
     c.requires.board.table c.requires.node c.in-Negated.is in
-    IfOk-weaker c.ways_of_literal-in-Negated.result _ _ (λ out made.
-    subst (λ (h : NormalFormula). HasCovers c.ways_of_literal-in-Negated.new.self (h ∷ []) out.items) (sym is) made)
-    c.ways_of_literal-in-Negated.ensures.ways
+    covers_by c.ways_of_literal-in-Negated.new.self c.ways_of_literal-in-Negated.result is c.ways_of_literal-in-Negated.ensures.ways
 
 pub returns-in-Next-clause-ways : goal.returns-in-Next-clause-ways
 returns-in-Next-clause-ways c =
     let is = formula_node c.args.self.now.formulas c.args.index c.args.node (Next c.in-Next.f)
     c.requires.board.table c.requires.node c.in-Next.is in
-    IfOk-weaker c.ways_of_next.result _ _ (λ out made.
-    subst (λ (h : NormalFormula). HasCovers c.ways_of_next.new.self (h ∷ []) out.items) (sym is) made)
-    c.ways_of_next.ensures.ways
+    covers_by c.ways_of_next.new.self c.ways_of_next.result is c.ways_of_next.ensures.ways
 
 pub returns-in-And-clause-ways : goal.returns-in-And-clause-ways
 returns-in-And-clause-ways c =

@@ -10,6 +10,6 @@ returns c =
     let found = rw c.self.view_is at c.contains.ensures in (
       λ yes. in_map (normal_formula_at b.formulas) (indices_in b.sets c.args.edge.postponed) c.args.until
           (found.0 yes),
-      λ there. found.1 (formula_in b (rw c.self.view_is at c.self.invariant.board) c.args.edge.postponed
+      λ there. found.1 (formula_in b (rw c.self.view_is at c.self.invariant.0.board) c.args.edge.postponed
           c.args.until c.requires.edge.postponed c.requires.until there),
     )

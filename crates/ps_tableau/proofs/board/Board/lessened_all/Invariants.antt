@@ -1,7 +1,7 @@
 use Rattle.std.proofs.Common.{take}
 use Rattle.ps_tableau.specs.Boards.{Grows, MakesEdges, covers_of}
 use Rattle.ps_tableau.specs.Operators.{ArePruned}
-use Rattle.ps_tableau.proofs.board.Board.pruned.Given as goal
+use Rattle.ps_tableau.proofs.board.Board.lessened_all.Given as goal
 
 abbrev pub invariant-loop-edge : goal.invariant-loop-edge
 invariant-loop-edge l = record {
