@@ -1,7 +1,8 @@
 -- Diagrams of propositions over the letters of a formula, and what an automaton and a guard say of these letters.
 use Rattle.std.proofs.Common.{◌≡◌, ℕ, ◌^◌, ◌<◌, ◌≤◌, inl, inr, Bool, true, false, List, [], ◌∷◌, ◌++◌, All, length}
 use Rattle.std.proofs.Common.{get_or, map, None, Option, Some, refl, sym, ap, subst, ◌∙◌, arith, length-append}
-use Rattle.std.specs.Prelude.{is_some, if◌then◌else◌, nat_lt, IsSomeAnd, slice_get}
+use Rattle.std.specs.Global.{Global}
+use Rattle.std.specs.Prelude.{is_some, if◌then◌else◌, nat_lt, IsSomeAnd, Vec, slice_get}
 use Rattle.std.proofs.Math.ListN.{get_or-append}
 use Rattle.std.proofs.Math.Seq.{get_or-append_seam}
 use Rattle.std.proofs.lemmas.Bool.{cases_lt, le-ltb, lt-ltb}
@@ -14,12 +15,16 @@ use Rattle.ps_diagram.specs.Labels.{one_where}
 use Rattle.ps_diagram.specs.Leaves.{chosen}
 use Rattle.ps_diagram.specs.Reached.{AreLeaves}
 use Rattle.ps_diagram.specs.Table.{IsNode, Keeps, Table, leaf_of}
+use Rattle.ps_diagram.proofs.Cells.{keeps_refl}
 use Rattle.ps_diagram.proofs.Letters.{letter_is, no_bit}
 use Rattle.ps_label.specs.Truth.{is_in}
 use Rattle.ps_product.proofs.TruthLemmas.{leaf_kept}
-use Rattle.ps_models.specs.Inner.Alphabets.{AreBitNodes, AreMet, ArePlaceNodes, IsAlphabet, IsBitNode, IsRenamed}
+use Rattle.ps_models.specs.Inner.Alphabets.{AreBitNodes, AreMet, ArePlaceNodes, IsAlphabet, IsBitNode}
+use Rattle.ps_models.specs.Inner.Composing.{AreComposed}
 use Rattle.ps_models.specs.Inner.Joints.{read_by}
 use Rattle.ps_models.specs.declared.alphabet.Alphabet.{Alphabet}
+use Rattle.ps_models.specs.declared.joining.JointPlan.{JointPlan}
+use Rattle.ps_models.proofs.ComposedLemmas.{composed_kept}
 use Rattle.ps_models.proofs.StepLemmas.{chosen_one, chosen_some}
 
 -- ## Nodes of propositions
@@ -87,7 +92,7 @@ alphabet_made {t} {count} {places} {whole} {own} few each are low own_is =
           (lt-ltb (get_or places k 0) count (low k 0 lt));
     }
 
-places_kept : {t u : Table} {places : List ℕ} (nodes : List ℕ) → Keeps t u → ArePlaceNodes t places nodes →
+pub places_kept : {t u : Table} {places : List ℕ} (nodes : List ℕ) → Keeps t u → ArePlaceNodes t places nodes →
     ArePlaceNodes u places nodes
 places_kept nodes keeps are = record {
   one_each = are.one_each;
@@ -97,15 +102,30 @@ places_kept nodes keeps are = record {
       ap is_some (leaf_kept letter keeps (are.held k 0 (omega arith))) ∙ are.each k letter lt;
 }
 
-pub alphabet_kept : {count : ℕ} {places : List ℕ} (old new : Alphabet) → Keeps old.store new.store →
-    new.whole.items ≡ old.whole.items → new.own.items ≡ old.own.items → IsAlphabet count places old →
-    IsAlphabet count places new
-alphabet_kept {count} {places} old new keeps whole own is = record {
+-- the tableau may have made further guards
+pub alphabet_grown : {plan : JointPlan} {guards wider : Table} (a : Alphabet) → Keeps guards wider →
+    IsAlphabet plan guards a → IsAlphabet plan wider a
+alphabet_grown a grows is = record {
+  propositions = is.propositions;
+  whole = is.whole;
+  own = is.own;
+  of_guards = composed_kept a.guards (keeps_refl a.store) grows is.of_guards;
+  of_steps = is.of_steps;
+}
+
+-- diagrams of one more guard and of one more state may have been made
+pub alphabet_more : {plan : JointPlan} {guards : Table} (old new : Alphabet) → Keeps old.store new.store →
+    new.guards.truths ≡ old.guards.truths → new.steps.truths ≡ old.steps.truths →
+    AreComposed new.store guards new.guards → AreComposed new.store plan.automaton.now.store new.steps →
+    IsAlphabet plan guards old → IsAlphabet plan guards new
+alphabet_more {plan} {guards} old new keeps whole own of_guards of_steps is = record {
   propositions = keeps.propositions ∙ is.propositions;
-  few = is.few;
-  whole_each = ap (λ (l : List ℕ). length l) whole ∙ is.whole_each;
-  whole = subst (AreBitNodes new.store count) (sym whole) (bits_kept old.whole.items keeps is.whole);
-  own = subst (ArePlaceNodes new.store places) (sym own) (places_kept old.own.items keeps is.own);
+  whole = subst (λ (nodes : Vec ℕ Global). AreBitNodes new.store plan.count nodes.items) (sym whole)
+      (bits_kept old.guards.truths.items keeps is.whole);
+  own = subst (λ (nodes : Vec ℕ Global). ArePlaceNodes new.store plan.places.now nodes.items) (sym own)
+      (places_kept old.steps.truths.items keeps is.own);
+  of_guards = of_guards;
+  of_steps = of_steps;
 }
 
 -- ## Letters
@@ -128,13 +148,6 @@ bit_below count p letter low = elim (cases_lt p count) [
 pub whole_letter : {t : Table} {count : ℕ} {nodes : List ℕ} → AreBitNodes t count nodes → (letter : ℕ) →
     letter < 2 ^ count → IsLetterOfTruths t nodes letter letter
 whole_letter {count = count} are letter low p lt = bit_below count p letter low ∙ sym (are.each p lt letter)
-
-pub renamed_kept : {t u : Table} {places : List ℕ} {a : AutomatonData} {q node : ℕ} → Keeps t u →
-    IsRenamed t places a q node → IsRenamed u places a q node
-renamed_kept {node = node} keeps is = record {
-  held = keeps.held node is.held;
-  leaf = λ letter. leaf_kept letter keeps is.held ∙ is.leaf letter;
-}
 
 -- ## Leaves where a guard serves
 

@@ -17,7 +17,7 @@ use Rattle.ps_circuit.specs.Circuits.{CircuitData}
 use Rattle.ps_circuit.specs.Values.{GoesOn, Steps}
 use Rattle.ps_simulate.specs.Lassos.{AreLetters}
 use Rattle.ps_traces.specs.Traces.{IsLassoWord}
-use Rattle.ps_models.specs.Products.{ModelEdge, IsModelEdge, IsFairLasso, IsTableauFor, LeadsAlong, ModelVertex}
+use Rattle.ps_models.specs.Products.{ModelEdge, IsModelEdge, IsFairLasso, IsTableauFor, IsModelWalk, ModelVertex}
 use Rattle.ps_models.specs.Products.{edge_letters, edge_moments}
 use Rattle.ps_models.specs.Products.{begins_at, start_vertex}
 use Rattle.ps_models.proofs.LassoWalks.{Walks, along, along_both, goes, in_lap, starts}
@@ -32,12 +32,12 @@ no_edge = record {
 }
 
 module _ (names : List (List ℕ)) (c : CircuitData) (t : Tableau) where
-  walk_of : (v w : ModelVertex) (es : List ModelEdge) → LeadsAlong names c t v es w →
+  walk_of : (v w : ModelVertex) (es : List ModelEdge) → IsModelWalk names c t v es w →
       Walks begins_at (IsModelEdge names c t) v es w
   walk_of v w [] leads = leads
   walk_of v w (e ∷ es) (u, at, edge, rest) = (u, at, edge, walk_of u w es rest)
 
-  pub goes_on : (v w : ModelVertex) (es : List ModelEdge) → LeadsAlong names c t v es w →
+  pub goes_on : (v w : ModelVertex) (es : List ModelEdge) → IsModelWalk names c t v es w →
       GoesOn c v.latches (edge_moments es) w.latches
   goes_on v w [] leads = ap (λ (u : ModelVertex). u.latches) leads
   goes_on v w (e ∷ es) (u, at, edge, rest) =
@@ -48,7 +48,7 @@ module _ (names : List (List ℕ)) (c : CircuitData) (t : Tableau) where
         goes_on u w es rest,
       )
 
-  pub are_letters : (v w : ModelVertex) (es : List ModelEdge) → LeadsAlong names c t v es w →
+  pub are_letters : (v w : ModelVertex) (es : List ModelEdge) → IsModelWalk names c t v es w →
       AreLetters names c (edge_moments es) (edge_letters es)
   are_letters v w [] leads = refl
   are_letters v w (e ∷ es) (u, at, edge, rest) = (edge.step.is_letter, are_letters u w es rest)

@@ -9,13 +9,13 @@ use Rattle.ps_fairness.specs.declared.edge.Edge.{Edge}
 use Rattle.ps_formula.specs.NormalForms.{NormalFormula}
 use Rattle.ps_tableau.specs.Runs.{Tableau}
 use Rattle.ps_circuit.specs.Circuits.{CircuitData}
-use Rattle.ps_models.specs.Products.{BearsMark, IsFairLasso, LeadsAlong, ModelVertex}
+use Rattle.ps_models.specs.Products.{BearsMark, IsFairLasso, IsModelWalk, ModelVertex}
 use Rattle.ps_models.specs.ProductGraphs.{IsProductGraph, ProductGraph, edge_at, edges_in}
 
 module _ (names : List (List ℕ)) (c : CircuitData) (t : Tableau) (start : ModelVertex) (p : ProductGraph)
     (is_graph : IsProductGraph names c t start p) where
   leads_along : (v w : ℕ) (es : List Edge) → Leads p.graph es v w →
-      LeadsAlong names c t (p.vertex v) (edges_in p es) (p.vertex w)
+      IsModelWalk names c t (p.vertex v) (edges_in p es) (p.vertex w)
   leads_along v w [] leads = ap p.vertex leads
   leads_along v w (e ∷ es) (at, rest) =
       let u = rest.0 in
@@ -54,7 +54,7 @@ module _ (names : List (List ℕ)) (c : CircuitData) (t : Tableau) (start : Mode
     lasso_of_cycle = record {
       some = omega (arith, length-map lap (edge_at p), cycle.some);
       back = p.vertex cycle.start;
-      goes_there = subst (λ (v : ModelVertex). LeadsAlong names c t v (edges_in p stem) (p.vertex cycle.start))
+      goes_there = subst (λ (v : ModelVertex). IsModelWalk names c t v (edges_in p stem) (p.vertex cycle.start))
           is_graph.first (leads_along 0 cycle.start stem leads);
       comes_back = leads_along cycle.start cycle.start lap cycle.returns;
       each = bears;

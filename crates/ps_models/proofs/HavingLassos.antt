@@ -13,7 +13,7 @@ use Rattle.ps_tableau.proofs.Rounds.{fair_run_has_round_lem}
 use Rattle.ps_circuit.specs.Circuits.{CircuitData}
 use Rattle.ps_simulate.proofs.CountLemmas.{code, code_lt, code_same}
 use Rattle.ps_traces.specs.Traces.{IsLassoWord}
-use Rattle.ps_models.specs.Products.{HasFairLasso, IsModelEdge, IsTableauFor, LeadsAlong, ModelEdge, ModelVertex}
+use Rattle.ps_models.specs.Products.{HasFairLasso, IsModelEdge, IsTableauFor, IsModelWalk, ModelEdge, ModelVertex}
 use Rattle.ps_models.specs.Products.{begins_at, start_vertex}
 use Rattle.ps_models.proofs.WordSteps.{among, begins_with, entries_from, latches_held, length-entries_from}
 use Rattle.ps_models.proofs.WordSteps.{letter_there, moment, some_letter, steps_at}
@@ -21,7 +21,7 @@ use Rattle.ps_models.proofs.WordSteps.{letter_there, moment, some_letter, steps_
 module _ {names : List (List ℕ)} {c : CircuitData} {t : Tableau} (e : ℕ → ModelEdge)
     (on : (i : ℕ) → IsModelEdge names c t (e i) (begins_at (e (suc i)))) where
   leads_to : (i n j : ℕ) → i + n ≡ j →
-      LeadsAlong names c t (begins_at (e i)) (entries_from e i n) (begins_at (e j))
+      IsModelWalk names c t (begins_at (e i)) (entries_from e i n) (begins_at (e j))
   leads_to i zero j far = ap (λ (k : ℕ). begins_at (e k)) (omega arith)
   leads_to i (suc n) j far = (begins_at (e (suc i)), refl, on i, leads_to (suc i) n j (omega arith))
 
@@ -91,10 +91,10 @@ module _ {names : List (List ℕ)} {c : CircuitData} {t : Tableau} {state : ℕ}
           some = omega (arith, length-entries_from edge from n);
           back = begins_at (edge from);
           goes_there =
-              subst (λ (v : ModelVertex). LeadsAlong names c t v (entries_from edge 0 from) (begins_at (edge from)))
+              subst (λ (v : ModelVertex). IsModelWalk names c t v (entries_from edge 0 from) (begins_at (edge from)))
               first (leads_to edge on 0 from from (omega arith));
           comes_back =
-              subst (λ (v : ModelVertex). LeadsAlong names c t (begins_at (edge from)) (entries_from edge from n) v)
+              subst (λ (v : ModelVertex). IsModelWalk names c t (begins_at (edge from)) (entries_from edge from n) v)
               (sym (same_vertex round.start round.end round.same)) (leads_to edge on from n round.end (omega arith));
           each = λ until known.
               (let free = round.each until known in

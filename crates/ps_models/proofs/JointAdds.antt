@@ -25,7 +25,8 @@ use Rattle.ps_models.specs.Inner.Joints.{read_by}
 use Rattle.ps_models.specs.Inner.Rows.{ServesFor}
 use Rattle.ps_models.specs.Inner.States.{IsNumberOfSet}
 use Rattle.ps_models.specs.declared.joint.JointEdge.{JointEdge}
-use Rattle.ps_models.proofs.JointDrafts.{joints_none, paired_more}
+use Rattle.ps_models.proofs.Drafts.{adds_none}
+use Rattle.ps_models.proofs.JointDrafts.{paired_more}
 use Rattle.ps_models.proofs.RowLemmas.{at_right}
 
 -- ## One leaf after another
@@ -139,7 +140,7 @@ module _ (s : Pairing) (old : JointDraftData) (v : ℕ × ℕ) (cover : Edge) (m
     (known : Contains (joint_covers old.states v) cover) where
   pub adds_no_joint : (row : List JointEdge) → length met ≡ 0 → AddsJointCover s old old v cover row row
   adds_no_joint row none = record {
-    adds = joints_none row are;
+    adds = adds_none row are;
     more = [];
     made_is = sym (append-nil row);
     lead = λ k x at. absurd (omega (arith, slice_get_within [] k x at));
@@ -241,7 +242,7 @@ module _ (s : Pairing) (old : JointDraftData) (v : ℕ × ℕ) (cover : Edge) (m
     pub adds_joint : AddsJointCover s old new v cover row made
     adds_joint = record {
       adds = record {
-        paired = record { states = number.states; each = paired_now };
+        are_fit = record { states = number.states; each = paired_now };
         board = number.board;
         edges = number.edges;
         sets = number.sets;

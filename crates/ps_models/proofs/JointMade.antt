@@ -1,17 +1,14 @@
 -- The explored product is the product of the automaton and a tableau.
-use Rattle.std.proofs.Common.{◌≡◌, ◌↔◌, ℕ, suc, zero, ◌<◌, ◌≤◌, inl, inr, true, not, List, [], length}
+use Rattle.std.proofs.Common.{◌≡◌, ◌↔◌, ℕ, ◌<◌, ◌≤◌, true, not, length}
 use Rattle.std.proofs.Common.{get_or, Some, sym, ap, subst, ◌∙◌, arith}
 use Rattle.std.specs.Option.{option_map}
 use Rattle.std.specs.Prelude.{IsTrue}
 use Rattle.std.specs.List.{Contains, slice_get}
-use Rattle.std.proofs.lemmas.Bool.{cases_lt}
-use Rattle.std.proofs.lemmas.List.{get_or_default, get_or_past, length-map, get_or-map}
+use Rattle.std.proofs.lemmas.List.{get_or_default, length-map, get_or-map}
 use Rattle.std.proofs.lemmas.Option.{get_or_from_slice_get, slice_get-get_or, slice_get_within}
 use Rattle.ps_automaton.specs.Automata.{auto_of}
 use Rattle.ps_automaton.specs.Autos.{Auto}
-use Rattle.ps_components.specs.Graphs.{Link, SameOrWay}
-use Rattle.ps_components.specs.Graphs.Way.{last}
-use Rattle.ps_components.proofs.Ways.{Way-join}
+use Rattle.ps_components.specs.Graphs.{Link}
 use Rattle.ps_fairness.specs.Marks.{IsEdge}
 use Rattle.ps_fairness.specs.declared.edge.Edge as graph
 use Rattle.ps_formula.specs.Formulas.{Formula}
@@ -27,7 +24,7 @@ use Rattle.ps_tableau.specs.declared.edge.Edge.{Edge}
 use Rattle.ps_models.specs.BoardStates.{AreStatesOf}
 use Rattle.ps_models.specs.Inner.JointGraphs.{IsJointOf, IsJointStored, JointData, joint_edge, joint_graph, joint_marks}
 use Rattle.ps_models.specs.Inner.JointGraphs.{joint_product, joint_row, no_joint, step_in}
-use Rattle.ps_models.specs.Inner.Joining.{IsJoined, IsJointExplored, IsJointRow, JointDraftData, Pairing}
+use Rattle.ps_models.specs.Inner.Joining.{IsJointExplored, IsJointRow, JointDraftData, Pairing}
 use Rattle.ps_models.specs.Inner.Joining.{joint_covers}
 use Rattle.ps_models.specs.Inner.Joints.{HasJoint, IsJoint, IsJointProduct, JointProduct, JointVertex, joint_at}
 use Rattle.ps_models.specs.Inner.Joints.{read_by}
@@ -35,6 +32,7 @@ use Rattle.ps_models.specs.Inner.States.{AreStates, tableau_in}
 use Rattle.ps_models.specs.declared.joint.JointEdge.{JointEdge}
 use Rattle.ps_models.proofs.BoardTableaux.{is_tableau_for}
 use Rattle.ps_models.proofs.GraphLemmas.{among_postponed, not_true, target_of}
+use Rattle.ps_models.proofs.GrowingRows.{all_reached, row_low}
 use Rattle.ps_models.proofs.StateLemmas.{cover_held}
 
 abbrev joint_vertex : ℕ × ℕ → JointVertex
@@ -64,7 +62,7 @@ module _ {s : Pairing} {d : JointDraftData} (x : IsJointExplored s d (length d.v
   p = joint_product g vertex
 
   states : AreStates d.states
-  states = x.are_paired.states
+  states = x.are_fit.states
 
   are_states : AreStatesOf b d.states.sets d.states.edges
   are_states = record { exact = λ q lt. states.exact q (omega (arith, lt, all)) }
@@ -115,7 +113,7 @@ module _ {s : Pairing} {d : JointDraftData} (x : IsJointExplored s d (length d.v
         low = l.low;
         own = l.own;
         priority = l.priority;
-        from = (x.are_paired.each v w at).state;
+        from = (x.are_fit.each v w at).state;
         cover = in_map (cover_of b) (joint_covers d.states w) y.cover l.known;
         serves = l.serves;
         to = slice_get_within d.states.sets l.to.1 y.cover.next l.next;
@@ -220,31 +218,6 @@ module _ {s : Pairing} {d : JointDraftData} (x : IsJointExplored s d (length d.v
     marked = marked;
   }
 
-  -- ## Every vertex is reached
-
-  led_link : (v : ℕ) (l : IsJoined d.rows v) → Link (joint_graph g) l.from v
-  led_link v l =
-      let e = link_there l.from l.place l.passage l.within l.there in
-      record {
-        from = e.from;
-        place = l.place;
-        at = e.at;
-        target = e.target ∙ ap (λ (n : ℕ). Some n) l.leads;
-      }
-
-  reach : (n v : ℕ) → v ≤ n → v < length d.rows → SameOrWay (joint_graph g) 0 v
-  reach zero v le lt = inl (omega arith)
-  reach (suc n) v le lt = elim (cases_lt 0 v) [
-    | inr none ↦ inl (omega (arith, none))
-    | inl positive ↦
-        let l = x.led v positive (omega (arith, lt, x.rows_each)) in
-        let earlier : l.from ≤ n = omega (arith, l.earlier, le) in
-        elim (reach n l.from earlier l.within) [
-          | inl same ↦ inr (last (subst (λ (u : ℕ). Link (joint_graph g) u v) (sym same) (led_link v l)))
-          | inr way ↦ inr (Way-join way (last (led_link v l)))
-        ]
-  ]
-
   pub joint_made : (f : Formula) → IsTableauOf b f → IsJointOf (auto_of s.own) (read_by s.places) s.few f
       (record { board = d.states.board; rows = d.rows })
   joint_made f is_of = record {
@@ -252,25 +225,12 @@ module _ {s : Pairing} {d : JointDraftData} (x : IsJointExplored s d (length d.v
     is_for = is_tableau_for are_states f is_of x.initial;
     vertex = vertex;
     is_product = is_product;
-    joined = λ v lt. reach v v (omega arith) lt;
+    joined = all_reached (λ (y : JointEdge). y.to) d.rows (λ v positive lt. x.led v positive (omega (arith, lt, x.rows_each)));
   }
-
-  -- a vertex with an edge is one of the graph
-  row_low : (v k : ℕ) (y : JointEdge) → slice_get (joint_row d.rows v) k ≡ Some y → v < length d.rows
-  row_low v k y there = elim (cases_lt v (length d.rows)) [
-    | inl low ↦ low
-    | inr high ↦
-        let empty : joint_row d.rows v ≡ [] = get_or_past d.rows v [] high in
-        absurd (omega (
-          arith,
-          slice_get_within [] k y
-              (ap (λ (r : List JointEdge). slice_get r k) (sym empty) ∙ there),
-        ))
-  ]
 
   pub joint_stored : IsJointStored (record { board = d.states.board; rows = d.rows })
   joint_stored = record {
     board_is = states.board;
-    stays = λ v k y there. to_low v k y (row_low v k y there) there;
-    held = λ v k y there. held_at v k y (row_low v k y there) there;
+    stays = λ v k y there. to_low v k y (row_low d.rows v k y there) there;
+    held = λ v k y there. held_at v k y (row_low d.rows v k y there) there;
   }

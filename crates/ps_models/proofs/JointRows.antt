@@ -3,12 +3,11 @@ use Rattle.std.proofs.Common.{◌≡◌, ℕ, ◌+◌, ◌<◌, inl, inr, List, 
 use Rattle.std.proofs.Common.{◌∙◌, arith}
 use Rattle.std.specs.List.{Contains, slice_get}
 use Rattle.std.proofs.lemmas.Bool.{cases_lt}
-use Rattle.ps_diagram.proofs.Distinct.{at_left}
 use Rattle.ps_product.specs.Words.{HasGrown}
-use Rattle.ps_product.proofs.WordNumbers.{grown_none, grown_on, still_there}
+use Rattle.ps_product.proofs.WordNumbers.{grown_none, still_there}
 use Rattle.ps_simulate.proofs.NamingLemmas.{some_same}
 use Rattle.ps_tableau.specs.declared.edge.Edge.{Edge}
-use Rattle.ps_models.specs.Inner.Joining.{HasEachJoint, HasJointPassage, IsJointRow, IsJointRowUpTo, JointsGrow}
+use Rattle.ps_models.specs.Inner.Joining.{HasEachJoint, HasJointPassage, IsJointRow, IsJointRowUpTo}
 use Rattle.ps_models.specs.Inner.Joining.{LeadsJointly, Pairing, joint_covers}
 use Rattle.ps_models.specs.Inner.States.{AreStates, StatesData, StatesGrow}
 use Rattle.ps_models.specs.declared.joint.JointEdge.{JointEdge}
@@ -70,24 +69,6 @@ module _ (s : Pairing) {old new : StatesData} {before after : List (ℕ × ℕ)}
       subst (λ (l : List Edge). IsJointRowUpTo s new after v row (length l)) (sym covers_same) (joint_row_kept is)
 
 -- ## One cover more
-
-pub joints_on : {a b c : List (ℕ × ℕ)} {row made : List JointEdge} (more : List JointEdge) → made ≡ row ++ more →
-    JointsGrow a b row → JointsGrow b c made → JointsGrow a c made
-joints_on {a} {b} {c} {row} {made} more e first second = record {
-  grown = grown_on first.grown second.grown;
-  from = λ i v at. elim (second.from i v at) [
-    | inl old ↦ elim (first.from i v old) [
-      | inl older ↦ inl older
-      | inr led ↦ inr (
-        led.0,
-        led.1,
-        subst (λ (l : List JointEdge). slice_get l led.0 ≡ Some led.1) (sym e) (at_left row more led.0 led.2),
-        led.3,
-      )
-    ]
-    | inr led ↦ inr led
-  ];
-}
 
 module _ {s : Pairing} {st : StatesData} {vertices : List (ℕ × ℕ)} {v : ℕ × ℕ} {row made : List JointEdge} {done : ℕ}
     (more : List JointEdge) (is : IsJointRowUpTo s st vertices v row done) (e : made ≡ row ++ more)

@@ -1,5 +1,5 @@
 -- What a fair cycle of the stored product, or its absence, says about the circuit.
-use Rattle.std.proofs.Common.{◌≡◌, ℕ, ◌+◌, ◌<◌, ◌≤◌, Bool, List, [], ◌∷◌, All, length, get_or, map, refl, sym, ap}
+use Rattle.std.proofs.Common.{◌≡◌, ℕ, ◌<◌, List, [], ◌∷◌, All, length, get_or, map, refl, sym}
 use Rattle.std.proofs.Common.{subst}
 use Rattle.std.proofs.Common.{◌∙◌, arith, suc, zero}
 use Rattle.ps_fairness.specs.Marks.{IsFairCycle, Leads}
@@ -10,7 +10,6 @@ use Rattle.ps_machine.specs.declared.key.Order.{Order}
 use Rattle.ps_product.specs.Roles.{AreRoles}
 use Rattle.ps_product.specs.declared.roles.Roles.{Roles}
 use Rattle.ps_simulate.specs.Lassos.{AreLetters, IsLetterOf}
-use Rattle.ps_simulate.specs.Stimuli.{StimulusData}
 use Rattle.ps_simulate.specs.Symbols.{AreDistinct, HasSymbols}
 use Rattle.ps_simulate.specs.declared.role.Role.{Role}
 use Rattle.ps_traces.specs.Inputs.{inputs_of}
@@ -18,9 +17,9 @@ use Rattle.ps_traces.proofs.StepLetters.{letters_there}
 use Rattle.ps_verify.specs.declared.judgement.Judgement.{Judgement}
 use Rattle.ps_verify.specs.declared.judgement.Judgement.TheVariants.{Wins, Loses}
 use Rattle.ps_models.specs.Inner.Graphs.{GraphData, IsModelGraph, graph_of, inputs_along, marks_of}
-use Rattle.ps_models.specs.Inner.Judging.{IsRefutation, IsTold}
+use Rattle.ps_models.specs.Inner.Judging.{IsTold}
 use Rattle.ps_models.specs.Inner.Readings.{IsSlotOf}
-use Rattle.ps_models.specs.Inner.Views.{IsScene, Scene}
+use Rattle.ps_models.specs.Inner.Views.{IsScene}
 use Rattle.ps_models.specs.Judgements.{IsJudgementFor, IsLosingFor, IsWinningFor, NamedFormula}
 use Rattle.ps_models.specs.ProductGraphs.{ProductGraph, edges_in}
 use Rattle.ps_models.specs.Products.{edge_moments, opposed, stimulus_of}

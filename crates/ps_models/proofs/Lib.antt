@@ -12,6 +12,8 @@ pub mod GraphLemmas
 pub mod ViewLemmas
 pub mod RowLemmas
 pub mod StepLemmas
+pub mod GrowingRows
+pub mod Drafts
 pub mod DraftLemmas
 pub mod GraphMade
 pub mod AppendLemmas
@@ -25,6 +27,7 @@ pub mod JointRows
 pub mod JointDrafts
 pub mod JointAdds
 pub mod JointMade
+pub mod ComposedLemmas
 pub mod AlphabetLemmas
 pub mod NameReadings
 pub mod Halves

@@ -1,18 +1,16 @@
 -- The edges of a vertex stay right while states and vertices are added.
-use Rattle.std.proofs.Common.{◌≡◌, ◌⊎◌, ℕ, ◌+◌, ◌<◌, ◌≤◌, inl, inr, Bool, true, List, [], ◌∷◌, ◌++◌, length, get_or}
-use Rattle.std.proofs.Common.{Some, suc, zero, refl, sym, ap, subst, ◌∙◌, arith}
+use Rattle.std.proofs.Common.{◌≡◌, ◌⊎◌, ℕ, ◌+◌, ◌<◌, inl, inr, List, [], ◌∷◌, ◌++◌, length}
+use Rattle.std.proofs.Common.{Some, suc, zero, sym, ap, subst, ◌∙◌, arith}
 use Rattle.std.specs.List.{Contains, slice_get}
 use Rattle.std.proofs.lemmas.Bool.{cases_lt}
 use Rattle.std.proofs.lemmas.Option.{get_or_from_slice_get, slice_get_within}
-use Rattle.ps_circuit.specs.Values.{Moment, Steps}
 use Rattle.ps_diagram.proofs.Distinct.{at_left}
 use Rattle.ps_product.specs.Products.{ProductVertex}
 use Rattle.ps_product.specs.Words.{HasGrown}
-use Rattle.ps_product.proofs.WordNumbers.{grown_none, grown_on, still_there}
-use Rattle.ps_simulate.specs.Lassos.{IsLetterOf}
+use Rattle.ps_product.proofs.WordNumbers.{grown_none, still_there}
 use Rattle.ps_simulate.proofs.NamingLemmas.{some_same}
 use Rattle.ps_tableau.specs.declared.edge.Edge.{Edge}
-use Rattle.ps_models.specs.Inner.Rows.{HasEachStep, HasPassage, IsPassage, IsRow, IsRowUpTo, LeadsBy, VerticesGrow}
+use Rattle.ps_models.specs.Inner.Rows.{HasEachStep, IsPassage, IsRow, IsRowUpTo, LeadsBy}
 use Rattle.ps_models.specs.Inner.Rows.{covers_at}
 use Rattle.ps_models.specs.Inner.States.{AreStates, StatesData, StatesGrow}
 use Rattle.ps_models.specs.Inner.Views.{Scene}
@@ -90,24 +88,6 @@ pub at_right : {X : Type 0} (xs ys : List X) (k : ℕ) (x : X) → slice_get ys 
     (j : ℕ) × (slice_get (xs ++ ys) j ≡ Some x)
 at_right [] ys k x at = (k, at)
 at_right (z ∷ xs) ys k x at = let r = at_right xs ys k x at in (suc r.0, r.1)
-
-pub vertices_on : {a b c : List ProductVertex} {row made : List Passage} (more : List Passage) → made ≡ row ++ more →
-    VerticesGrow a b row → VerticesGrow b c made → VerticesGrow a c made
-vertices_on {a} {b} {c} {row} {made} more e first second = record {
-  grown = grown_on first.grown second.grown;
-  from = λ i v at. elim (second.from i v at) [
-    | inl old ↦ elim (first.from i v old) [
-      | inl older ↦ inl older
-      | inr led ↦ inr (
-        led.0,
-        led.1,
-        subst (λ (l : List Passage). slice_get l led.0 ≡ Some led.1) (sym e) (at_left row more led.0 led.2),
-        led.3,
-      )
-    ]
-    | inr led ↦ inr led
-  ];
-}
 
 module _ {s : Scene} {st : StatesData} {vertices : List ProductVertex} {v : ProductVertex} {row made : List Passage}
     {done : ℕ} (more : List Passage) (is : IsRowUpTo s st vertices v row done) (e : made ≡ row ++ more)

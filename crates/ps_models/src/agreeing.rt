@@ -10,8 +10,8 @@ ghost use Rattle.ps_hoa.specs.Files.{FileData};
 ghost use Rattle.ps_hoa.specs.Memory.{bytes_of};
 ghost use Rattle.ps_simulate.specs.Symbols.{AreDistinct};
 ghost use Rattle.ps_models.specs.Agreements.{ArePropositionsOf, IsAgreementOf, IsAgreementRefusal};
-ghost use Rattle.ps_models.specs.Inner.Comparing.{ArePlaces, HasNoCycle, IsHalfTold, IsLassoAt, IsLassoIf};
-ghost use Rattle.ps_models.specs.Inner.Comparing.{IsLassoTold};
+ghost use Rattle.ps_models.specs.Inner.Comparing.{IsComparison, ArePlaces, HasNoCycle, IsHalfTold, IsLassoAt};
+ghost use Rattle.ps_models.specs.Inner.Comparing.{IsLassoIf, IsLassoTold};
 ghost use Rattle.ps_models.specs.Inner.JointGraphs.{AllJoined, IsJointOf, capped_graph, marks_at};
 ghost use Rattle.ps_models.specs.Inner.Joining.{IsJointPlan};
 ghost use Rattle.ps_models.specs.Inner.Joints.{read_by};
@@ -89,12 +89,7 @@ fn places_of(
 
 /// Whether the automaton and the formula agree, or a lasso on which they differ. Fails if out of memory.
 fn compared(plan: JointPlan, sentence: Sentence) -> Result<Agreement, AllocError>
-    requires plan { IsJointPlan plan }
-    requires count { plan.count ≡ length sentence.names.now }
-    requires places { ArePlaces plan.automaton.now.names plan.automaton.now.controllable (named_formula sentence)
-        plan.places.now }
-    requires distinct { AreDistinct (map bytes_of sentence.names.now) }
-    requires root { sentence.root < length sentence.formulas.now }
+    requires { IsComparison plan sentence }
     ensures { IfOk result (λ agreement. (file : FileData) (chain : Chain) →
         IsBuiltFrom file chain plan.entry.automaton.now →
         IsAgreementOf file (named_formula sentence.entry) agreement) }
@@ -107,12 +102,7 @@ fn compared(plan: JointPlan, sentence: Sentence) -> Result<Agreement, AllocError
 
 /// The result of `compared`, if each lasso that the automaton accepts satisfies the formula.
 fn rest_compared(plan: JointPlan, sentence: Sentence) -> Result<Agreement, AllocError>
-    requires plan { IsJointPlan plan }
-    requires count { plan.count ≡ length sentence.names.now }
-    requires places { ArePlaces plan.automaton.now.names plan.automaton.now.controllable (named_formula sentence)
-        plan.places.now }
-    requires distinct { AreDistinct (map bytes_of sentence.names.now) }
-    requires root { sentence.root < length sentence.formulas.now }
+    requires { IsComparison plan sentence }
     ensures { IfOk result (λ agreement. (file : FileData) (chain : Chain) →
         IsBuiltFrom file chain plan.entry.automaton.now →
         IsHalfTold file (named_formula sentence.entry) true None →
@@ -131,12 +121,7 @@ fn difference(
     sentence: Sentence,
     accepts: bool,
 ) -> Result<Option<Lasso>, AllocError>
-    requires plan { IsJointPlan plan }
-    requires count { plan.count ≡ length sentence.names.now }
-    requires places { ArePlaces plan.automaton.now.names plan.automaton.now.controllable (named_formula sentence)
-        plan.places.now }
-    requires distinct { AreDistinct (map bytes_of sentence.names.now) }
-    requires root { sentence.root < length sentence.formulas.now }
+    requires { IsComparison plan sentence }
     ensures { IfOk result (λ told. (file : FileData) (chain : Chain) →
         IsBuiltFrom file chain plan.entry.automaton.now →
         IsHalfTold file (named_formula sentence.entry) accepts told) }

@@ -1,11 +1,12 @@
 //! Diagrams of propositions over the letters of a formula, by which an automaton reads these letters.
 
-ghost use Rattle.std.specs.Prelude.{◌≡◌, ◌^◌, ◌<◌, ◌≤◌, All, IfOk, length, map, slice_index};
-ghost use Rattle.ps_diagram.specs.Table.{IsNode, Keeps};
-ghost use Rattle.ps_models.specs.Inner.Alphabets.{AreBitNodes, AreMet, IsAlphabet, IsRenamed};
+ghost use Rattle.std.specs.Prelude.{◌≡◌, ◌^◌, ◌<◌, ◌≤◌, All, IfOk, OnOk, length, map, slice_index};
+ghost use Rattle.ps_diagram.specs.Table.{IsNode, Keeps, Table};
+ghost use Rattle.ps_models.specs.Inner.Alphabets.{AreBitNodes, AreMet, IsAlphabet};
 ghost use Rattle.ps_models.specs.Inner.Joining.{IsJointPlan};
 
-use crate::joining::{JointPlan, Visit};
+use crate::composed::Composed;
+use crate::joining::JointPlan;
 use ps_diagram::{Node, Store};
 use std::alloc::{AllocError, Global};
 
@@ -17,38 +18,30 @@ const PROPOSITIONS: usize = 64;
 pub(crate) struct Alphabet {
     /// The store of the diagrams.
     pub store: Store,
-    /// The diagram of each proposition of guards: one that the formula lacks is false at each letter.
-    pub whole: Vec<Node>,
-    /// The diagram of each proposition of the automaton.
-    pub own: Vec<Node>,
+    /// Those of the tableau's guards. A proposition that the formula lacks is false at each letter.
+    pub guards: Composed,
+    /// Those of the steps of the automaton's states.
+    pub steps: Composed,
 }
 
 impl Alphabet {
-    /// The diagrams for a formula with `count` propositions, and an automaton whose propositions have the given numbers
-    /// there. Fails if out of memory.
-    pub(crate) fn new(alloc: Global, count: u32, places: &[u32]) -> Result<Self, AllocError>
-        requires count { count ≤ 64 }
-        requires places { All (λ p. p < count) places.now }
-        ensures { IfOk result (IsAlphabet count places.now) }
+    /// The diagrams of the propositions of the formula and of the automaton. Fails if out of memory.
+    pub(crate) fn new(plan: JointPlan) -> Result<Self, AllocError>
+        requires { IsJointPlan plan }
+        ensures { IfOk result (λ alphabet. (guards : Table) → guards.propositions ≡ 64 →
+            IsAlphabet plan.entry guards alphabet) }
     {
-        let mut store = Store::new(alloc, count);
-        let whole = whole_nodes(alloc, &mut store)?;
-        let own = nodes_at(alloc, &whole, places)?;
-        Ok(Alphabet { store, whole, own })
-    }
-
-    /// The diagram of the steps of an automaton's state, over the letters of the formula. Fails if out of memory.
-    pub(crate) fn renamed(&mut self, plan: JointPlan, state: u32) -> Result<Node, AllocError>
-        requires plan { IsJointPlan plan }
-        requires alphabet { IsAlphabet plan.count plan.places.now self.old }
-        requires state { state ≤ plan.automaton.now.states }
-        ensures alphabet { IsAlphabet plan.entry.count plan.entry.places.now self.new }
-        ensures renamed { IfOk result (IsRenamed self.new.store plan.entry.places.now plan.entry.automaton.now state) }
-    {
-        let automaton = plan.automaton;
-        let store = automaton.store();
-        self.store
-            .composed_from(store, automaton.node(state), &self.own)
+        let _ = plan.automaton.states();
+        let mut store = Store::new(plan.alloc, plan.count);
+        let whole = whole_nodes(plan.alloc, &mut store)?;
+        let own = nodes_at(plan.alloc, &whole, plan.places)?;
+        let guards = Composed::new(plan.alloc, whole);
+        let steps = Composed::new(plan.alloc, own);
+        Ok(Alphabet {
+            store,
+            guards,
+            steps,
+        })
     }
 
     /// The leaves of the diagram of a state's steps at letters for which a guard serves, each with such a letter. Fails
@@ -58,22 +51,22 @@ impl Alphabet {
         plan: JointPlan,
         guards: &Store,
         guard: Node,
-        visit: &Visit,
+        own: u32,
     ) -> Result<Vec<(u64, u64)>, AllocError>
-        requires alphabet { IsAlphabet plan.count plan.places.now self.old }
-        requires guards { guards.now.propositions ≡ 64 }
+        requires alphabet { IsAlphabet plan guards.now self.old }
         requires guard { IsNode guards.now guard }
-        requires own { visit.now.own ≤ plan.automaton.now.states }
-        requires node { IsRenamed self.old.store plan.places.now plan.automaton.now visit.now.own visit.now.node }
-        ensures alphabet { IsAlphabet plan.entry.count plan.entry.places.now self.new }
-        ensures keeps { Keeps self.old.store self.new.store }
+        requires own { own ≤ plan.automaton.now.states }
+        ensures alphabet { OnOk result (IsAlphabet plan.entry guards.now self.new) }
         ensures met { IfOk result (λ found. AreMet (2 ^ plan.entry.count) plan.entry.places.now
-            plan.entry.automaton.now visit.now.own guards.now guard found.items) }
+            plan.entry.automaton.now own guards.now guard found.items) }
     {
-        let _ = plan.automaton.states();
-        let guard = self.store.composed_from(guards, guard, &self.whole)?;
+        let automaton = plan.automaton;
+        let store = automaton.store();
+        let node = automaton.node(own);
+        let steps = self.steps.diagram(&mut self.store, store, node)?;
+        let guard = self.guards.diagram(&mut self.store, guards, guard)?;
         let none = self.store.none()?;
-        let met = self.store.choose(guard, visit.node, none)?;
+        let met = self.store.choose(guard, steps, none)?;
         self.store.leaves(met)
     }
 }

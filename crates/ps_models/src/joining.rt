@@ -2,12 +2,11 @@
 
 ghost use Rattle.std.specs.Prelude.{◌≡◌, ◌+◌, ◌^◌, ◌<◌, ℕ, Contains, IfOk, OnOk, Some, length, slice_get};
 ghost use Rattle.ps_automaton.specs.Automata.{auto_of};
-ghost use Rattle.ps_diagram.specs.Table.{Keeps};
 ghost use Rattle.ps_formula.specs.Formulas.{Formula};
 ghost use Rattle.ps_tableau.specs.Boards.{Grows, IsState, IsTableauOf};
 ghost use Rattle.ps_models.specs.Inner.Alphabets.{IsAlphabet};
 ghost use Rattle.ps_models.specs.Inner.JointGraphs.{IsJointOf};
-ghost use Rattle.ps_models.specs.Inner.Joining.{AddsJointCover, ArePaired, HasCoversFor, IsJointExplored};
+ghost use Rattle.ps_models.specs.Inner.Joining.{AddsJointCover, HasCoversFor, IsFullJointDraft, IsJointExplored};
 ghost use Rattle.ps_models.specs.Inner.Joining.{IsJointMadeFor, IsJointMadeRow, IsJointPlan, IsVisit, JoinsUpTo};
 ghost use Rattle.ps_models.specs.Inner.Joining.{joint_covers, joint_draft, pairing_of, visited};
 ghost use Rattle.ps_models.specs.Inner.Joints.{read_by};
@@ -16,7 +15,6 @@ use crate::alphabet::Alphabet;
 use crate::joint::{JointEdge, JointGraph};
 use crate::states::States;
 use ps_automaton::Automaton;
-use ps_diagram::Node;
 use ps_keys::KeyList;
 use ps_tableau::{Edge as Cover, Tableau};
 use std::alloc::{AllocError, Global};
@@ -52,8 +50,6 @@ pub(crate) struct Visit {
     pub own: u32,
     /// The state of the tableau.
     pub state: u32,
-    /// The diagram of the steps of the automaton's state.
-    pub node: Node,
 }
 
 impl<'a> JointPlan<'a> {
@@ -67,13 +63,8 @@ impl<'a> JointPlan<'a> {
             graph) }
     {
         let mut draft = JointDraft::new(self, tableau)?;
-        let mut alphabet = Alphabet::new(self.alloc, self.count, self.places)?;
-        let mut vertex = 0;
-        while vertex < draft.vertices.len() {
-            draft.visit(self, &mut alphabet, vertex)?;
-            vertex += 1;
-        }
-        draft.into_graph(self)
+        draft.explore_all(self)?;
+        Ok(draft.into_graph(self))
     }
 }
 
@@ -94,6 +85,32 @@ impl JointDraft {
         })
     }
 
+    /// Explores all vertices, and finds the edges of all states. Fails if out of memory.
+    fn explore_all(&mut self, plan: JointPlan) -> Result<(), AllocError>
+        requires plan { IsJointPlan plan }
+        requires explored { IsJointExplored (pairing_of plan) (joint_draft self.old) 0 }
+        ensures full { OnOk result (IsFullJointDraft (pairing_of plan.entry) (joint_draft self.new)) }
+        ensures grows { OnOk result (Grows self.old.states.tableau self.new.states.tableau) }
+    {
+        let mut alphabet = Alphabet::new(plan)?;
+        let mut vertex = 0;
+        while vertex < self.vertices.len() {
+            self.visit(plan, &mut alphabet, vertex)?;
+            vertex += 1;
+        }
+        self.fill(plan)
+    }
+
+    /// Finds the edges of all states, once all vertices have been explored. Fails if out of memory.
+    fn fill(&mut self, plan: JointPlan) -> Result<(), AllocError>
+        requires { IsJointExplored (pairing_of plan) (joint_draft self.old) (length self.old.vertices) }
+        ensures full { OnOk result (IsFullJointDraft (pairing_of plan.entry) (joint_draft self.new)) }
+        ensures grows { OnOk result (Grows self.old.states.tableau self.new.states.tableau) }
+    {
+        let count = self.states.sets.len();
+        self.states.reach(count)
+    }
+
     /// Explores the first vertex that has not been explored. Fails if out of memory.
     fn visit(
         &mut self,
@@ -101,11 +118,10 @@ impl JointDraft {
         alphabet: &mut Alphabet,
         vertex: usize,
     ) -> Result<(), AllocError>
-        requires plan { IsJointPlan plan }
-        requires alphabet { IsAlphabet plan.count plan.places.now alphabet.old }
+        requires alphabet { IsAlphabet plan self.old.states.tableau.guards alphabet.old }
         requires explored { IsJointExplored (pairing_of plan) (joint_draft self.old) vertex }
         requires vertex { vertex < length self.old.vertices }
-        ensures alphabet { IsAlphabet plan.entry.count plan.entry.places.now alphabet.new }
+        ensures alphabet { OnOk result (IsAlphabet plan.entry self.new.states.tableau.guards alphabet.new) }
         ensures explored { OnOk result (IsJointExplored (pairing_of plan.entry) (joint_draft self.new) (vertex + 1)) }
         ensures grows { OnOk result (Grows self.old.states.tableau self.new.states.tableau) }
     {
@@ -135,18 +151,16 @@ impl JointDraft {
         alphabet: &mut Alphabet,
         vertex: usize,
     ) -> Result<Vec<JointEdge>, AllocError>
-        requires plan { IsJointPlan plan }
-        requires alphabet { IsAlphabet plan.count plan.places.now alphabet.old }
+        requires alphabet { IsAlphabet plan self.old.states.tableau.guards alphabet.old }
         requires explored { IsJointExplored (pairing_of plan) (joint_draft self.old) vertex }
         requires covers { HasCoversFor (joint_draft self.old) vertex }
         requires vertex { vertex < length self.old.vertices }
-        ensures alphabet { IsAlphabet plan.entry.count plan.entry.places.now alphabet.new }
+        ensures alphabet { OnOk result (IsAlphabet plan.entry self.new.states.tableau.guards alphabet.new) }
         ensures made { IfOk result (λ row. IsJointMadeRow (pairing_of plan.entry) (joint_draft self.old)
             (joint_draft self.new) vertex row.items) }
     {
         let (own, state) = self.vertices.as_slice()[vertex];
-        let node = alphabet.renamed(plan, own)?;
-        let visit = Visit { own, state, node };
+        let visit = Visit { own, state };
         self.row_of(plan, alphabet, &visit)
     }
 
@@ -157,11 +171,9 @@ impl JointDraft {
         alphabet: &mut Alphabet,
         visit: &Visit,
     ) -> Result<Vec<JointEdge>, AllocError>
-        requires plan { IsJointPlan plan }
-        requires alphabet { IsAlphabet plan.count plan.places.now alphabet.old }
-        requires paired { ArePaired (pairing_of plan) (joint_draft self.old) }
-        requires visit { IsVisit (pairing_of plan) (joint_draft self.old) alphabet.old.store visit.now }
-        ensures alphabet { IsAlphabet plan.entry.count plan.entry.places.now alphabet.new }
+        requires alphabet { IsAlphabet plan self.old.states.tableau.guards alphabet.old }
+        requires visit { IsVisit (pairing_of plan) (joint_draft self.old) visit.now }
+        ensures alphabet { OnOk result (IsAlphabet plan.entry self.new.states.tableau.guards alphabet.new) }
         ensures made { IfOk result (λ row. IsJointMadeFor (pairing_of plan.entry) (joint_draft self.old)
             (joint_draft self.new) (visited visit.now) row.items) }
     {
@@ -182,18 +194,15 @@ impl JointDraft {
         cover: &Cover,
         row: &mut Vec<JointEdge>,
     ) -> Result<(), AllocError>
-        requires plan { IsJointPlan plan }
-        requires alphabet { IsAlphabet plan.count plan.places.now alphabet.old }
-        requires paired { ArePaired (pairing_of plan) (joint_draft self.old) }
-        requires visit { IsVisit (pairing_of plan) (joint_draft self.old) alphabet.old.store visit.now }
+        requires alphabet { IsAlphabet plan self.old.states.tableau.guards alphabet.old }
+        requires visit { IsVisit (pairing_of plan) (joint_draft self.old) visit.now }
         requires cover { Contains (joint_covers (joint_draft self.old).states (visited visit.now)) cover.now }
-        ensures alphabet { IsAlphabet plan.entry.count plan.entry.places.now alphabet.new }
-        ensures keeps { Keeps alphabet.old.store alphabet.new.store }
+        ensures alphabet { OnOk result (IsAlphabet plan.entry self.new.states.tableau.guards alphabet.new) }
         ensures adds { OnOk result (AddsJointCover (pairing_of plan.entry) (joint_draft self.old)
             (joint_draft self.new) (visited visit.now) cover.now row.old.items row.new.items) }
     {
         let _ = plan.automaton.states();
-        let met = alphabet.met(plan, self.states.guards(), cover.guard, visit)?;
+        let met = alphabet.met(plan, self.states.guards(), cover.guard, visit.own)?;
         if met.is_empty() {
             return Ok(());
         }
@@ -201,22 +210,19 @@ impl JointDraft {
         join(plan.automaton, &mut self.vertices, &met, state, cover, row)
     }
 
-    /// The product, once all vertices have been explored. Fails if out of memory.
-    fn into_graph(self, plan: JointPlan) -> Result<JointGraph, AllocError>
-        requires { IsJointExplored (pairing_of plan) (joint_draft self) (length self.vertices) }
-        ensures { IfOk result (λ graph. (f : Formula) → IsTableauOf self.states.tableau f →
+    /// The product, once it has all its vertices and edges.
+    fn into_graph(self, plan: JointPlan) -> JointGraph
+        requires { IsFullJointDraft (pairing_of plan) (joint_draft self) }
+        ensures { (f : Formula) → IsTableauOf self.states.tableau f →
             IsJointOf (auto_of plan.entry.automaton.now) (read_by plan.entry.places.now) (2 ^ plan.entry.count) f
-            graph) }
+            result }
     {
         let JointDraft {
-            mut states,
-            vertices,
+            states,
+            vertices: _vertices,
             rows,
         } = self;
-        let _ = (vertices.len(), plan.count);
-        let count = states.sets.len();
-        states.reach(count)?;
-        Ok(JointGraph::new(states.tableau, rows))
+        JointGraph::new(states.tableau, rows)
     }
 }
 

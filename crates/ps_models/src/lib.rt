@@ -31,6 +31,7 @@ mod agreeing;
 mod agreement;
 pub mod agreement_laws;
 mod alphabet;
+mod composed;
 mod exploring;
 mod graph;
 mod joining;

@@ -1,11 +1,13 @@
 -- Diagrams of propositions over the letters of a formula, by which an automaton reads these letters.
-use Rattle.std.specs.Prelude.{◌≡◌, ℕ, ◌<◌, ◌≤◌, All, List, Some, false, if◌then◌else◌, is_some, length, nat_lt}
+use Rattle.std.specs.Prelude.{◌≡◌, ℕ, ◌<◌, All, List, Some, false, if◌then◌else◌, is_some, length, nat_lt}
 use Rattle.std.specs.Prelude.{slice_get, slice_index, true}
 use Rattle.ps_automaton.specs.Automata.{AutomatonData, node_of}
 use Rattle.ps_diagram.specs.Table.{IsNode, Table, leaf_of}
 use Rattle.ps_label.specs.Truth.{is_in}
+use Rattle.ps_models.specs.Inner.Composing.{AreComposed}
 use Rattle.ps_models.specs.Inner.Joints.{read_by}
 use Rattle.ps_models.specs.declared.alphabet.Alphabet.{Alphabet}
+use Rattle.ps_models.specs.declared.joining.JointPlan.{JointPlan}
 
 -- the node has a leaf at the letters in which a proposition below `count` is true, and none if it is not below
 abbrev pub IsBitNode : (t : Table) → (count p node : ℕ) → Type 0
@@ -24,17 +26,13 @@ pub record ArePlaceNodes (t : Table) (places nodes : List ℕ) : Type 0 where
   pub each : (k letter : ℕ) → k < length places →
       is_some (leaf_of t (slice_index nodes k) letter) ≡ is_in (slice_index places k) letter
 
-pub record IsAlphabet (count : ℕ) (places : List ℕ) (a : Alphabet) : Type 0 where
-  pub propositions : a.store.propositions ≡ count
-  pub few : count ≤ 64
-  pub whole_each : length a.whole.items ≡ 64
-  pub whole : AreBitNodes a.store count a.whole.items
-  pub own : ArePlaceNodes a.store places a.own.items
-
--- the node has the leaves of a state of the automaton, which reads each letter by the places
-pub record IsRenamed (t : Table) (places : List ℕ) (a : AutomatonData) (q node : ℕ) : Type 0 where
-  pub held : IsNode t node
-  pub leaf : (letter : ℕ) → leaf_of t node letter ≡ leaf_of a.store (node_of a q) (read_by places letter)
+-- the diagrams of the propositions, and those of some guards and of some of the automaton's states
+pub record IsAlphabet (plan : JointPlan) (guards : Table) (a : Alphabet) : Type 0 where
+  pub propositions : a.store.propositions ≡ plan.count
+  pub whole : AreBitNodes a.store plan.count a.guards.truths.items
+  pub own : ArePlaceNodes a.store plan.places.now a.steps.truths.items
+  pub of_guards : AreComposed a.store guards a.guards
+  pub of_steps : AreComposed a.store plan.automaton.now.store a.steps
 
 -- the steps of the automaton from a state at letters for which a guard serves: each leaf with such a letter
 pub record AreMet (few : ℕ) (places : List ℕ) (a : AutomatonData) (q : ℕ) (guards : Table) (guard : ℕ)

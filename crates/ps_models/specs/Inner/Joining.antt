@@ -3,15 +3,14 @@
 use Rattle.std.specs.Prelude.{◌≡◌, ◌⊎◌, ℕ, ◌^◌, ◌<◌, ◌≤◌, ◌++◌, All, Contains, List, Some, length, map, slice_get}
 use Rattle.std.specs.Prelude.{slice_index_or}
 use Rattle.ps_automaton.specs.Automata.{AutomatonData, pair_of, step_of}
-use Rattle.ps_diagram.specs.Table.{Table}
 use Rattle.ps_product.specs.Words.{HasGrown}
 use Rattle.ps_tableau.specs.declared.edge.Edge.{Edge}
 use Rattle.ps_models.specs.BoardStates.{edges_of_state}
-use Rattle.ps_models.specs.Inner.Alphabets.{IsRenamed}
-use Rattle.ps_models.specs.Inner.JointGraphs.{joint_row}
+use Rattle.ps_models.specs.Inner.Drafts.{AddsTo, AreFit, DraftOf, IsExploredTo, IsWholeDraft, MakesRow, ProductKind}
+use Rattle.ps_models.specs.Inner.Growing.{GrowsBy}
 use Rattle.ps_models.specs.Inner.Joints.{read_by}
 use Rattle.ps_models.specs.Inner.Rows.{ServesFor}
-use Rattle.ps_models.specs.Inner.States.{AreStates, StatesData, states_data}
+use Rattle.ps_models.specs.Inner.States.{StatesData, states_data}
 use Rattle.ps_models.specs.declared.joining.JointDraft.{JointDraft}
 use Rattle.ps_models.specs.declared.joining.JointPlan.{JointPlan}
 use Rattle.ps_models.specs.declared.joining.Visit.{Visit}
@@ -32,10 +31,8 @@ pub record IsJointPlan (plan : JointPlan) : Type 0 where
   pub places : All (λ p. p < plan.count) plan.places.now
   pub one_each : length plan.places.now ≡ length plan.automaton.now.names
 
-pub record JointDraftData : Type 0 where
-  pub states : StatesData
-  pub vertices : List (ℕ × ℕ)
-  pub rows : List (List JointEdge)
+abbrev pub JointDraftData : Type 0
+JointDraftData = DraftOf (ℕ × ℕ) JointEdge
 
 abbrev pub joint_draft : JointDraft → JointDraftData
 joint_draft d = record {
@@ -89,11 +86,8 @@ pub record IsJointRowUpTo (s : Pairing) (st : StatesData) (vertices : List (ℕ 
 abbrev pub IsJointRow : Pairing → StatesData → List (ℕ × ℕ) → ℕ × ℕ → List JointEdge → Type 0
 IsJointRow s st vertices v row = IsJointRowUpTo s st vertices v row (length (joint_covers st v))
 
--- the vertices grow by those to which edges of the row lead
-pub record JointsGrow (old new : List (ℕ × ℕ)) (row : List JointEdge) : Type 0 where
-  pub grown : HasGrown old new
-  pub from : (i : ℕ) (v : ℕ × ℕ) → slice_get new i ≡ Some v →
-      (slice_get old i ≡ Some v) ⊎ ((k : ℕ) × (x : JointEdge) × (slice_get row k ≡ Some x) × (x.to ≡ i))
+abbrev pub JointsGrow : (old new : List (ℕ × ℕ)) → List JointEdge → Type 0
+JointsGrow old new row = GrowsBy (λ (x : JointEdge). x.to) old new row
 
 -- ## Vertices
 
@@ -101,33 +95,23 @@ pub record IsPaired (s : Pairing) (st : StatesData) (v : ℕ × ℕ) : Type 0 wh
   pub own : v.0 ≤ s.own.states
   pub state : v.1 < length st.sets
 
--- some edge of an earlier vertex leads to the vertex i
-pub record IsJoined (rows : List (List JointEdge)) (i : ℕ) : Type 0 where
-  pub from : ℕ
-  pub earlier : from < i
-  pub within : from < length rows
-  pub place : ℕ
-  pub passage : JointEdge
-  pub there : slice_get (joint_row rows from) place ≡ Some passage
-  pub leads : passage.to ≡ i
+abbrev pub pair_kind : Pairing → ProductKind (ℕ × ℕ) JointEdge
+pair_kind s = record {
+  Fits = IsPaired s;
+  HasRow = IsJointRow s;
+  first = (s.own.start, 0);
+  state = λ v. v.1;
+  to = λ x. x.to;
+}
 
--- the states are sound, and the vertices are pairs of states
-pub record ArePaired (s : Pairing) (d : JointDraftData) : Type 0 where
-  pub states : AreStates d.states
-  pub each : (i : ℕ) (v : ℕ × ℕ) → slice_get d.vertices i ≡ Some v → IsPaired s d.states v
+abbrev pub ArePaired : Pairing → JointDraftData → Type 0
+ArePaired s d = AreFit (pair_kind s) d
 
--- The first `count` vertices that were found have been explored: each has its edges. Each vertex except the first is
--- led to by an earlier explored one.
-pub record IsJointExplored (s : Pairing) (d : JointDraftData) (count : ℕ) : Type 0 where
-  pub are_paired : ArePaired s d
-  pub initial : slice_get d.states.sets 0 ≡ Some d.states.board.initial
-  pub rows_each : length d.rows ≡ count
-  pub within : count ≤ length d.vertices
-  pub first : slice_get d.vertices 0 ≡ Some (s.own.start, 0)
-  pub have_covers : (i : ℕ) (v : ℕ × ℕ) → i < count → slice_get d.vertices i ≡ Some v → v.1 < length d.states.edges
-  pub explored : (i : ℕ) (v : ℕ × ℕ) → i < count → slice_get d.vertices i ≡ Some v →
-      IsJointRow s d.states d.vertices v (joint_row d.rows i)
-  pub led : (i : ℕ) → 0 < i → i < length d.vertices → IsJoined d.rows i
+abbrev pub IsJointExplored : Pairing → JointDraftData → (count : ℕ) → Type 0
+IsJointExplored s d count = IsExploredTo (pair_kind s) d count
+
+abbrev pub IsFullJointDraft : Pairing → JointDraftData → Type 0
+IsFullJointDraft s d = IsWholeDraft (pair_kind s) d
 
 -- ## One vertex
 
@@ -135,23 +119,17 @@ pub record IsJointExplored (s : Pairing) (d : JointDraftData) (count : ℕ) : Ty
 abbrev pub HasCoversFor : JointDraftData → ℕ → Type 0
 HasCoversFor d vertex = (v : ℕ × ℕ) → slice_get d.vertices vertex ≡ Some v → v.1 < length d.states.edges
 
--- a vertex, whose state has its edges, with the diagram of the steps of the automaton's state
-pub record IsVisit (s : Pairing) (d : JointDraftData) (t : Table) (v : Visit) : Type 0 where
+-- a pair of states, of which that of the tableau has its edges
+pub record IsVisit (s : Pairing) (d : JointDraftData) (v : Visit) : Type 0 where
+  pub paired : ArePaired s d
   pub own : v.own ≤ s.own.states
   pub covers : v.state < length d.states.edges
-  pub renamed : IsRenamed t s.places s.own v.own v.node
 
 abbrev pub visited : Visit → ℕ × ℕ
 visited v = (v.own, v.state)
 
--- states and vertices were added, to which edges of the row lead; nothing else changed
-pub record AddsJoints (s : Pairing) (old new : JointDraftData) (row : List JointEdge) : Type 0 where
-  pub paired : ArePaired s new
-  pub board : new.states.board ≡ old.states.board
-  pub edges : new.states.edges ≡ old.states.edges
-  pub sets : HasGrown old.states.sets new.states.sets
-  pub rows : new.rows ≡ old.rows
-  pub vertices : JointsGrow old.vertices new.vertices row
+abbrev pub AddsJoints : Pairing → (old new : JointDraftData) → List JointEdge → Type 0
+AddsJoints s old new row = AddsTo (pair_kind s) old new row
 
 -- the edges of the vertex with one cover were appended to a row
 pub record AddsJointCover (s : Pairing) (old new : JointDraftData) (v : ℕ × ℕ) (cover : Edge)
@@ -173,11 +151,8 @@ pub record IsJointMadeFor (s : Pairing) (old new : JointDraftData) (v : ℕ × �
   pub adds : AddsJoints s old new row
   pub made : IsJointRow s new.states new.vertices v row
 
-pub record IsJointMadeRow (s : Pairing) (old new : JointDraftData) (vertex : ℕ) (row : List JointEdge) : Type 0 where
-  pub adds : AddsJoints s old new row
-  pub at : ℕ × ℕ
-  pub there : slice_get old.vertices vertex ≡ Some at
-  pub made : IsJointRow s new.states new.vertices at row
+abbrev pub IsJointMadeRow : Pairing → (old new : JointDraftData) → (vertex : ℕ) → List JointEdge → Type 0
+IsJointMadeRow s old new vertex row = MakesRow (pair_kind s) old new vertex row
 
 -- ## One cover
 

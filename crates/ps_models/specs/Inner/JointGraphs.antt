@@ -6,7 +6,6 @@
 use Rattle.std.specs.Prelude.{◌≡◌, ◌<◌, ℕ, List, [], Some, Vec, length, map, not, slice_get, slice_index}
 use Rattle.std.specs.Prelude.{slice_index_or}
 use Rattle.std.specs.Global.{Global}
-use Rattle.std.specs.Option.{option_map}
 use Rattle.ps_components.specs.Graphs.{Digraph, SameOrWay}
 use Rattle.ps_fairness.specs.Marks.{Marks}
 use Rattle.ps_fairness.specs.declared.edge.Edge.{Edge}
@@ -17,6 +16,7 @@ use Rattle.ps_tableau.specs.declared.board.Board.{Board}
 use Rattle.ps_tableau.specs.declared.edge.Edge as tableau
 use Rattle.ps_automaton.specs.Autos.{Auto}
 use Rattle.ps_models.specs.Inner.Graphs.{is_postponed}
+use Rattle.ps_models.specs.Inner.Growing.{graph_of_rows}
 use Rattle.ps_models.specs.Inner.Joints.{IsJointProduct, JointProduct, JointStep, JointVertex, capped, capped_marks}
 use Rattle.ps_models.specs.Products.{IsTableauFor}
 use Rattle.ps_models.specs.declared.joint.JointEdge.{JointEdge}
@@ -44,11 +44,7 @@ abbrev pub step_in : Board → JointEdge → JointStep
 step_in b x = record { letter = x.letter; priority = x.priority; cover = cover_of b x.cover }
 
 abbrev pub joint_graph : JointData → Digraph
-joint_graph g = record {
-  count = length g.rows;
-  degree = λ v. length (joint_row g.rows v);
-  target = λ v k. option_map (λ (x : JointEdge). x.to) (slice_get (joint_row g.rows v) k);
-}
+joint_graph g = graph_of_rows (λ (x : JointEdge). x.to) g.rows
 
 -- an edge bears the mark of each until that its cover does not postpone
 abbrev pub joint_marks : JointData → Marks

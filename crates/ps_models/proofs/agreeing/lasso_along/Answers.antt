@@ -46,3 +46,12 @@ returns c =
       stem_is = c.in_ok-stem.ensures ∙ ap (map (letter_along g)) c.deref.ensures.value;
       lap_is = c.in_ok-lap.ensures;
     }
+
+pub unreachable-requires : goal.unreachable-requires
+unreachable-requires c =
+    let g = c.args.graph.now in
+    let cycle = c.requires.cycle in
+    let first = first_on (capped_graph g c.args.priority) cycle.start cycle.start c.args.cycle.now no_edge cycle.some
+    cycle.returns in
+    let none = rw c.in_default.is at c.in_ok-walk.ensures.none in
+    none (c.requires.reached (get_or c.args.cycle.now 0 no_edge).vertex first.1)

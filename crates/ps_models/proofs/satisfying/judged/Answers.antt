@@ -1,4 +1,3 @@
-use Rattle.std.proofs.Common.{refl}
 use Rattle.ps_product.proofs.GroupLemmas.{ok_map}
 use Rattle.ps_models.specs.Sentences.{named_formula}
 use Rattle.ps_models.proofs.JudgingLemmas.{is_scene, judgement_of, product_of}

@@ -1,4 +1,4 @@
-use Rattle.std.proofs.Common.{◌≡◌, ◌<◌, List, ap, arith, get_or, length, map, subst, ◌∙◌, ℕ}
+use Rattle.std.proofs.Common.{ap, arith, get_or, map, subst, ◌∙◌, ℕ}
 use Rattle.ps_fairness.specs.Marks.{Leads}
 use Rattle.ps_fairness.specs.declared.edge.Edge.{Edge}
 use Rattle.ps_models.specs.Inner.Graphs.{graph_of, inputs_along}

@@ -1,8 +1,9 @@
-use Rattle.std.proofs.Common.{◌≡◌, ◌^◌, arith, length, refl, subst}
+use Rattle.std.proofs.Common.{◌≡◌, ◌^◌, arith, ap, length, refl, subst, sym}
 use Rattle.ps_diagram.specs.Table.{Table}
-use Rattle.ps_models.specs.Inner.Alphabets.{AreMet}
+use Rattle.ps_tableau.specs.declared.board.Board.{Board}
+use Rattle.ps_models.specs.Inner.Alphabets.{AreMet, IsAlphabet}
 use Rattle.ps_models.specs.Inner.Joining.{JointDraftData, joint_draft, pairing_of, visited}
-use Rattle.ps_models.proofs.AddLemmas.{on_ok}
+use Rattle.ps_models.proofs.AddLemmas.{on_any, on_ok}
 use Rattle.ps_models.proofs.JointAdds.{adds_joint, adds_no_joint}
 use Rattle.ps_models.proofs.joining.JointDraft.add.Goals as goal
 use Rattle.ps_models.proofs.joining.JointDraft.add.Goals.{In_ok-met}
@@ -12,13 +13,30 @@ is_met : (c : In_ok-met) → AreMet (2 ^ c.args.plan.count) c.args.plan.places.n
 is_met c = subst (λ (t : Table). AreMet (2 ^ c.args.plan.count) c.args.plan.places.now c.args.plan.automaton.now
     c.args.visit.now.own t c.args.cover.now.guard c.in_ok-met.met.items) c.guards.ensures c.in_ok-met.ensures.met
 
+is_alphabet : (c : In_ok-met) → IsAlphabet c.args.plan c.args.self.now.states.tableau.guards c.met.new.self
+is_alphabet c = subst (λ (t : Table). IsAlphabet c.args.plan t c.met.new.self) c.guards.ensures
+    c.in_ok-met.ensures.alphabet
+
+pub met-requires-clause-alphabet : goal.met-requires-clause-alphabet
+met-requires-clause-alphabet c = subst (λ (t : Table). IsAlphabet c.args.plan t c.args.alphabet.now)
+    (sym c.guards.ensures) c.requires.alphabet
+
+pub returns-then-is_empty-clause-alphabet : goal.returns-then-is_empty-clause-alphabet
+returns-then-is_empty-clause-alphabet c = is_alphabet (goal.at.returns-then-is_empty-clause-alphabet c).In_ok-met
+
 pub returns-then-is_empty-clause-adds : goal.returns-then-is_empty-clause-adds
 returns-then-is_empty-clause-adds c =
     let at = (goal.at.returns-then-is_empty-clause-adds c).In_ok-met in
     let none : length c.in_ok-met.met.items ≡ 0 = grind arith in
     adds_no_joint (pairing_of c.args.plan) (joint_draft c.args.self.now) (visited c.args.visit.now) c.args.cover.now
-    c.in_ok-met.met.items c.requires.paired c.states.ensures.whole c.requires.visit.own (is_met at) c.requires.cover
-    c.args.row.now.items none
+    c.in_ok-met.met.items c.requires.visit.paired c.states.ensures.whole c.requires.visit.own (is_met at)
+    c.requires.cover c.args.row.now.items none
+
+pub returns-clause-alphabet : goal.returns-clause-alphabet
+returns-clause-alphabet c =
+    let at = (goal.at.returns-clause-alphabet c).In_ok-met in
+    let same = ap (λ (b : Board). b.guards) (sym c.in_ok-state.ensures.board) in
+    on_any c.join.result (subst (λ (t : Table). IsAlphabet c.args.plan t c.met.new.self) same (is_alphabet at))
 
 pub returns-clause-adds : goal.returns-clause-adds
 returns-clause-adds c =
@@ -30,5 +48,5 @@ returns-clause-adds c =
     }) in
     on_ok c.join.result c.join.ensures (λ joins.
     adds_joint (pairing_of c.args.plan) (joint_draft c.args.self.now) (visited c.args.visit.now) c.args.cover.now
-    c.in_ok-met.met.items c.requires.paired c.states.ensures.whole c.requires.visit.own (is_met at) c.requires.cover new
-    c.in_ok-state.ensures (rw c.deref.ensures.value at joins) refl)
+    c.in_ok-met.met.items c.requires.visit.paired c.states.ensures.whole c.requires.visit.own (is_met at)
+    c.requires.cover new c.in_ok-state.ensures (rw c.deref.ensures.value at joins) refl)

@@ -1,6 +1,7 @@
 use Rattle.std.proofs.Common.{◌≡◌, ◌∷◌, [], Vec, ap, arith, map, sym, ◌∙◌, ℕ}
 use Rattle.std.specs.Global.{Global}
 use Rattle.ps_tableau.specs.declared.board.Board.{Board}
+use Rattle.ps_models.specs.Inner.Joining.{pairing_of}
 use Rattle.ps_models.specs.declared.joint.JointEdge.{JointEdge}
 use Rattle.ps_models.proofs.JointAdds.{first_placed}
 use Rattle.ps_models.proofs.JointDrafts.{joint_first}
@@ -13,6 +14,6 @@ returns-clause-explored c =
     states.sets ∙ ap (λ (b : Board). b.initial ∷ []) (sym states.tableau) in
     let start = c.start.ensures in
     let placed = first_placed _ _ _ c.in_ok-_first._first c.new-vertices.ensures c.in_ok-_first.ensures.0 in
-    joint_first (omega (arith, start.start, start.state)) states.states sets
+    joint_first {s = pairing_of c.args.plan} (omega (arith, start.start, start.state)) states.states sets
     (placed ∙ ap (λ (q : ℕ). (q, 0) ∷ []) start.start)
     (ap (map (λ (row : Vec JointEdge Global). row.items)) c.new-2.ensures.items)

@@ -1,12 +1,12 @@
-use Rattle.std.proofs.Common.{List, Some, ap, refl, sym, ◌∙◌, ℕ}
-use Rattle.std.specs.List.{slice_get}
-use Rattle.ps_models.proofs.AddLemmas.{on_ok_three}
-use Rattle.ps_models.proofs.JointDrafts.{joint_reached}
+use Rattle.ps_models.specs.Inner.Joining.{pairing_of}
+use Rattle.ps_models.proofs.AddLemmas.{on_ok}
+use Rattle.ps_models.proofs.JointDrafts.{pair_steady}
+use Rattle.ps_models.proofs.Drafts.{states_reached}
 use Rattle.ps_models.proofs.joining.JointDraft.reach.Goals as goal
 
 pub returns-clause-explored : goal.returns-clause-explored
-returns-clause-explored c =
-    on_ok_three c.reach.result c.reach.ensures.states c.reach.ensures.grow c.reach.ensures.same (λ are grow same.
-    joint_reached c.requires.explored are grow
-    (ap (λ (l : List ℕ). slice_get l 0) same ∙ c.requires.explored.initial
-    ∙ ap (λ (n : ℕ). Some n) (sym grow.board.initial)) refl refl)
+returns-clause-explored c = on_ok c.reach.result c.reach.ensures.more
+    (λ more. states_reached (pair_steady (pairing_of c.args.plan)) c.requires.explored more)
+
+pub returns-clause-grows : goal.returns-clause-grows
+returns-clause-grows c = on_ok c.reach.result c.reach.ensures.more (λ e. e.grow.board)

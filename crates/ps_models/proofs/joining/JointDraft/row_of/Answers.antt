@@ -7,7 +7,6 @@ use Rattle.ps_tableau.specs.declared.edge.Edge.{Edge}
 use Rattle.ps_models.specs.BoardStates.{edges_of_state}
 use Rattle.ps_models.specs.Inner.Joining.{IsJointMadeUpTo, joint_draft, pairing_of, visited}
 use Rattle.ps_models.specs.declared.joint.JointEdge.{JointEdge}
-use Rattle.ps_models.proofs.AlphabetLemmas.{renamed_kept}
 use Rattle.ps_models.proofs.JointDrafts.{joint_made_more, joint_made_none}
 use Rattle.ps_models.proofs.joining.JointDraft.row_of.Goals as goal
 
@@ -15,7 +14,7 @@ pub loop-k-init : goal.loop-k-init
 loop-k-init c = record {
   made = subst (λ (row : List JointEdge). IsJointMadeUpTo (pairing_of c.args.plan) (joint_draft c.args.self.now)
       (joint_draft c.args.self.now) (visited c.args.visit.now) row 0) (sym c.new-row.ensures.items)
-      (joint_made_none c.requires.paired (visited c.args.visit.now));
+      (joint_made_none c.requires.visit.paired (visited c.args.visit.now));
   alphabet = c.requires.alphabet;
   visit = c.requires.visit;
 }
@@ -43,11 +42,11 @@ loop-k-preserved c =
     let there : slice_get (edges_of_state now.edges state) k ≡ Some cover =
     slice_get-get_or (edges_of_state now.edges state) k cover low ∙ ap (λ (e : Edge). Some e) read in
     record {
-      made = joint_made_more c.requires.paired.states inv.made add.adds c.requires.visit.covers there;
+      made = joint_made_more c.requires.visit.paired.states inv.made add.adds c.requires.visit.covers there;
       alphabet = add.alphabet;
       visit = record {
+        paired = add.adds.adds.are_fit;
         own = inv.visit.own;
         covers = subst (λ (es : List (List Edge)). state < length es) (sym add.adds.adds.edges) inv.visit.covers;
-        renamed = renamed_kept add.keeps inv.visit.renamed;
       };
     }

@@ -6,6 +6,6 @@ abbrev pub invariant-loop-k : goal.invariant-loop-k
 invariant-loop-k l = record {
   made : IsJointMadeUpTo (pairing_of l.plan) (joint_draft l.fn.self) (joint_draft l.self) (visited l.visit) l.row.items
       l.k;
-  alphabet : IsAlphabet l.plan.count l.plan.places.now l.alphabet;
-  visit : IsVisit (pairing_of l.plan) (joint_draft l.self) l.alphabet.store l.visit;
+  alphabet : IsAlphabet l.plan l.self.states.tableau.guards l.alphabet;
+  visit : IsVisit (pairing_of l.plan) (joint_draft l.self) l.visit;
 }

@@ -1,17 +1,10 @@
-use Rattle.ps_product.proofs.GroupLemmas.{ok_map}
-use Rattle.ps_tableau.proofs.BoardLemmas.{grows_trans}
+use Rattle.std.proofs.Common.{subst, sym}
+use Rattle.ps_tableau.specs.Boards.{IsTableauOf}
+use Rattle.ps_tableau.specs.declared.board.Board.{Board}
 use Rattle.ps_models.proofs.StateLemmas.{tableau_of_kept}
 use Rattle.ps_models.proofs.joining.JointPlan.product.Goals as goal
 
-pub loop-vertex-preserved : goal.loop-vertex-preserved
-loop-vertex-preserved c =
-    let e = c.in_ok-visit.ensures in
-    record {
-      explored = e.explored;
-      grows = grows_trans c.loop-vertex.invariant.grows e.grows;
-      alphabet = e.alphabet;
-    }
-
 pub returns : goal.returns
-returns c = ok_map _ _ c.into_graph.result c.into_graph.ensures (λ graph made f is_of.
-    made f (tableau_of_kept f c.loop-vertex.invariant.grows is_of))
+returns c = λ f is_of.
+    let here = subst (λ (b : Board). IsTableauOf b f) (sym c.in_ok-draft.ensures.board) is_of in
+    c.into_graph.ensures f (tableau_of_kept f c.in_ok-explore_all.ensures.grows here)

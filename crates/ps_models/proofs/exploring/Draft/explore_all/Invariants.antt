@@ -2,14 +2,14 @@ use Rattle.std.proofs.Common.{◌≡◌, ◌-◌, length}
 use Rattle.ps_tableau.specs.Boards.{Grows}
 use Rattle.ps_models.specs.Inner.Exploring.{IsExplored, draft_data}
 use Rattle.ps_models.specs.Inner.Plans.{scene_of}
-use Rattle.ps_models.proofs.plan.Plan.product.Given as goal
+use Rattle.ps_models.proofs.exploring.Draft.explore_all.Given as goal
 
 abbrev pub invariant-loop-vertex : goal.invariant-loop-vertex
 invariant-loop-vertex l = record {
-  explored : IsExplored (scene_of l.self) (draft_data l.draft) l.vertex;
-  grows : Grows l.fn.tableau l.draft.states.tableau;
-  evaluator : l.evaluator ≡ l.self.circuit.now;
-  store : l.store.propositions ≡ length l.self.names.now;
+  explored : IsExplored (scene_of l.plan) (draft_data l.self) l.vertex;
+  grows : Grows l.fn.self.states.tableau l.self.states.tableau;
+  evaluator : l.evaluator ≡ l.plan.circuit.now;
+  store : l.store.propositions ≡ length l.plan.names.now;
 }
 
 -- the number of the next vertex to be explored grows with each iteration, and is always less than 2^64

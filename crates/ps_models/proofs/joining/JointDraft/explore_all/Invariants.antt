@@ -2,13 +2,13 @@ use Rattle.std.proofs.Common.{◌-◌}
 use Rattle.ps_tableau.specs.Boards.{Grows}
 use Rattle.ps_models.specs.Inner.Alphabets.{IsAlphabet}
 use Rattle.ps_models.specs.Inner.Joining.{IsJointExplored, joint_draft, pairing_of}
-use Rattle.ps_models.proofs.joining.JointPlan.product.Given as goal
+use Rattle.ps_models.proofs.joining.JointDraft.explore_all.Given as goal
 
 abbrev pub invariant-loop-vertex : goal.invariant-loop-vertex
 invariant-loop-vertex l = record {
-  explored : IsJointExplored (pairing_of l.self) (joint_draft l.draft) l.vertex;
-  grows : Grows l.fn.tableau l.draft.states.tableau;
-  alphabet : IsAlphabet l.self.count l.self.places.now l.alphabet;
+  explored : IsJointExplored (pairing_of l.plan) (joint_draft l.self) l.vertex;
+  grows : Grows l.fn.self.states.tableau l.self.states.tableau;
+  alphabet : IsAlphabet l.plan l.self.states.tableau.guards l.alphabet;
 }
 
 -- the number of the next vertex to be explored grows with each iteration, and is always less than 2^64

@@ -1,0 +1,18 @@
+use Rattle.std.proofs.Common.{◌≡◌, [], List, subst}
+use Rattle.ps_product.specs.Numbers.{IsNumberOf}
+use Rattle.ps_product.specs.Products.{ProductVertex}
+use Rattle.ps_product.specs.Vertices.{product_vertex}
+use Rattle.ps_models.specs.Inner.Exploring.{first_of}
+use Rattle.ps_models.specs.Inner.Plans.{scene_of}
+use Rattle.ps_models.proofs.DraftLemmas.{only_first}
+use Rattle.ps_models.proofs.plan.Plan.numbering.Goals as goal
+
+pub returns : goal.returns
+returns c =
+    let first = c.in_ok-first.ensures in
+    let same : product_vertex c.in_ok-first.first ≡ first_of (scene_of c.args.self) =
+    λ i. record { latches = first.latches i; state = first.state i; priority = first.priority i } in
+    only_first (subst (λ (v : ProductVertex). IsNumberOf [] v c.in_ok-_number._number c.number.new.self) same
+    (subst (λ (l : List ProductVertex).
+    IsNumberOf l (product_vertex c.in_ok-first.first) c.in_ok-_number._number c.number.new.self)
+    c.new-numbering.ensures c.in_ok-_number.ensures.number))
