@@ -1,6 +1,7 @@
 """`translate` against two independent translators, lbt and spin; `agree` on automata with planted errors, against the same
 product; each word that `agree` tells is confirmed by an evaluator of formulas and a run of the automaton. Each part of
-examples/parts agrees with the sentence in its head."""
+examples/parts agrees with the sentence in its head. `translate`, which judges what it prints, has an automaton for each
+pattern and the small members of each family of bench/specified.py."""
 import glob
 import os
 import random
@@ -15,6 +16,9 @@ from psyntool.texts import automaton
 from tests import buchi, formulas, products
 from upkeep import counts, sweeps
 from upkeep.sweeps import TOP
+
+sys.path.insert(0, os.path.join(TOP, "bench"))
+import specified  # noqa: E402
 
 NAMES = ("a", "b", "c")
 FORMULAS = 300
@@ -123,6 +127,13 @@ class Translations(unittest.TestCase):
         paths = sorted(glob.glob(os.path.join(TOP, "examples", "parts", "*.hoa")))
         self.assertEqual([it for it in map(disagreeing, paths) if it], [])
         counts.ran("formulas", "parts that agree with their sentences", len(paths))
+
+    def test_patterns_and_small_members_of_families(self):
+        parts = [specified.pattern(formula) for formula in specified.PATTERNS]
+        parts += [family(n) for family in specified.FAMILIES for n in (2, 3)]
+        answers = sweeps.at_once(lambda it: answered("translate", specified.text(*it)), parts)
+        self.assertEqual([text for text, status in answers if status], [])
+        counts.ran("formulas", "patterns and members of families that are translated", len(parts))
 
     def test_psyns_own_against_two_translators(self):
         self.needs("translated by lbt and spin too", "lbt", "spin")

@@ -65,6 +65,13 @@ pub(crate) fn components(alloc: Global, edges: &[Edge]) -> Result<Vec<Vec<Edge>>
     search.lists(alloc, edges)
 }
 
+/// The number of the component of each vertex of some edges. No edge leads to a component with a greater number.
+pub(crate) fn component_numbers(alloc: Global, edges: &[Edge]) -> Result<Column, Stop> {
+    let mut search = search_of(alloc, edges)?;
+    search.run()?;
+    search.numbers(alloc, edges)
+}
+
 /// A search of the graph of some edges, with its vertices numbered.
 fn search_of(alloc: Global, edges: &[Edge]) -> Result<Search, Stop> {
     let mut vertices = KeyList::new(alloc);
@@ -198,6 +205,16 @@ impl Search {
         }
         self.components = self.components.checked_add(1).ok_or(Stop::Limit)?;
         Ok(())
+    }
+
+    /// The number of the component of each vertex.
+    fn numbers(&self, alloc: Global, edges: &[Edge]) -> Result<Column, Stop> {
+        let mut numbers = Column::new(alloc, NONE);
+        for (ends, edge) in self.edges.iter().zip(edges) {
+            numbers.set(edge.source, self.component.get(ends.source))?;
+            numbers.set(edge.target, self.component.get(ends.target))?;
+        }
+        Ok(numbers)
     }
 
     /// The edges of each component that has edges.

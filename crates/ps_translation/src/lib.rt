@@ -11,11 +11,11 @@
 //! The formula is simplified (`forms`) and parted where its top is Boolean (`split`); a part of a class without
 //! automata is brought nearer to a normal form (`normal`). Each part has a deterministic automaton (`part`), whose
 //! states are what is owed (`progression`), as diagrams (`diagrams`); where there would be too many parts, those with
-//! the same automaton are one (`shapes`). Their product (`product`) has a condition on the marks of all parts, which
-//! the alternating cycle decomposition (`cycles`, with `components`, `loops`, `nested`, `turns`) makes a parity
-//! condition (`parity`). States that cannot be told apart are joined (`quotient`, with `classes`, `sources` and
-//! `renumbering`), and named by what they owe (`owing`, `names`). Labels are written as short sums of products
-//! (`letters`, `cover`, `labels`, `text`).
+//! the same automaton are one (`shapes`). Their product (`product`) has a condition on the marks of all parts. Edges
+//! between its components lead as far down as they can (`descent`), and the alternating cycle decomposition (`cycles`,
+//! with `components`, `loops`, `nested`, `turns`) makes the condition a parity condition (`parity`). States that cannot
+//! be told apart are joined (`quotient`, with `classes`, `sources` and `renumbering`), and named by what they owe
+//! (`owing`, `names`). Labels are written as short sums of products (`letters`, `cover`, `labels`, `text`).
 #![tactic(auto)]
 
 mod classes;
@@ -23,6 +23,7 @@ mod column;
 mod components;
 mod cover;
 mod cycles;
+mod descent;
 mod diagrams;
 mod forms;
 mod labels;

@@ -10,6 +10,10 @@
 //! | `G F h[f R g]` | `G F h[g U (f && g)] \|\| (F G g && G F h[true])` |
 //! | `f R g` | `(g U (f && g)) \|\| G g` |
 //! | `G h[f U g]` | `(G F g && G h[f W g]) \|\| (h[f U g] U G h[false])` |
+//! | `G h[f R g]` | `G h[g U (f && g)] \|\| (F G g && G k)` |
+//!
+//! In the last row, k is h with `p W q` in place of each `p U q` where q is true if `f R g` is: under `F G g` there comes
+//! an index from which on `f R g` is true, and so q.
 
 use crate::forms::{FALSE, Form, Forms, Sides, TRUE};
 use crate::stop::Stop;
@@ -20,8 +24,14 @@ use std::alloc::Global;
 /// The most formulas of a table that is brought into normal form.
 const FORMULAS: usize = 30_000;
 
-/// A formula that is the same as a given one, and nearer to the normal form.
-pub(crate) fn normalised(alloc: Global, forms: &mut Forms, form: Form) -> Result<Form, Stop> {
+/// A formula that is the same as a given one, and nearer to the normal form. If `is_parting`, the last row is used where
+/// it can be; then there may be no end of such steps, since what it does may be undone.
+pub(crate) fn normalised(
+    alloc: Global,
+    forms: &mut Forms,
+    form: Form,
+    is_parting: bool,
+) -> Result<Form, Stop> {
     if forms.len() > FORMULAS {
         return Err(Stop::Limit);
     }
@@ -37,7 +47,7 @@ pub(crate) fn normalised(alloc: Global, forms: &mut Forms, form: Form) -> Result
         return Ok(again(alloc, forms, &negations, form ^ 1)? ^ 1);
     }
     let release = mixed_release(forms, &below).ok_or(Stop::Limit)?;
-    let made = released(alloc, forms, release)?;
+    let made = released(alloc, forms, release, is_parting)?;
     replaced(alloc, forms, form, release, made)
 }
 
@@ -94,19 +104,115 @@ fn mixed_release(forms: &Forms, below: &[Form]) -> Option<Form> {
 }
 
 /// A formula `f R g` with one operator `U` fewer in g, or without f.
-fn released(alloc: Global, forms: &mut Forms, form: Form) -> Result<Form, Stop> {
+fn released(alloc: Global, forms: &mut Forms, form: Form, is_parting: bool) -> Result<Form, Stop> {
     let Sides { left, right } = release(forms, form).ok_or(Stop::Limit)?;
     let always = if forms.class(right).is_safety {
         forms.release(FALSE, right)?
     } else {
-        globally(alloc, forms, right)?
+        globally(alloc, forms, right, is_parting)?
     };
     let until = ended(forms, left, right)?;
     forms.either(until, always)
 }
 
+/// A formula `G h`, where in h an operator `U` fewer is around an operator `R`, or there is one fewer.
+fn globally(alloc: Global, forms: &mut Forms, inner: Form, is_parting: bool) -> Result<Form, Stop> {
+    if is_parting {
+        let below = forms.below(inner)?;
+        for each in &below {
+            if let Some(made) = parted(alloc, forms, &below, *each)? {
+                return Ok(made);
+            }
+        }
+    }
+    globally_weak(alloc, forms, inner)
+}
+
+/// A formula `G h`, parted by an innermost formula `f R g` in h, if that takes an operator `U` from around it.
+fn parted(
+    alloc: Global,
+    forms: &mut Forms,
+    below: &[Form],
+    kept: Form,
+) -> Result<Option<Form>, Stop> {
+    let Some(Sides { left, right }) = innermost_release(forms, kept) else {
+        return Ok(None);
+    };
+    let inner = last(below);
+    let weak = weakened(alloc, forms, below, kept)?;
+    if weak == inner {
+        return Ok(None);
+    }
+    let until = ended(forms, left, right)?;
+    let with_until = replaced(alloc, forms, inner, kept, until)?;
+    let made = either_way(forms, with_until, right, weak)?;
+    Ok(Some(made))
+}
+
+/// `G f || (F G g && G h)`
+fn either_way(forms: &mut Forms, f: Form, g: Form, h: Form) -> Result<Form, Stop> {
+    let one = forms.release(FALSE, f)?;
+    let always = forms.release(FALSE, g)?;
+    let lasting = forms.until(TRUE, always)?;
+    let other = forms.release(FALSE, h)?;
+    let other = forms.both(lasting, other)?;
+    forms.either(one, other)
+}
+
+/// The operands of a formula `f R g` without an operator `R` inside.
+fn innermost_release(forms: &Forms, form: Form) -> Option<Sides> {
+    let sides = release(forms, form)?;
+    let left = forms.class(sides.left);
+    let right = forms.class(sides.right);
+    if left.is_guarantee && right.is_guarantee {
+        Some(sides)
+    } else {
+        None
+    }
+}
+
+/// The last of the formulas inside a formula, which is this formula, with `f W g` in place of each `f U g` where g is
+/// true if a formula inside is.
+fn weakened(alloc: Global, forms: &mut Forms, below: &[Form], kept: Form) -> Result<Form, Stop> {
+    let mut true_there = KeyMap::new(alloc);
+    let mut weak = KeyMap::new(alloc);
+    true_there.put(kept as u64, TRUE)?;
+    weak.put(kept as u64, kept)?;
+    for each in below {
+        if *each != kept {
+            let made = rebuilt(forms, *each, &true_there)?;
+            true_there.put(*each as u64, made)?;
+            let made = rebuilt_weakly(forms, *each, &true_there, &weak)?;
+            weak.put(*each as u64, made)?;
+        }
+    }
+    Ok(at(&weak, last(below)))
+}
+
+/// A formula, made from what replaces its operands, with `f W g` in place of `f U g` if g becomes true.
+fn rebuilt_weakly(
+    forms: &mut Forms,
+    form: Form,
+    true_there: &KeyMap<u64, Form>,
+    weak: &KeyMap<u64, Form>,
+) -> Result<Form, Stop> {
+    match forms.node(form) {
+        NormalNode::Until(f, g) if at(true_there, g) == TRUE => {
+            let (f, g) = (at(weak, f), at(weak, g));
+            let either = forms.either(f, g)?;
+            forms.release(g, either)
+        }
+        _ => rebuilt(forms, form, weak),
+    }
+}
+
+/// The last of some formulas.
+fn last(below: &[Form]) -> Form {
+    below.last().copied().unwrap_or(FALSE)
+}
+
 /// A formula `G h` with one operator `U` fewer in h.
-fn globally(alloc: Global, forms: &mut Forms, inner: Form) -> Result<Form, Stop> {
+fn globally_weak(alloc: Global, forms: &mut Forms, inner: Form) -> Result<Form, Stop> {
     let until = first_until(forms, inner)?;
     let Sides { left, right } = forms.sides(until);
     let either = forms.either(left, right)?;

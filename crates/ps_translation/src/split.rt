@@ -17,6 +17,9 @@ use std::alloc::Global;
 /// The most parts.
 const PARTS: usize = 64;
 
+/// The steps of the budget that are spared for other ways, if a formula is to be parted into fewer parts.
+const SPARED: usize = 9_000_000;
+
 /// How deep the Boolean operators at the top of a formula may be nested.
 const NESTING: u32 = 256;
 
@@ -37,6 +40,43 @@ struct Groups {
     others: Vec<Form>,
 }
 
+/// How far a formula may be parted.
+#[derive(Clone, Copy, PartialEq, Eq)]
+pub(crate) enum Extent {
+    /// Into few parts, by few steps towards the normal form.
+    Few,
+    /// Into some more.
+    Some,
+    /// Into many parts, by any number of steps of the kinds that always come to an end.
+    Many,
+    /// The same, but parts with the same automaton are one.
+    Merged,
+}
+
+impl Extent {
+    /// The most parts.
+    fn most(self) -> usize {
+        match self {
+            Extent::Few => 4,
+            Extent::Some => 12,
+            Extent::Many | Extent::Merged => PARTS,
+        }
+    }
+
+    /// Whether there are further ways behind this one.
+    fn is_narrow(self) -> bool {
+        self.most() < PARTS
+    }
+}
+
+/// A way to part a formula.
+#[derive(Clone, Copy)]
+pub(crate) struct Way {
+    /// Whether what is brought nearer to the normal form is the negation.
+    pub(crate) is_negated: bool,
+    pub(crate) extent: Extent,
+}
+
 /// The parts of a formula.
 #[derive(Drop)]
 pub(crate) struct Split {
@@ -46,24 +86,25 @@ pub(crate) struct Split {
     known: KeyMap<u64, Diagram>,
     /// The automata of the parts, if those with the same one are one.
     shapes: Option<Shapes>,
-    /// Whether what is brought nearer to the normal form is the negation.
-    is_negated: bool,
+    way: Way,
+    /// The number of steps towards the normal form.
+    steps: usize,
 }
 
 impl Split {
-    /// No parts. If `is_negated`, what is brought nearer to the normal form is the negation. If `is_merging`, parts with
-    /// the same automaton will be one.
-    pub(crate) fn new(alloc: Global, is_negated: bool, is_merging: bool) -> Self {
+    /// No parts.
+    pub(crate) fn new(alloc: Global, way: Way) -> Self {
         Split {
             alloc,
             parts: Vec::new(alloc),
             known: KeyMap::new(alloc),
-            shapes: if is_merging {
+            shapes: if way.extent == Extent::Merged {
                 Some(Shapes::new(alloc))
             } else {
                 None
             },
-            is_negated,
+            way,
+            steps: 0,
         }
     }
 
@@ -78,7 +119,31 @@ impl Split {
         world: &mut Progression,
         form: Form,
     ) -> Result<Diagram, Stop> {
-        self.function_at(NESTING, world, form, self.is_negated)
+        self.function_at(NESTING, world, form, self.way.is_negated)
+    }
+
+    /// Counts a step towards the normal form.
+    fn step(&mut self, world: &mut Progression) -> Result<(), Stop> {
+        world.is_normalised = true;
+        if self.steps == 0 && self.way.extent.is_narrow() {
+            world.diagrams.take(SPARED)?;
+        }
+        self.steps = self.steps.saturating_add(1);
+        self.limited()
+    }
+
+    /// Fails if the formula is parted too far.
+    fn limited(&self) -> Result<(), Stop> {
+        let most = if self.steps > 0 {
+            self.way.extent.most()
+        } else {
+            PARTS
+        };
+        let is_long = self.way.extent.is_narrow() && self.steps > most.saturating_mul(2);
+        if self.parts.len() > most || is_long {
+            return Err(Stop::Limit);
+        }
+        Ok(())
     }
 
     /// Like `function`, at a depth. A formula that stands for its negation is brought nearer to the normal form as this
@@ -111,9 +176,10 @@ impl Split {
             let negation = self.function_at(depth - 1, world, form ^ 1, !is_negated)?;
             return world.diagrams.negated(negation);
         }
-        world.is_normalised = true;
+        self.step(world)?;
         let sign = u32::from(is_negated);
-        let nearer = normalised(self.alloc, &mut world.forms, form ^ sign)? ^ sign;
+        let is_parting = self.way.extent.is_narrow();
+        let nearer = normalised(self.alloc, &mut world.forms, form ^ sign, is_parting)? ^ sign;
         self.function_at(depth - 1, world, nearer, is_negated)
     }
 
@@ -205,13 +271,10 @@ impl Split {
 
     /// Adds a part.
     fn add(&mut self, kind: Kind, forms: Vec<Form>, is_negated: bool) -> Result<(), Stop> {
-        if self.parts.len() >= PARTS {
-            return Err(Stop::Limit);
-        }
-        let is_negative = is_negated != self.is_negated;
+        let is_negative = is_negated != self.way.is_negated;
         let part = Part::new(self.alloc, kind, forms, is_negative)?;
         self.parts.push(part)?;
-        Ok(())
+        self.limited()
     }
 }
 

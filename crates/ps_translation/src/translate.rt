@@ -1,5 +1,6 @@
 //! The translation of a specification.
 
+use crate::descent::descended;
 use crate::diagrams::{Diagram, Diagrams};
 use crate::machine::Machine;
 use crate::parity::{Parity, with_parity};
@@ -7,7 +8,7 @@ use crate::part::{Kind, Part};
 use crate::product::{Product, product_of};
 use crate::progression::Progression;
 use crate::quotient::quotient;
-use crate::split::Split;
+use crate::split::{Extent, Split, Way};
 use crate::stop::Stop;
 use crate::text::text;
 use ps_tlsf::Specification;
@@ -37,31 +38,27 @@ pub fn titled(
     }
 }
 
-/// Like `titled`. If no automaton is found by way of the normal form of the formula, there are other ways.
+/// Like `titled`. The ways to part the formula are tried in turn, those that lead to few parts first. They differ only if
+/// a formula is brought nearer to the normal form.
 fn automaton(
     alloc: Global,
     specification: &Specification,
     title: Option<&[u8]>,
 ) -> Result<Vec<u8>, Stop> {
-    let mut world = Progression::new(alloc)?;
-    let split = Split::new(alloc, false, false);
-    match written(alloc, &mut world, specification, title, split) {
-        Err(Stop::Limit) if world.is_normalised => again(alloc, specification, title),
-        result => result,
-    }
-}
-
-/// Like `automaton`, by way of the normal form of the negation, or with parts that are merged, or both.
-fn again(
-    alloc: Global,
-    specification: &Specification,
-    title: Option<&[u8]>,
-) -> Result<Vec<u8>, Stop> {
-    for (is_negated, is_merging) in [(true, false), (false, true), (true, true)] {
+    for (extent, is_negated) in [
+        (Extent::Few, false),
+        (Extent::Few, true),
+        (Extent::Some, false),
+        (Extent::Some, true),
+        (Extent::Many, false),
+        (Extent::Many, true),
+        (Extent::Merged, false),
+        (Extent::Merged, true),
+    ] {
         let mut world = Progression::new(alloc)?;
-        let split = Split::new(alloc, is_negated, is_merging);
-        match written(alloc, &mut world, specification, title, split) {
-            Err(Stop::Limit) => {}
+        let way = Way { is_negated, extent };
+        match written(alloc, &mut world, specification, title, way) {
+            Err(Stop::Limit) if world.is_normalised => {}
             result => return result,
         }
     }
@@ -74,9 +71,9 @@ fn written(
     world: &mut Progression,
     specification: &Specification,
     title: Option<&[u8]>,
-    split: Split,
+    way: Way,
 ) -> Result<Vec<u8>, Stop> {
-    let mut made = translation(alloc, world, specification, split)?;
+    let mut made = translation(alloc, world, specification, way)?;
     text(alloc, world, &mut made, &specification.propositions, title)
 }
 
@@ -85,11 +82,11 @@ fn translation(
     alloc: Global,
     world: &mut Progression,
     specification: &Specification,
-    split: Split,
+    way: Way,
 ) -> Result<Made, Stop> {
     let nodes = specification.table.as_slice();
     let form = world.forms.of_table(nodes, specification.root)?;
-    let mut split = split;
+    let mut split = Split::new(alloc, way);
     let condition = split.function(world, form)?;
     of_parts(alloc, world, split.into_parts(), condition)
 }
@@ -110,7 +107,8 @@ pub(crate) fn of_parts(
 ) -> Result<Made, Stop> {
     let safeties = safeties(&parts);
     let product = product_of(alloc, world, parts, condition)?;
-    let parity = parity_of(alloc, &mut world.diagrams, &product.machine, safeties)?;
+    let machine = descended(alloc, &mut world.diagrams, &product)?;
+    let parity = parity_of(alloc, &mut world.diagrams, &machine, safeties)?;
     Ok(Made { parity, product })
 }
 
