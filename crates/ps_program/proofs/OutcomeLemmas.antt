@@ -52,6 +52,15 @@ gives_fault number name reads view (fault.Text cause offset) refusal.OutOfMemory
 gives_fault number name reads view fault.OutOfMemory (refusal.Fault line) answer same = absurd same
 gives_fault number name reads view fault.OutOfMemory refusal.OutOfMemory answer same = tt
 
+-- a function that hands on the error of a parser returns a possible result of parsing
+pub gives_parsed : {C X V : Type 0} (number : C → ℕ) (name : C → List ℕ) (reads : Result V (Found C) → Type 0)
+    (view : X → V) (given : Fault C) (outcome : Result X Refusal)
+    → UnlessMemory reads (Err given) → IsErrAnd outcome (IsRefusalOf number name given) →
+    Gives view (Reading number name reads) outcome
+gives_parsed number name reads view given outcome answer handed =
+    gives_handed view (Reading number name reads) outcome (IsRefusalOf number name given) handed
+    (λ refused same. gives_fault number name reads view given refused answer same)
+
 -- if the first of two steps fails, its fault is the result of both steps together
 pub gives_failed : {X V Y W : Type 0} (view : X → V) (step : Result V (List ℕ) → Type 0) (after : Y → W)
     (next : V → Result W (List ℕ) → Type 0) (refused : Refusal)
@@ -63,6 +72,27 @@ pub gives_after : {V Y W : Type 0} (step : Result V (List ℕ) → Type 0) (afte
     (next : V → Result W (List ℕ) → Type 0) (value : V) (outcome : Result Y Refusal)
     → step (Ok value) → Gives after (next value) outcome → Gives after (Then step next) outcome
 gives_after step after next value outcome was h = grind arith
+
+-- ---- commands that parse the first of their texts, and give a result for its value and all texts
+
+-- a fault in the first text is the fault of the command
+pub first_failed : {X P V Y W : Type 0} (view : X → V) (cut : Result P (List ℕ) → Type 0)
+    (reads : P → Result V (List ℕ) → Type 0) (after : Y → W) (next : V → P → Result W (List ℕ) → Type 0) (parts : P)
+    (refused : Refusal)
+    → cut (Ok parts) → Gives {X = X} view (reads parts) (Err refused) →
+    Gives {X = Y} after (Then cut (λ each. Then (reads each) (λ value. next value each))) (Err refused)
+first_failed view cut reads after next parts refused were h =
+    gives_after cut after (λ each. Then (reads each) (λ value. next value each)) parts (Err refused) were
+    (gives_failed view (reads parts) after (λ value. next value parts) refused h)
+
+-- if the first text is correct, the result for its value is the result of the command
+pub first_read : {P V Y W : Type 0} (cut : Result P (List ℕ) → Type 0) (reads : P → Result V (List ℕ) → Type 0)
+    (after : Y → W) (next : V → P → Result W (List ℕ) → Type 0) (parts : P) (value : V) (outcome : Result Y Refusal)
+    → cut (Ok parts) → reads parts (Ok value) → Gives after (next value parts) outcome →
+    Gives after (Then cut (λ each. Then (reads each) (λ value. next value each))) outcome
+first_read cut reads after next parts value outcome were read h =
+    gives_after cut after (λ each. Then (reads each) (λ value. next value each)) parts outcome were
+    (gives_after (reads parts) after (λ value. next value parts) value outcome read h)
 
 -- what holds anyway holds of each success
 pub whenever : {V E : Type 0} {P : Type 0} (result : Result V E) → P → OnOk result P

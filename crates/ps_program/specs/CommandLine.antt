@@ -105,105 +105,91 @@ synth_line_given given =
     (if given full_flag || given cert_flag || given moore_flag || given compact_flag then Refused else SynthTlsf)
     else Synth (synth_given given)
 
+-- a command without a name, flags and texts; each row of the table of commands adds what it has
+abbrev pub no_usage : Usage
+no_usage = record {
+  name = [];
+  flags = [];
+  texts = [];
+  added = [];
+  replaced = [];
+  line = λ given. Refused;
+  says = [];
+}
+
 abbrev pub commands : List Usage
 commands =
-    record {
+    record no_usage {
       name = codes "closed";
-      flags = [];
       texts = kind.Game ∷ kind.Certificate ∷ [];
-      added = [];
-      replaced = [];
       line = λ given. Closed;
       says = ON_CLOSED.now;
-    } ∷ record {
+    } ∷ record no_usage {
       name = codes "check";
-      flags = [];
       texts = kind.Game ∷ kind.Certificate ∷ [];
-      added = [];
-      replaced = [];
       line = λ given. Check;
       says = ON_CHECK.now;
-    } ∷ record {
+    } ∷ record no_usage {
       name = codes "judge";
       flags = compact_flag ∷ [];
       texts = kind.Game ∷ kind.Solution ∷ [];
-      added = [];
-      replaced = [];
       line = λ given. Judge (given compact_flag);
       says = ON_JUDGE.now;
-    } ∷ record {
+    } ∷ record no_usage {
       name = codes "sim";
-      flags = [];
       texts = kind.Circuit ∷ kind.Stimulus ∷ [];
-      added = [];
-      replaced = [];
       line = λ given. Sim;
       says = ON_SIM.now;
-    } ∷ record {
+    } ∷ record no_usage {
       name = codes "lasso";
       flags = env_flag ∷ tlsf_flag ∷ [];
       texts = kind.Automaton ∷ kind.Circuit ∷ kind.Stimulus ∷ [];
-      added = [];
       replaced = (tlsf_flag, kind.Specification) ∷ [];
       line = lasso_given;
       says = ON_LASSO.now;
-    } ∷ record {
+    } ∷ record no_usage {
       name = codes "verify";
       flags = env_flag ∷ moore_flag ∷ tlsf_flag ∷ [];
       texts = kind.Automaton ∷ kind.Circuit ∷ [];
-      added = [];
       replaced = (tlsf_flag, kind.Specification) ∷ [];
       line = verify_given;
       says = ON_VERIFY.now;
-    } ∷ record {
+    } ∷ record no_usage {
       name = codes "shrink";
       flags = env_flag ∷ moore_flag ∷ tlsf_flag ∷ [];
       texts = kind.Automaton ∷ kind.Circuit ∷ [];
-      added = [];
       replaced = (tlsf_flag, kind.Specification) ∷ [];
       line = shrink_given;
       says = ON_SHRINK.now;
-    } ∷ record {
+    } ∷ record no_usage {
       name = codes "agree";
-      flags = [];
       texts = kind.Specification ∷ kind.Automaton ∷ [];
-      added = [];
-      replaced = [];
       line = λ given. Agree;
       says = ON_AGREE.now;
-    } ∷ record {
+    } ∷ record no_usage {
       name = codes "translate";
-      flags = [];
       texts = kind.Specification ∷ [];
-      added = [];
-      replaced = [];
       line = λ given. Translate;
       says = ON_TRANSLATE.now;
-    } ∷ record {
+    } ∷ record no_usage {
       name = codes "solve";
       flags = compact_flag ∷ [];
       texts = kind.Game ∷ [];
-      added = [];
-      replaced = [];
       line = λ given. Solve (given compact_flag);
       says = ON_SOLVE.now;
-    } ∷ record {
+    } ∷ record no_usage {
       name = codes "game";
       flags = moore_flag ∷ [];
       texts = kind.Automaton ∷ [];
-      added = [];
-      replaced = [];
       line = λ given. Game (order_given given);
       says = ON_GAME.now;
-    } ∷ record {
+    } ∷ record no_usage {
       name = codes "cert";
       flags = moore_flag ∷ compact_flag ∷ [];
       texts = kind.Automaton ∷ [];
-      added = [];
-      replaced = [];
       line = λ given. Cert (order_given given) (given compact_flag);
       says = ON_CERT.now;
-    } ∷ record {
+    } ∷ record no_usage {
       name = codes "synth";
       flags = full_flag ∷ cert_flag ∷ moore_flag ∷ compact_flag ∷ tlsf_flag ∷ [];
       texts = kind.Automaton ∷ [];
@@ -211,12 +197,8 @@ commands =
       replaced = (tlsf_flag, kind.Specification) ∷ [];
       line = synth_line_given;
       says = ON_SYNTH.now;
-    } ∷ record {
+    } ∷ record no_usage {
       name = codes "help";
-      flags = [];
-      texts = [];
-      added = [];
-      replaced = [];
       line = λ given. Help;
       says = ON_HELP.now;
     } ∷ []

@@ -1,3 +1,4 @@
 pub mod Judged
 pub mod LongWords
+pub mod Parsed
 pub mod Usages

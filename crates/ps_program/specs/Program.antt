@@ -8,27 +8,27 @@ use Rattle.ps_program.specs.declared.commands.Line.TheVariants.{Agree, Game, Sol
 use Rattle.ps_program.specs.declared.commands.Line.TheVariants.{Cert, Synth, SynthTlsf}
 use Rattle.ps_specification.specs.Translating.{own_translator}
 use Rattle.ps_program.specs.CommandLine.{IsLine}
-use Rattle.ps_program.specs.Checks.{AnswersClosed, AnswersCheck}
-use Rattle.ps_program.specs.Comparing.{AnswersAgree}
+use Rattle.ps_program.specs.Commands.Checks.{AnswersClosed, AnswersCheck}
+use Rattle.ps_program.specs.Commands.Comparing.{AnswersAgree}
 use Rattle.ps_program.specs.Cut.{first_line, behind_line}
-use Rattle.ps_program.specs.Games.{AnswersGameText, AnswersCert}
+use Rattle.ps_program.specs.Commands.Games.{AnswersGameText, AnswersCert}
 use Rattle.ps_program.specs.Input.{AgreesWith, input_limit}
-use Rattle.ps_program.specs.Judging.{AnswersJudge}
-use Rattle.ps_program.specs.Lassos.{AnswersLasso}
+use Rattle.ps_program.specs.Commands.Judging.{AnswersJudge}
+use Rattle.ps_program.specs.Commands.Lassos.{AnswersLasso}
 use Rattle.ps_program.specs.Outcomes.{printed}
 use Rattle.ps_program.specs.Replies.{Reply, usage, help, read_fault, out_of_memory}
-use Rattle.ps_program.specs.Satisfying.{AnswersLassoTlsf}
-use Rattle.ps_program.specs.Shrinking.{AnswersShrink}
-use Rattle.ps_program.specs.ShrinkingTlsf.{AnswersShrinkTlsf}
-use Rattle.ps_program.specs.Simulating.{AnswersSim}
+use Rattle.ps_program.specs.Commands.Satisfying.{AnswersLassoTlsf}
+use Rattle.ps_program.specs.Commands.Shrinking.{AnswersShrink}
+use Rattle.ps_program.specs.Commands.ShrinkingTlsf.{AnswersShrinkTlsf}
+use Rattle.ps_program.specs.Commands.Simulating.{AnswersSim}
 use Rattle.ps_program.specs.Solvers.{Solvers}
-use Rattle.ps_program.specs.Solving.{AnswersSolve}
+use Rattle.ps_program.specs.Commands.Solving.{AnswersSolve}
 use Rattle.ps_program.specs.Streams.{SinkState, AppendsSome, Breaks}
-use Rattle.ps_program.specs.Synthesis.{AnswersSynth}
-use Rattle.ps_program.specs.SynthesisTlsf.{AnswersSynthTlsf}
-use Rattle.ps_program.specs.TranslationTexts.{AnswersTranslate}
-use Rattle.ps_program.specs.Verifying.{AnswersVerify}
-use Rattle.ps_program.specs.VerifyingTlsf.{AnswersVerifyTlsf}
+use Rattle.ps_program.specs.Commands.Synthesis.{AnswersSynth}
+use Rattle.ps_program.specs.Commands.SynthesisTlsf.{AnswersSynthTlsf}
+use Rattle.ps_program.specs.Commands.TranslationTexts.{AnswersTranslate}
+use Rattle.ps_program.specs.Commands.Verifying.{AnswersVerify}
+use Rattle.ps_program.specs.Commands.VerifyingTlsf.{AnswersVerifyTlsf}
 
 -- the answer to a command line and the texts after it; if the command uses a solver, the answer depends on what is
 -- known about the solver

@@ -44,6 +44,13 @@ CutsInThree texts (Err line) = HasFewerSeparators 2 texts × (line ≡ missing_t
 abbrev pub ReadsGameText : List ℕ → Result NamedGameData (List ℕ) → Type 0
 ReadsGameText text = Reading game.cause_number game.cause_name (Answer text)
 
+-- the result of parsing two texts of the input: a game, and a text that is parsed for this game
+abbrev pub ReadsForGame : {V : Type 0} → (NamedGameData → List ℕ → Result V (List ℕ) → Type 0) → List ℕ →
+    Result (NamedGameData × V) (List ℕ) → Type 0
+ReadsForGame reads texts =
+    Then (CutsInTwo texts) (λ parts. Then (ReadsGameText parts.0) (λ named.
+    Then (reads named parts.1) (λ given outcome. outcome ≡ Ok (named, given))))
+
 -- ---- certificate texts
 
 -- the result of parsing a text as a certificate of the game: the certificate, or the line that reports the first error
@@ -52,9 +59,7 @@ ReadsCertificateText named text = Reading certificate.cause_number certificate.c
 
 -- the result of parsing two texts of the input: a game, and a certificate of this game
 abbrev pub ReadsCertified : List ℕ → Result (NamedGameData × CertificateData) (List ℕ) → Type 0
-ReadsCertified texts =
-    Then (CutsInTwo texts) (λ parts. Then (ReadsGameText parts.0) (λ named.
-    Then (ReadsCertificateText named parts.1) (λ given outcome. outcome ≡ Ok (named, given))))
+ReadsCertified texts = ReadsForGame ReadsCertificateText texts
 
 -- ---- specification texts
 

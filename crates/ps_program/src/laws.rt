@@ -2,12 +2,14 @@
 
 ghost use Rattle.std.specs.Prelude.{ℕ, List, []};
 ghost use Rattle.ps_machine.specs.Solving.{own_solver, replay_of};
-ghost use Rattle.ps_program.specs.Answered.{MayCertify, MayReplay};
-ghost use Rattle.ps_program.specs.Answered.{ArePrinted, HasSomeAnswer, HasSomeLine, HasSomeSolved, HasSomeSynthesis};
-ghost use Rattle.ps_program.specs.Determined.{HasOneAnswer, HasOneCertified, NeedsItsTexts};
-ghost use Rattle.ps_program.specs.Exchanged.{ChecksCertificates, ConfirmsLosing, ReadsLosing, ReadsLosingSpecified};
-ghost use Rattle.ps_program.specs.Exchanged.{VerifiesCircuits, VerifiesSmaller, VerifiesSmallerSpecified};
-ghost use Rattle.ps_program.specs.Exchanged.{VerifiesWinners};
+ghost use Rattle.ps_program.specs.Laws.Answered.{MayCertify, MayReplay};
+ghost use Rattle.ps_program.specs.Laws.Answered.{ArePrinted, HasSomeAnswer, HasSomeLine, HasSomeSolved};
+ghost use Rattle.ps_program.specs.Laws.Answered.{HasSomeSynthesis};
+ghost use Rattle.ps_program.specs.Laws.Determined.{HasOneAnswer, HasOneCertified, NeedsItsTexts};
+ghost use Rattle.ps_program.specs.Laws.Exchanged.{ChecksCertificates, ConfirmsLosing, ReadsLosing};
+ghost use Rattle.ps_program.specs.Laws.Exchanged.{ReadsLosingSpecified};
+ghost use Rattle.ps_program.specs.Laws.Exchanged.{VerifiesCircuits, VerifiesSmaller, VerifiesSmallerSpecified};
+ghost use Rattle.ps_program.specs.Laws.Exchanged.{VerifiesWinners};
 ghost use Rattle.ps_program.specs.Solvers.{Solvers, solvers_of};
 
 /// What is known of two solvers: any two, so a type with an `impl` of this trait needs no values.

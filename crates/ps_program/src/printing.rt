@@ -7,8 +7,9 @@ ghost use Rattle.ps_circuit.specs.Written.{text_of};
 ghost use Rattle.ps_game.specs.Games.{vertex_count};
 ghost use Rattle.ps_pgsolver.specs.Written.{game_text};
 ghost use Rattle.ps_program.specs.Replies.{reply_of};
-ghost use Rattle.ps_program.specs.Synthesis.{IsPrinted, is_realizable, proof_text, synthesis_reply, verdict_line};
-ghost use Rattle.ps_program.specs.Synthesis.{verdict_status};
+ghost use Rattle.ps_program.specs.Commands.Synthesis.{IsPrinted, is_realizable, proof_text, synthesis_reply};
+ghost use Rattle.ps_program.specs.Commands.Synthesis.{verdict_line};
+ghost use Rattle.ps_program.specs.Commands.Synthesis.{verdict_status};
 ghost use Rattle.ps_synthesis.specs.Printing.{PrintsCertificate, PrintsCircuit, PrintsGame};
 
 use crate::answer::{Answer, REALIZABLE, UNREALIZABLE};

@@ -61,7 +61,7 @@ impl From<SynthFault> for Refusal {
 
 /// Why a specification gets no circuit.
 impl From<SpecificationFault> for Refusal {
-    ghost use Rattle.ps_program.specs.SynthesisTlsf.{IsSpecificationTold};
+    ghost use Rattle.ps_program.specs.Commands.SynthesisTlsf.{IsSpecificationTold};
 
     ghost from_gives = { IsSpecificationTold };
 

@@ -1,16 +1,14 @@
 //! Parses the texts that commands read, and tells their faults. Parsing fails with a text's first error, or if memory
 //! runs out.
 
-ghost use Rattle.std.specs.Prelude.{◌≡◌, ◌<◌, false, length, map, All, IfOk};
+ghost use Rattle.std.specs.Prelude.{◌≡◌, ◌<◌, false, length, All, IfOk};
 ghost use Rattle.ps_circuit.specs.Circuits.{IsCircuit};
 ghost use Rattle.ps_certificate.specs.Certificates.{Fits};
 ghost use Rattle.ps_game.specs.Games.{vertex_count};
 ghost use Rattle.ps_simulate.specs.Stimuli.{stem_of};
-ghost use Rattle.ps_simulate.specs.Symbols.{AreDistinct};
-ghost use Rattle.ps_tlsf.specs.Names.{names_in};
-ghost use Rattle.ps_tlsf.specs.NameViews.{name_data};
-ghost use Rattle.ps_tlsf.specs.SpecificationViews.{HasRoots, specification_data};
+ghost use Rattle.ps_tlsf.specs.SpecificationViews.{specification_data};
 ghost use Rattle.ps_program.specs.Faults.{fault_text};
+ghost use Rattle.ps_program.specs.Inner.Parsed.{IsParsed};
 ghost use Rattle.ps_program.specs.Outcomes.{Gives};
 ghost use Rattle.ps_program.specs.Texts.{CutsInTwo, CutsInThree, ReadsGameText, ReadsCertificateText, ReadsCertified};
 ghost use Rattle.ps_program.specs.Texts.{ReadsCircuitText, ReadsStimulusText, ReadsSimulated, NamesVertices, flaw_text};
@@ -87,8 +85,7 @@ pub fn read_certified(alloc: Global, texts: &[u8]) -> Result<(NamedGame, Certifi
 /// Parses a specification.
 pub fn read_specification(alloc: Global, text: &[u8]) -> Result<Specification, Refusal>
     ensures read { Gives specification_data (ReadsSpecificationText text.now) result }
-    ensures roots { IfOk result HasRoots }
-    ensures distinct { IfOk result (λ s. AreDistinct (names_in (map name_data s.propositions.items))) }
+    ensures parsed { IfOk result IsParsed }
 {
     ps_tlsf::names_differ();
     Ok(ps_tlsf::read(alloc, text)?)

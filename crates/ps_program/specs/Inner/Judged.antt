@@ -11,7 +11,7 @@ use Rattle.ps_solution.specs.Solved.{SolutionData, AreMoves}
 use Rattle.ps_program.specs.declared.answer.Refusal.{Refusal}
 use Rattle.ps_program.specs.declared.answer.Refusal.TheVariants as refusal
 use Rattle.ps_program.specs.Faults.{fault_text}
-use Rattle.ps_program.specs.Judging.{cycle_text}
+use Rattle.ps_program.specs.Commands.Judging.{cycle_text}
 use Rattle.ps_program.specs.Texts.{NamesVertices, flaw_text}
 
 -- the solution's lists of winners and of moves have an entry for each vertex, and each move leads to a vertex

@@ -6,13 +6,11 @@ ghost use Rattle.ps_automaton.specs.Automata.{IsBuiltFrom};
 ghost use Rattle.ps_automaton.specs.Chains.{Chain};
 ghost use Rattle.ps_hoa.specs.Files.{FileData};
 ghost use Rattle.ps_label.specs.Truth as labels;
-ghost use Rattle.ps_simulate.specs.Symbols.{AreDistinct};
-ghost use Rattle.ps_tlsf.specs.NameViews.{name_data};
-ghost use Rattle.ps_tlsf.specs.Names.{names_in};
-ghost use Rattle.ps_tlsf.specs.SpecificationViews.{HasRoots, specification_data};
-ghost use Rattle.ps_program.specs.Comparing as comparing;
-ghost use Rattle.ps_program.specs.Comparing.{AnswersAgree, ComparesText, TellsAgreement, lasso_text};
-ghost use Rattle.ps_program.specs.Comparing.{proposition_line, proposition_lines};
+ghost use Rattle.ps_tlsf.specs.SpecificationViews.{specification_data};
+ghost use Rattle.ps_program.specs.Commands.Comparing as comparing;
+ghost use Rattle.ps_program.specs.Commands.Comparing.{AnswersAgree, ComparesText, TellsAgreement, lasso_text};
+ghost use Rattle.ps_program.specs.Commands.Comparing.{proposition_line, proposition_lines};
+ghost use Rattle.ps_program.specs.Inner.Parsed.{IsParsed};
 ghost use Rattle.ps_program.specs.Outcomes.{Gives};
 ghost use Rattle.ps_program.specs.Replies.{reply_of};
 
@@ -39,8 +37,7 @@ pub fn agree(alloc: Global, texts: &[u8]) -> Result<Answer, Refusal>
 }
 
 fn compare_text(alloc: Global, specification: &Specification, hoa: &[u8]) -> Result<Answer, Refusal>
-    requires roots { HasRoots specification.now }
-    requires distinct { AreDistinct (names_in (map name_data specification.now.propositions.items)) }
+    requires { IsParsed specification.now }
     ensures { Gives reply_of (ComparesText (specification_data specification.now) hoa.now) result }
 {
     let automaton = read_automaton(alloc, hoa)?;
@@ -53,8 +50,7 @@ fn tell(
     specification: &Specification,
     automaton: &Automaton,
 ) -> Result<Answer, Refusal>
-    requires roots { HasRoots specification.now }
-    requires distinct { AreDistinct (names_in (map name_data specification.now.propositions.items)) }
+    requires { IsParsed specification.now }
     ensures { (file : FileData) (chain : Chain) → IsBuiltFrom file chain automaton.now →
         Gives reply_of (TellsAgreement (specification_data specification.now) file) result }
 {

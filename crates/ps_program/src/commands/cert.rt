@@ -1,7 +1,7 @@
 //! The command `cert`.
 
 ghost use Rattle.std.specs.Prelude.{◌≡◌};
-ghost use Rattle.ps_program.specs.Games.{AnswersCert};
+ghost use Rattle.ps_program.specs.Commands.Games.{AnswersCert};
 ghost use Rattle.ps_program.specs.Outcomes.{Gives};
 ghost use Rattle.ps_program.specs.Replies.{reply_of};
 

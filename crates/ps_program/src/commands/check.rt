@@ -2,7 +2,7 @@
 
 ghost use Rattle.std.specs.Prelude.{◌≡◌, IfErr};
 ghost use Rattle.ps_game.specs.Games.{vertex_count};
-ghost use Rattle.ps_program.specs.Checks.{AnswersClosed, AnswersCheck, test_told};
+ghost use Rattle.ps_program.specs.Commands.Checks.{AnswersClosed, AnswersCheck, test_told};
 ghost use Rattle.ps_program.specs.Outcomes.{Gives};
 ghost use Rattle.ps_program.specs.Replies.{reply_of};
 ghost use Rattle.ps_program.specs.Texts.{NamesVertices};

@@ -5,7 +5,7 @@ ghost use Rattle.ps_automaton.specs.Automata.{IsBuiltFrom};
 ghost use Rattle.ps_automaton.specs.Chains.{Chain};
 ghost use Rattle.ps_game.specs.Games.{vertex_count};
 ghost use Rattle.ps_hoa.specs.Files.{FileData};
-ghost use Rattle.ps_program.specs.Games.{AnswersGameText, MakesGame, ReadsGameOf};
+ghost use Rattle.ps_program.specs.Commands.Games.{AnswersGameText, MakesGame, ReadsGameOf};
 ghost use Rattle.ps_program.specs.Outcomes.{Gives};
 ghost use Rattle.ps_program.specs.Replies.{reply_of};
 

@@ -4,7 +4,7 @@ ghost use Rattle.std.specs.Prelude.{◌≡◌, ◌<◌, IfOk};
 ghost use Rattle.std.specs.List.{All};
 ghost use Rattle.ps_game.specs.Games.{vertex_count};
 ghost use Rattle.ps_program.specs.Inner.Judged.{HasPlaces, IsCycleTold, IsTold, Names};
-ghost use Rattle.ps_program.specs.Judging.{AnswersJudge, Judges, ReadsSolutionText, ReadsSolved};
+ghost use Rattle.ps_program.specs.Commands.Judging.{AnswersJudge, Judges, ReadsSolutionText, ReadsSolved};
 ghost use Rattle.ps_program.specs.Outcomes.{Gives};
 ghost use Rattle.ps_program.specs.Replies.{reply_of};
 

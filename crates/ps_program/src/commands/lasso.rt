@@ -5,7 +5,7 @@ ghost use Rattle.ps_circuit.specs.Circuits.{IsCircuit};
 ghost use Rattle.ps_automaton.specs.Automata.{IsBuiltFrom};
 ghost use Rattle.ps_automaton.specs.Chains.{Chain};
 ghost use Rattle.ps_hoa.specs.Files.{FileData};
-ghost use Rattle.ps_program.specs.Lassos.{AnswersLasso, RunsCircuit, TellsVerdict, verdict_text};
+ghost use Rattle.ps_program.specs.Commands.Lassos.{AnswersLasso, RunsCircuit, TellsVerdict, verdict_text};
 ghost use Rattle.ps_program.specs.Outcomes.{Gives};
 ghost use Rattle.ps_program.specs.Replies.{reply_of};
 

@@ -5,14 +5,14 @@ ghost use Rattle.ps_circuit.specs.Circuits.{IsCircuit};
 ghost use Rattle.ps_formula.specs.Formulas.{formula_at};
 ghost use Rattle.ps_simulate.specs.LassoFaults.{HasNoWordFault, IsWordFault};
 ghost use Rattle.ps_simulate.specs.Lassos.{IsWordOf};
-ghost use Rattle.ps_simulate.specs.Symbols.{AreDistinct};
 ghost use Rattle.ps_tlsf.specs.Names.{names_in, outputs_in};
 ghost use Rattle.ps_tlsf.specs.NameViews.{name_data};
 ghost use Rattle.ps_tlsf.specs.SpecificationViews.{HasRoots, specification_data};
+ghost use Rattle.ps_program.specs.Inner.Parsed.{IsParsed};
 ghost use Rattle.ps_program.specs.Outcomes.{Gives};
 ghost use Rattle.ps_program.specs.Replies.{reply_of};
-ghost use Rattle.ps_program.specs.Satisfying.{AnswersLassoTlsf, IsToldBy, RunsSpecified, TellsSatisfaction};
-ghost use Rattle.ps_program.specs.Satisfying.{satisfaction_text};
+ghost use Rattle.ps_program.specs.Commands.Satisfying.{AnswersLassoTlsf, IsToldBy, RunsSpecified, TellsSatisfaction};
+ghost use Rattle.ps_program.specs.Commands.Satisfying.{satisfaction_text};
 
 use crate::answer::{Answer, Refusal};
 use crate::fault::{FaultLine, Place};
@@ -39,8 +39,7 @@ fn run_circuit(
     aag: &[u8],
     letters: &[u8],
 ) -> Result<Answer, Refusal>
-    requires roots { HasRoots specification.now }
-    requires distinct { AreDistinct (names_in (map name_data specification.now.propositions.items)) }
+    requires { IsParsed specification.now }
     ensures { Gives reply_of (RunsSpecified role (specification_data specification.now) aag.now letters.now) result }
 {
     let circuit = read_circuit(alloc, aag)?;
@@ -59,8 +58,7 @@ fn tell(
     requires circuit { IsCircuit circuit.now }
     requires stem { All (λ letter. length letter ≡ length circuit.now.inputs) stimulus.now.stem }
     requires lap { All (λ letter. length letter ≡ length circuit.now.inputs) stimulus.now.lap }
-    requires roots { HasRoots specification.now }
-    requires distinct { AreDistinct (names_in (map name_data specification.now.propositions.items)) }
+    requires parsed { IsParsed specification.now }
     ensures { Gives reply_of (TellsSatisfaction role (specification_data specification.now) circuit.now stimulus.now)
         result }
 {
@@ -85,8 +83,7 @@ fn word_of(
     circuit: &Circuit,
     stimulus: &Stimulus,
 ) -> Result<TraceWord, LassoFault>
-    requires roots { HasRoots specification.now }
-    requires distinct { AreDistinct (names_in (map name_data specification.now.propositions.items)) }
+    requires { IsParsed specification.now }
     ensures word { IfOk result (IsWordOf (names_in (map name_data specification.now.propositions.items)) circuit.now
         stimulus.now.stem stimulus.now.lap) }
     ensures sound { IfOk result (λ _. HasNoWordFault role

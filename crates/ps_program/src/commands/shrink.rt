@@ -6,7 +6,7 @@ ghost use Rattle.ps_circuit.specs.Circuits.{IsCircuit};
 ghost use Rattle.ps_hoa.specs.Files.{FileData};
 ghost use Rattle.ps_program.specs.Outcomes.{Gives};
 ghost use Rattle.ps_program.specs.Replies.{reply_of};
-ghost use Rattle.ps_program.specs.Shrinking.{AnswersShrink, ShrinksText, TellsReduction};
+ghost use Rattle.ps_program.specs.Commands.Shrinking.{AnswersShrink, ShrinksText, TellsReduction};
 
 use crate::answer::{Answer, Refusal};
 use crate::automata::read_automaton;

@@ -1,14 +1,11 @@
 //! The command `shrink --tlsf`.
 
-ghost use Rattle.std.specs.Prelude.{map};
 ghost use Rattle.ps_circuit.specs.Circuits.{IsCircuit};
-ghost use Rattle.ps_simulate.specs.Symbols.{AreDistinct};
-ghost use Rattle.ps_tlsf.specs.NameViews.{name_data};
-ghost use Rattle.ps_tlsf.specs.Names.{names_in};
-ghost use Rattle.ps_tlsf.specs.SpecificationViews.{HasRoots, specification_data};
+ghost use Rattle.ps_tlsf.specs.SpecificationViews.{specification_data};
+ghost use Rattle.ps_program.specs.Inner.Parsed.{IsParsed};
 ghost use Rattle.ps_program.specs.Outcomes.{Gives};
 ghost use Rattle.ps_program.specs.Replies.{reply_of};
-ghost use Rattle.ps_program.specs.ShrinkingTlsf.{AnswersShrinkTlsf, ShrinksSpecified, TellsReductionFor};
+ghost use Rattle.ps_program.specs.Commands.ShrinkingTlsf.{AnswersShrinkTlsf, ShrinksSpecified, TellsReductionFor};
 
 use crate::answer::{Answer, Refusal};
 use crate::commands::shrink::STEPS;
@@ -38,8 +35,7 @@ fn shrink_text(
     specification: &Specification,
     aag: &[u8],
 ) -> Result<Answer, Refusal>
-    requires roots { HasRoots specification.now }
-    requires distinct { AreDistinct (names_in (map name_data specification.now.propositions.items)) }
+    requires { IsParsed specification.now }
     ensures { Gives reply_of (ShrinksSpecified role (specification_data specification.now) aag.now) result }
 {
     let circuit = read_circuit(alloc, aag)?;
@@ -54,8 +50,7 @@ fn tell(
     circuit: Circuit,
 ) -> Result<Answer, Refusal>
     requires circuit { IsCircuit circuit }
-    requires roots { HasRoots specification.now }
-    requires distinct { AreDistinct (names_in (map name_data specification.now.propositions.items)) }
+    requires parsed { IsParsed specification.now }
     ensures { Gives reply_of (TellsReductionFor role (specification_data specification.now) circuit) result }
 {
     match shrunk_for(alloc, circuit, specification, role, STEPS) {

@@ -4,7 +4,7 @@ ghost use Rattle.std.specs.Prelude.{◌≡◌, ◌++◌, ◌∷◌, [], length, 
 ghost use Rattle.ps_simulate.specs.StimulusTexts.{digits_of};
 ghost use Rattle.ps_program.specs.Outcomes.{Gives};
 ghost use Rattle.ps_program.specs.Replies.{reply_of};
-ghost use Rattle.ps_program.specs.Simulating.{AnswersSim, PrintsTrace, PrintsStep};
+ghost use Rattle.ps_program.specs.Commands.Simulating.{AnswersSim, PrintsTrace, PrintsStep};
 
 use crate::answer::{Answer, Refusal};
 use crate::texts::read_simulated;

@@ -3,7 +3,7 @@
 ghost use Rattle.std.specs.Prelude.{◌≡◌};
 ghost use Rattle.ps_program.specs.Outcomes.{Gives};
 ghost use Rattle.ps_program.specs.Replies.{reply_of};
-ghost use Rattle.ps_program.specs.Solving.{AnswersGame, AnswersSolve};
+ghost use Rattle.ps_program.specs.Commands.Solving.{AnswersGame, AnswersSolve};
 
 use crate::answer::{Answer, Refusal};
 use crate::texts::read_game;

@@ -4,7 +4,7 @@ ghost use Rattle.std.specs.Prelude.{◌≡◌, ℕ, List};
 ghost use Rattle.ps_program.specs.Outcomes.{Gives};
 ghost use Rattle.ps_program.specs.Replies.{reply_of};
 ghost use Rattle.ps_program.specs.Solvers.{solvers_of};
-ghost use Rattle.ps_program.specs.Synthesis.{AnswersCertified, AnswersReport, AnswersSynth};
+ghost use Rattle.ps_program.specs.Commands.Synthesis.{AnswersCertified, AnswersReport, AnswersSynth};
 ghost use Rattle.ps_synthesis.specs.Problems.{IsProblemOf};
 
 use crate::answer::{Answer, Refusal};

@@ -4,7 +4,7 @@ ghost use Rattle.std.specs.Prelude.{◌≡◌, IfOk};
 ghost use Rattle.ps_circuit.specs.Written.{text_of};
 ghost use Rattle.ps_program.specs.Outcomes.{Gives};
 ghost use Rattle.ps_program.specs.Replies.{reply_of};
-ghost use Rattle.ps_program.specs.SynthesisTlsf.{AnswersSynthTlsf, is_controller, winner_reply};
+ghost use Rattle.ps_program.specs.Commands.SynthesisTlsf.{AnswersSynthTlsf, is_controller, winner_reply};
 ghost use Rattle.ps_synthesis.specs.Printing.{PrintsCircuit};
 
 use crate::answer::{Answer, Refusal};

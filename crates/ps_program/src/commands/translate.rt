@@ -2,7 +2,7 @@
 
 ghost use Rattle.ps_program.specs.Outcomes.{Gives};
 ghost use Rattle.ps_program.specs.Replies.{reply_of};
-ghost use Rattle.ps_program.specs.TranslationTexts.{AnswersTranslate};
+ghost use Rattle.ps_program.specs.Commands.TranslationTexts.{AnswersTranslate};
 
 use crate::answer::{Answer, Refusal};
 use ps_specification::{Translator, translate_specification};

@@ -8,8 +8,8 @@ ghost use Rattle.ps_hoa.specs.Files.{FileData};
 ghost use Rattle.ps_simulate.specs.Stimuli.{letters_of};
 ghost use Rattle.ps_program.specs.Outcomes.{Gives};
 ghost use Rattle.ps_program.specs.Replies.{reply_of};
-ghost use Rattle.ps_program.specs.Verifying as verifying;
-ghost use Rattle.ps_program.specs.Verifying.{AnswersVerify, TellsJudgement, VerifiesText, letter_lines};
+ghost use Rattle.ps_program.specs.Commands.Verifying as verifying;
+ghost use Rattle.ps_program.specs.Commands.Verifying.{AnswersVerify, TellsJudgement, VerifiesText, letter_lines};
 
 use crate::answer::{Answer, Refusal};
 use crate::automata::read_automaton;

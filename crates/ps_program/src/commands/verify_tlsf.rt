@@ -1,14 +1,11 @@
 //! The command `verify --tlsf`.
 
-ghost use Rattle.std.specs.Prelude.{map};
 ghost use Rattle.ps_circuit.specs.Circuits.{IsCircuit};
-ghost use Rattle.ps_simulate.specs.Symbols.{AreDistinct};
-ghost use Rattle.ps_tlsf.specs.NameViews.{name_data};
-ghost use Rattle.ps_tlsf.specs.Names.{names_in};
-ghost use Rattle.ps_tlsf.specs.SpecificationViews.{HasRoots, specification_data};
+ghost use Rattle.ps_tlsf.specs.SpecificationViews.{specification_data};
+ghost use Rattle.ps_program.specs.Inner.Parsed.{IsParsed};
 ghost use Rattle.ps_program.specs.Outcomes.{Gives};
 ghost use Rattle.ps_program.specs.Replies.{reply_of};
-ghost use Rattle.ps_program.specs.VerifyingTlsf.{AnswersVerifyTlsf, TellsSpecified, VerifiesSpecified};
+ghost use Rattle.ps_program.specs.Commands.VerifyingTlsf.{AnswersVerifyTlsf, TellsSpecified, VerifiesSpecified};
 
 use crate::answer::{Answer, Refusal};
 use crate::commands::verify::losing_text;
@@ -38,8 +35,7 @@ fn verify_text(
     specification: &Specification,
     aag: &[u8],
 ) -> Result<Answer, Refusal>
-    requires roots { HasRoots specification.now }
-    requires distinct { AreDistinct (names_in (map name_data specification.now.propositions.items)) }
+    requires { IsParsed specification.now }
     ensures { Gives reply_of (VerifiesSpecified role (specification_data specification.now) aag.now) result }
 {
     let circuit = read_circuit(alloc, aag)?;
@@ -54,8 +50,7 @@ fn tell(
     circuit: &Circuit,
 ) -> Result<Answer, Refusal>
     requires circuit { IsCircuit circuit.now }
-    requires roots { HasRoots specification.now }
-    requires distinct { AreDistinct (names_in (map name_data specification.now.propositions.items)) }
+    requires parsed { IsParsed specification.now }
     ensures { Gives reply_of (TellsSpecified role (specification_data specification.now) circuit.now) result }
 {
     match judged(alloc, circuit, specification, role) {

@@ -1,5 +1,5 @@
 use Rattle.std.proofs.Common.{arith}
-use Rattle.ps_program.proofs.AutomatonLemmas.{gives_automaton, gives_text_fault}
+use Rattle.ps_program.proofs.ByCommand.AutomatonLemmas.{gives_automaton, gives_text_fault}
 use Rattle.ps_program.proofs.automata.read_automaton.Goals as goal
 
 pub returns-in_err-read_automaton : goal.returns-in_err-read_automaton

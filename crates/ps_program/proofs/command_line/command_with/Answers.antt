@@ -1,6 +1,6 @@
 use Rattle.std.proofs.Common.{rules, ◌≡◌, arith, length}
 use Rattle.clap.specs.Words.{app_of, rule_of}
-use Rattle.ps_program.proofs.CommandLemmas.{flag_added, flags_whole, none_of}
+use Rattle.ps_program.proofs.CommandLines.CommandLemmas.{flag_added, flags_whole, none_of}
 use Rattle.ps_program.proofs.command_line.command_with.Goals as goal
 
 pub loop-given-preserved : goal.loop-given-preserved

@@ -1,7 +1,7 @@
 use Rattle.std.proofs.Common.{◌≡◌, map, take, false}
 use Rattle.clap.specs.Words.{app_of}
 use Rattle.clap.specs.declared.builder.command.Command.TheViews.{out-Command as fields_of}
-use Rattle.ps_program.proofs.CommandLemmas.{app_with}
+use Rattle.ps_program.proofs.CommandLines.CommandLemmas.{app_with}
 use Rattle.ps_program.proofs.command_line.command_with.Given as goal
 
 -- the command has the flags before the loop's index, and no global flag (one that clap also accepts after a subcommand)

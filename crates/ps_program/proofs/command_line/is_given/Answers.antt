@@ -1,6 +1,6 @@
 use Rattle.std.proofs.Common.{◌∙◌, None, Some}
 use Rattle.clap.specs.Words.{found_of}
-use Rattle.ps_program.proofs.CommandLemmas.{given_is}
+use Rattle.ps_program.proofs.CommandLines.CommandLemmas.{given_is}
 use Rattle.ps_program.proofs.command_line.is_given.Goals as goal
 
 pub returns-in-Some : goal.returns-in-Some

@@ -2,7 +2,7 @@ use Rattle.std.proofs.Common.{◌∙◌, None, Some}
 use Rattle.clap.specs.Matches.{found_of}
 use Rattle.clap.specs.Words.{rows_of}
 use Rattle.ps_program.specs.CommandLine.{is_given}
-use Rattle.ps_program.proofs.CommandLemmas.{row_found}
+use Rattle.ps_program.proofs.CommandLines.CommandLemmas.{row_found}
 use Rattle.ps_program.proofs.command_line.line_named.Goals as goal
 
 pub returns-in-Some : goal.returns-in-Some

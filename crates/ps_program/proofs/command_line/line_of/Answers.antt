@@ -3,7 +3,7 @@ use Rattle.clap.specs.Matches.{found_of}
 use Rattle.clap.specs.Words.{rows_of}
 use Rattle.clap.specs.declared.parser.matches.ArgMatches.TheViews.{out-ArgMatches}
 use Rattle.ps_program.specs.CommandLine.{line_said}
-use Rattle.ps_program.proofs.CommandLemmas.{one_subcommand}
+use Rattle.ps_program.proofs.CommandLines.CommandLemmas.{one_subcommand}
 use Rattle.ps_program.proofs.command_line.line_of.Goals as goal
 
 pub returns-in-Some : goal.returns-in-Some

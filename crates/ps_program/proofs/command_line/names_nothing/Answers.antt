@@ -1,4 +1,4 @@
-use Rattle.ps_program.proofs.CommandLemmas.{longer_than_each, no_hyphen}
+use Rattle.ps_program.proofs.CommandLines.CommandLemmas.{longer_than_each, no_hyphen}
 use Rattle.ps_program.proofs.command_line.names_nothing.Goals as goal
 
 pub returns-then-first-ne45 : goal.returns-then-first-ne45

@@ -4,7 +4,7 @@ use Rattle.clap.specs.Words.{App, app_of, fault_of, subcommand_of, subcommand_ro
 use Rattle.clap.specs.declared.error.kind.ErrorKind.{ErrorKind}
 use Rattle.ps_program.specs.declared.commands.Line.{Line}
 use Rattle.ps_program.specs.CommandLine.{line_said, line_refused, Says}
-use Rattle.ps_program.proofs.CommandLemmas.{table-simple, table-free, says_refusal, line_refused-other}
+use Rattle.ps_program.proofs.CommandLines.CommandLemmas.{table-simple, table-free, says_refusal, line_refused-other}
 use Rattle.ps_program.proofs.command_line.parse_words.Goals as goal
 
 pub returns-in-Ok : goal.returns-in-Ok

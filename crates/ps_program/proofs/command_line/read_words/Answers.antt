@@ -1,5 +1,5 @@
 use Rattle.std.proofs.Common.{refl}
-use Rattle.ps_program.proofs.LongWords.{first_word_refused}
+use Rattle.ps_program.proofs.CommandLines.LongWords.{first_word_refused}
 use Rattle.ps_program.proofs.command_line.read_words.Goals as goal
 
 pub returns : goal.returns

@@ -1,4 +1,4 @@
-use Rattle.ps_program.proofs.CommandLemmas.{made_table}
+use Rattle.ps_program.proofs.CommandLines.CommandLemmas.{made_table}
 use Rattle.ps_program.proofs.command_line.table.Goals as goal
 
 pub returns : goal.returns

@@ -1,5 +1,5 @@
 use Rattle.std.proofs.Common.{map}
-use Rattle.ps_program.proofs.CommandLemmas.{grown}
+use Rattle.ps_program.proofs.CommandLines.CommandLemmas.{grown}
 use Rattle.ps_program.proofs.command_line.with_command.Goals as goal
 
 pub returns : goal.returns

@@ -1,7 +1,7 @@
 use Rattle.std.proofs.Common.{arith}
 use Rattle.clap.specs.Words.{app_of}
 use Rattle.ps_program.specs.CommandLine.{program}
-use Rattle.ps_program.proofs.CommandLemmas.{all_rows, row_added}
+use Rattle.ps_program.proofs.CommandLines.CommandLemmas.{all_rows, row_added}
 use Rattle.ps_program.proofs.command_line.with_commands.Goals as goal
 
 pub loop-usage-preserved : goal.loop-usage-preserved

@@ -1,4 +1,4 @@
-use Rattle.ps_program.proofs.HelpLemmas.{made_help}
+use Rattle.ps_program.proofs.CommandLines.HelpLemmas.{made_help}
 use Rattle.std.specs.String.{string_bytes}
 use Rattle.ps_program.proofs.help.help_text.Goals as goal
 

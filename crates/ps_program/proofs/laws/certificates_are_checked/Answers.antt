@@ -1,4 +1,4 @@
-use Rattle.ps_program.proofs.CheckedCertificates.{certificates_checked}
+use Rattle.ps_program.proofs.Exchanged.CheckedCertificates.{certificates_checked}
 use Rattle.ps_program.proofs.laws.certificates_are_checked.Goals as goal
 
 pub returns : goal.returns

@@ -3,9 +3,9 @@ use Rattle.ps_circuit.specs.CauseNames as circuit_names
 use Rattle.ps_circuit.specs.Causes as circuit
 use Rattle.ps_circuit.specs.Texts as circuit_text
 use Rattle.ps_program.specs.Texts.{ReadsCircuitText}
-use Rattle.ps_program.proofs.OneStage.{OneCircuit, automaton_one}
-use Rattle.ps_program.proofs.OneStep.{IsOne, reading_one}
-use Rattle.ps_program.proofs.VerifiedCircuits.{circuits_verified}
+use Rattle.ps_program.proofs.AtMostOne.OneStage.{OneCircuit, automaton_one}
+use Rattle.ps_program.proofs.AtMostOne.OneStep.{IsOne, reading_one}
+use Rattle.ps_program.proofs.Exchanged.VerifiedCircuits.{circuits_verified}
 use Rattle.ps_program.proofs.laws.circuits_are_verified.Goals as goal
 
 circuit_one : OneCircuit → (text : List ℕ) → IsOne (ReadsCircuitText text)

@@ -1,5 +1,5 @@
-use Rattle.ps_program.proofs.Agreeing.{first_there}
-use Rattle.ps_program.proofs.FittingTexts.{Rereads, texts_printed}
+use Rattle.ps_program.proofs.AtMostOne.Agreeing.{first_there}
+use Rattle.ps_program.proofs.AtLeastOne.FittingTexts.{Rereads, texts_printed}
 use Rattle.ps_program.proofs.laws.fitting_texts_are_printed.Goals as goal
 
 pub returns : goal.returns

@@ -1,5 +1,5 @@
 use Rattle.ps_specification.specs.Requirements.{order_in, requirement_of}
-use Rattle.ps_program.proofs.ConfirmedStimuli.{losing_confirmed}
+use Rattle.ps_program.proofs.Exchanged.ConfirmedStimuli.{losing_confirmed}
 use Rattle.ps_program.proofs.laws.losing_stimulus_is_confirmed.Goals as goal
 
 pub returns : goal.returns

@@ -1,4 +1,4 @@
-use Rattle.ps_program.proofs.PrintedStimuli.{stimulus_read}
+use Rattle.ps_program.proofs.Exchanged.PrintedStimuli.{stimulus_read}
 use Rattle.ps_program.proofs.laws.losing_stimulus_is_read.Goals as goal
 
 pub returns : goal.returns

@@ -1,4 +1,4 @@
-use Rattle.ps_program.proofs.MissingTexts.{texts_needed}
+use Rattle.ps_program.proofs.AtMostOne.MissingTexts.{texts_needed}
 use Rattle.ps_program.proofs.laws.missing_text_is_told.Goals as goal
 
 pub returns : goal.returns

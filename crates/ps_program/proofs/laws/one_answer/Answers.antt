@@ -1,6 +1,6 @@
 use Rattle.ps_program.specs.Solvers.{Solvers}
-use Rattle.ps_program.proofs.AgreeingAnswers.{whole_one}
-use Rattle.ps_program.proofs.OneCertified.{certified_one}
+use Rattle.ps_program.proofs.AtMostOne.AgreeingAnswers.{whole_one}
+use Rattle.ps_program.proofs.AtMostOne.OneCertified.{certified_one}
 use Rattle.ps_program.proofs.laws.one_answer.Goals as goal
 
 pub returns : goal.returns

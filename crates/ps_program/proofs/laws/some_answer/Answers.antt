@@ -1,7 +1,7 @@
 use Rattle.ps_program.specs.Solvers.{Solvers}
-use Rattle.ps_program.proofs.SomeAnswer.{plain_some, solved_some, synthesis_some}
-use Rattle.ps_program.proofs.SomeLaws.{Below}
-use Rattle.ps_program.proofs.SomeLine.{is_line_some}
+use Rattle.ps_program.proofs.AtLeastOne.SomeAnswer.{plain_some, solved_some, synthesis_some}
+use Rattle.ps_program.proofs.AtLeastOne.SomeLaws.{Below}
+use Rattle.ps_program.proofs.AtLeastOne.SomeLine.{is_line_some}
 use Rattle.ps_program.proofs.laws.some_answer.Goals as goal
 
 pub returns : goal.returns

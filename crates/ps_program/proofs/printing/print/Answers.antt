@@ -1,6 +1,6 @@
 use Rattle.std.proofs.Common.{Bool, subst, sym}
 use Rattle.ps_synthesis.specs.Promises.{SynthesisData}
-use Rattle.ps_program.specs.Synthesis.{IsPrinted}
+use Rattle.ps_program.specs.Commands.Synthesis.{IsPrinted}
 use Rattle.ps_program.proofs.printing.print.Goals as goal
 use Rattle.ps_program.proofs.printing.print.Goals.{then-asked+in_ok-add_proof, else-asked}
 

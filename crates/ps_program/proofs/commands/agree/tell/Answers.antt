@@ -5,10 +5,10 @@ use Rattle.ps_models.specs.AgreementFaultNames.{fault_number}
 use Rattle.ps_models.specs.declared.agreement.AgreementFault.TheVariants.{Symbols}
 use Rattle.ps_tlsf.specs.NameViews.{name_data}
 use Rattle.ps_tlsf.specs.SpecificationViews.{specification_data}
-use Rattle.ps_program.specs.Comparing.{agreement_text}
+use Rattle.ps_program.specs.Commands.Comparing.{agreement_text}
 use Rattle.ps_program.specs.Replies.{text_reply}
 use Rattle.ps_program.specs.Faults.{line_text}
-use Rattle.ps_program.proofs.CompareLemmas.{are_of_automaton}
+use Rattle.ps_program.proofs.ByCommand.CompareLemmas.{are_of_automaton}
 use Rattle.ps_program.proofs.commands.agree.tell.Goals as goal
 
 pub returns-in_ok-agreement_text-in-Ok : goal.returns-in_ok-agreement_text-in-Ok

@@ -1,7 +1,7 @@
 use Rattle.std.proofs.Common.{arith}
-use Rattle.ps_program.specs.Games.{ReadsGameOf}
+use Rattle.ps_program.specs.Commands.Games.{ReadsGameOf}
 use Rattle.ps_program.specs.Replies.{reply_of}
-use Rattle.ps_program.specs.Solving.{AnswersGame}
+use Rattle.ps_program.specs.Commands.Solving.{AnswersGame}
 use Rattle.ps_program.proofs.OutcomeLemmas.{gives_after}
 use Rattle.ps_program.proofs.commands.cert.cert.Goals as goal
 

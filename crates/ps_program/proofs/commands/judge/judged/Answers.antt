@@ -2,7 +2,7 @@ use Rattle.std.proofs.Common.{subst}
 use Rattle.ps_game.specs.Games.{ParityGame}
 use Rattle.ps_referee.specs.Solutions.{IsRefusal}
 use Rattle.ps_solution.specs.Solved.{SolutionData}
-use Rattle.ps_program.proofs.JudgeLemmas.{refusal_names, refusal_told}
+use Rattle.ps_program.proofs.ByCommand.JudgeLemmas.{refusal_names, refusal_told}
 use Rattle.ps_program.proofs.commands.judge.judged.Goals as goal
 
 pub refused-requires : goal.refused-requires

@@ -1,7 +1,7 @@
 use Rattle.std.proofs.Common.{arith, ◌≡◌, ◌∙◌, ap}
 use Rattle.ps_simulate.specs.Stimuli.{StimulusData, letters_of}
 use Rattle.ps_program.specs.Replies.{reply_of, text_reply}
-use Rattle.ps_program.proofs.LassoAnswers.{tells}
+use Rattle.ps_program.proofs.ByCommand.LassoAnswers.{tells}
 use Rattle.ps_program.proofs.commands.lasso.tell.Goals as goal
 
 pub unreachable-requires : goal.unreachable-requires

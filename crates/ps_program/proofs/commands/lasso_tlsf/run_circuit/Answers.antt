@@ -1,8 +1,8 @@
 use Rattle.std.proofs.Common.{arith, length, ap}
 use Rattle.ps_tlsf.specs.SpecificationViews.{specification_data}
 use Rattle.ps_program.specs.Replies.{reply_of}
-use Rattle.ps_program.specs.Satisfying.{RunsSpecified}
-use Rattle.ps_program.proofs.LassoTlsfAnswers.{specified_fault, specified_told}
+use Rattle.ps_program.specs.Commands.Satisfying.{RunsSpecified, TellsSatisfaction}
+use Rattle.ps_program.proofs.ByCommand.LassoAnswers.{run_stimulus_fault, run_told}
 use Rattle.ps_program.proofs.OutcomeLemmas.{gives_passed}
 use Rattle.ps_program.proofs.commands.lasso_tlsf.run_circuit.Goals as goal
 
@@ -13,7 +13,8 @@ pub returns-in_err-stimulus : goal.returns-in_err-stimulus
 returns-in_err-stimulus c =
     let spec = specification_data c.args.specification.now in
     gives_passed reply_of (RunsSpecified c.args.role spec c.args.aag.now c.args.letters.now) _ _
-    c.from_residual-in_err-stimulus.ensures.1 (specified_fault c.args.role spec c.args.aag.now c.args.letters.now
+    c.from_residual-in_err-stimulus.ensures.1
+    (run_stimulus_fault (TellsSatisfaction c.args.role spec) c.args.aag.now c.args.letters.now
     c.in_ok-circuit.circuit c.in_ok-circuit.ensures (length c.inputs-width.result.now)
     (ap length c.inputs-width.ensures.inputs) c.in_err-stimulus.field-0.0 c.in_err-stimulus.ensures)
 
@@ -24,7 +25,7 @@ pub tell-requires-clause-lap : goal.tell-requires-clause-lap
 tell-requires-clause-lap c = grind arith
 
 pub returns : goal.returns
-returns c = specified_told c.args.role (specification_data c.args.specification.now) c.args.aag.now
+returns c = run_told (TellsSatisfaction c.args.role (specification_data c.args.specification.now)) c.args.aag.now
     c.args.letters.now c.in_ok-circuit.circuit c.in_ok-circuit.ensures (length c.inputs-width.result.now)
     (ap length c.inputs-width.ensures.inputs) c.in_ok-stimulus.stimulus c.in_ok-stimulus.ensures c.tell.result
     c.tell.ensures

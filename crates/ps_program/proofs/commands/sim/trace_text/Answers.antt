@@ -1,6 +1,6 @@
 use Rattle.std.proofs.Common.{◌∙◌, length, arith}
 use Rattle.std.proofs.lemmas.List.{take_all}
-use Rattle.ps_program.proofs.TraceLemmas.{HasPrinted-start, HasPrinted-letter, PrintsTrace-end, letter_fits}
+use Rattle.ps_program.proofs.ByCommand.TraceLemmas.{HasPrinted-start, HasPrinted-letter, PrintsTrace-end, letter_fits}
 use Rattle.ps_program.proofs.commands.sim.trace_text.Goals as goal
 
 pub loop-place-init : goal.loop-place-init

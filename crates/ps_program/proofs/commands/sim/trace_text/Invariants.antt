@@ -1,5 +1,5 @@
 use Rattle.std.proofs.Common.{◌≡◌, ◌≤◌, length, take, vec_len}
-use Rattle.ps_program.specs.Simulating.{HasPrinted}
+use Rattle.ps_program.specs.Commands.Simulating.{HasPrinted}
 use Rattle.ps_program.proofs.commands.sim.trace_text.Given as goal
 
 abbrev pub invariant-loop-place : goal.invariant-loop-place

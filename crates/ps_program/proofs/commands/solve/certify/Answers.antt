@@ -1,7 +1,7 @@
 use Rattle.std.proofs.Common.{arith}
 use Rattle.ps_synthesis.proofs.CertifyingLemmas.{fault_might}
 use Rattle.ps_program.proofs.OutcomeLemmas.{gives_failed, gives_handed}
-use Rattle.ps_program.proofs.SolverLemmas.{certifies_refused}
+use Rattle.ps_program.proofs.ByCommand.SolverLemmas.{certifies_refused}
 use Rattle.ps_program.proofs.commands.solve.certify.Goals as goal
 
 pub returns-in_err-certificate-clause-answer : goal.returns-in_err-certificate-clause-answer

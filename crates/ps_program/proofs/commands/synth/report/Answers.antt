@@ -5,9 +5,9 @@ use Rattle.ps_synthesis.proofs.SynthesiseLemmas.{text_fault}
 use Rattle.ps_program.specs.declared.answer.Refusal.{Refusal}
 use Rattle.ps_program.specs.Replies.{Reply, reply_of}
 use Rattle.ps_program.specs.StageFaults.{IsTold}
-use Rattle.ps_program.specs.Synthesis.{AnswersReport, IsPrinted, Synthesises, synthesis_reply}
+use Rattle.ps_program.specs.Commands.Synthesis.{AnswersReport, IsPrinted, Synthesises, synthesis_reply}
 use Rattle.ps_program.proofs.OutcomeLemmas.{gives_failed, gives_handed}
-use Rattle.ps_program.proofs.SynthLemmas.{gives_told, of_text}
+use Rattle.ps_program.proofs.ByCommand.SynthLemmas.{gives_told, of_text}
 use Rattle.ps_program.proofs.commands.synth.report.Goals as goal
 
 pub returns-in_err-problem-clause-answer : goal.returns-in_err-problem-clause-answer

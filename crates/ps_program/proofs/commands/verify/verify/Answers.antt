@@ -1,18 +1,25 @@
+use Rattle.ps_hoa.specs.Files.{FileData}
+use Rattle.ps_program.specs.Automata.{ReadsAutomaton}
+use Rattle.ps_program.specs.Commands.Verifying.{AnswersVerify, VerifiesText}
 use Rattle.ps_program.specs.Replies.{reply_of}
-use Rattle.ps_program.specs.Verifying.{AnswersVerify}
-use Rattle.ps_program.proofs.OutcomeLemmas.{gives_passed}
-use Rattle.ps_program.proofs.VerifyLemmas.{verify_automaton_fault, verify_run}
+use Rattle.ps_program.specs.Texts.{CutsInTwo}
+use Rattle.ps_program.proofs.ByCommand.AutomatonLemmas.{automaton_failed}
+use Rattle.ps_program.proofs.OutcomeLemmas.{first_failed, first_read, gives_passed}
 use Rattle.ps_program.proofs.commands.verify.verify.Goals as goal
 
 pub returns-in_err-automaton : goal.returns-in_err-automaton
 returns-in_err-automaton c =
+    let hoa = c.in_ok-hoa.hoa.now in
+    let fault = c.in_err-automaton.field-0.0 in
     gives_passed reply_of (AnswersVerify c.args.order c.args.role c.args.texts.now) _ _
     c.from_residual-in_err-automaton.ensures.1
-    (verify_automaton_fault c.args.order c.args.role c.args.texts.now c.in_ok-hoa.hoa.now c.in_ok-hoa.aag.now
-    c.in_ok-hoa.ensures c.in_err-automaton.field-0.0 c.in_err-automaton.ensures)
+    (first_failed {X = FileData} {V = FileData} (λ file. file) (CutsInTwo c.args.texts.now)
+    (λ parts. ReadsAutomaton parts.0) reply_of (λ file parts. VerifiesText c.args.order c.args.role file parts.1)
+    (hoa, c.in_ok-hoa.aag.now) fault c.in_ok-hoa.ensures (automaton_failed hoa fault c.in_err-automaton.ensures))
 
 pub returns : goal.returns
 returns c =
     let a = c.in_ok-automaton.ensures in
-    verify_run c.args.order c.args.role c.args.texts.now c.in_ok-hoa.hoa.now c.in_ok-hoa.aag.now c.in_ok-hoa.ensures a.0
-    a.1 c.verify_text.result (c.verify_text.ensures a.0 a.2.0 a.2.1)
+    first_read (CutsInTwo c.args.texts.now) (λ parts. ReadsAutomaton parts.0) reply_of
+    (λ file parts. VerifiesText c.args.order c.args.role file parts.1) (c.in_ok-hoa.hoa.now, c.in_ok-hoa.aag.now) a.0
+    c.verify_text.result c.in_ok-hoa.ensures a.1 (c.verify_text.ensures a.0 a.2.0 a.2.1)
