@@ -1,0 +1,3 @@
+-- Definitions that only private contracts use; no public clause refers to them.
+
+pub mod Merging

@@ -1,0 +1,6 @@
+pub mod Mixings
+pub mod MixedFiles
+pub mod MixedAutos
+pub mod MixedBoards
+pub mod Orders
+pub mod Inner

@@ -1,0 +1,80 @@
+//! Laws of mixed files: each law is the contract of a function whose body is empty or calls other laws.
+
+ghost use Rattle.std.specs.Prelude.{◌↔◌, ℕ, List, length};
+ghost use Rattle.ps_hoa.specs.Files.{FileData};
+ghost use Rattle.ps_hoa.specs.Sound.{IsSoundFile};
+ghost use Rattle.ps_automaton.specs.Acceptance.{IsAccepted};
+ghost use Rattle.ps_automaton.specs.Answers.{IsAdmitted, IsRefused};
+ghost use Rattle.ps_automaton.specs.declared.fault.AutomatonFault.{AutomatonFault};
+ghost use Rattle.ps_aiger.specs.Encoded.{Encodes};
+ghost use Rattle.ps_aiger.specs.Wires.{IsWired};
+ghost use Rattle.ps_certificate.specs.Certificates.{CertificateData};
+ghost use Rattle.ps_circuit.specs.Circuits.{CircuitData};
+ghost use Rattle.ps_game.specs.Games.{NamedGameData};
+ghost use Rattle.ps_machine.specs.Behaviours.{Behaviour, IsMachine};
+ghost use Rattle.ps_machine.specs.Boards.{Board};
+ghost use Rattle.ps_machine.specs.Extracting.{HasPropositions, IsMachineOf};
+ghost use Rattle.ps_machine.specs.FileGames.{IsGameOfFile, board_of_file};
+ghost use Rattle.ps_machine.specs.Keys.{mover_of};
+ghost use Rattle.ps_machine.specs.declared.key.Order.{Order};
+ghost use Rattle.ps_synthesis.specs.Reports.{IsWinnersCircuit};
+ghost use Rattle.ps_mixing.specs.MixedBoards.{mixed_machine};
+ghost use Rattle.ps_mixing.specs.MixedFiles.{HasLabels, IsMixingOf, mixed_file, moved_word};
+ghost use Rattle.ps_mixing.specs.Mixings.{IsMixing, Mixing, inverse};
+
+/// The mixed file of a sound file is sound, if the text states a label for each edge, or for its state.
+pub fn mixed_is_sound()
+    ensures { (file : FileData) (mixing : Mixing) → IsMixingOf file mixing → IsSoundFile file → HasLabels file →
+        IsSoundFile (mixed_file mixing file) }
+{}
+
+/// A file has an automaton if and only if the mixed file has one, and else both have the same fault.
+pub fn answer_of_mixed()
+    ensures admitted { (file : FileData) (mixing : Mixing) → IsMixingOf file mixing →
+        IsAdmitted file ↔ IsAdmitted (mixed_file mixing file) }
+    ensures refused { (file : FileData) (mixing : Mixing) → IsMixingOf file mixing → (fault : AutomatonFault) →
+        IsRefused file fault ↔ IsRefused (mixed_file mixing file) fault }
+{}
+
+/// A file accepts a lasso if and only if the mixed file accepts the lasso with its propositions moved.
+pub fn lassos_of_mixed()
+    ensures { (file : FileData) (mixing : Mixing) → IsMixingOf file mixing → (stem lap : List ℕ) →
+        IsAccepted file stem lap ↔
+        IsAccepted (mixed_file mixing file) (moved_word mixing file stem) (moved_word mixing file lap) }
+{}
+
+/// The game of the mixed file is the game of the file, with the same numbers, ids and names.
+pub fn game_of_mixed()
+    ensures { (file : FileData) (mixing : Mixing) → IsMixingOf file mixing → (order : Order) (game : NamedGameData) →
+        IsGameOfFile order (mixed_file mixing file) game ↔ IsGameOfFile order file game }
+{}
+
+/// The machine of a certificate for the mixed file, with its propositions moved back, is the machine of the certificate
+/// for the file.
+pub fn machine_of_mixed()
+    ensures { (file : FileData) (mixing : Mixing) → IsMixingOf file mixing → (order : Order) (game : NamedGameData)
+        (of : IsGameOfFile order (mixed_file mixing file) game) → (here : IsGameOfFile order file game) ×
+        ((certificate : CertificateData) (m : Behaviour) →
+        IsMachineOf (board_of_file order (mixed_file mixing file) of.auto) (mover_of order) of.keys game.game
+        certificate m →
+        IsMachineOf (board_of_file order file here.auto) (mover_of order) here.keys game.game certificate
+        (mixed_machine (length file.names) (inverse mixing) m)) }
+{}
+
+/// The circuit of a machine is the circuit of the machine with its propositions moved.
+pub fn circuit_of_machine()
+    ensures { (board : Board) (mixing : Mixing) → IsMixing board.propositions board.is_first mixing →
+        (names : List (List ℕ)) (m : Behaviour) → IsMachine m → HasPropositions names board m →
+        (circuit : CircuitData) → Encodes m circuit → IsWired m circuit →
+        Encodes (mixed_machine board.propositions mixing m) circuit ×
+        IsWired (mixed_machine board.propositions mixing m) circuit }
+{}
+
+/// The winner's circuit of the mixed file is the winner's circuit of the file.
+pub fn circuit_of_mixed()
+    ensures { (file : FileData) (mixing : Mixing) → IsMixingOf file mixing → IsSoundFile file → (order : Order)
+        (game : NamedGameData) (of : IsGameOfFile order (mixed_file mixing file) game)
+        (certificate : CertificateData) (circuit : CircuitData) →
+        IsWinnersCircuit order (mixed_file mixing file) game of certificate circuit →
+        (here : IsGameOfFile order file game) × IsWinnersCircuit order file game here certificate circuit }
+{}
