@@ -1,0 +1,16 @@
+pub mod Behind
+pub mod Coverings
+pub mod EnteredKeys
+pub mod KeptTargets
+pub mod ListedKeys
+pub mod Lowering
+pub mod MadeTargets
+pub mod MarkedLetters
+pub mod Marking
+pub mod Masks
+pub mod Ranks
+pub mod StepLeaves
+pub mod StepTests
+pub mod Taking
+pub mod TargetLists
+pub mod Visits

@@ -1,0 +1,23 @@
+use Rattle.ps_diagram.proofs.KnownLemmas.{keeps_trans}
+use Rattle.ps_brief.proofs.KeptTargets.{targets_kept}
+use Rattle.ps_brief.proofs.Lowering.{all_low}
+use Rattle.ps_brief.proofs.bases.excluded.Goals as goal
+
+pub loop-place-init : goal.loop-place-init
+loop-place-init c = let made = c.in_ok-low.ensures in record {
+  keeps = made.keeps;
+  targets = targets_kept c.args.setting.now made.keeps c.requires;
+  low = all_low c.args.setting.now c.args.targets.now.state c.in_ok-low.low made.held made.leaf;
+  letter = made.leaf c.args.letter;
+}
+
+pub returns-in_err-next-clause-keeps : goal.returns-in_err-next-clause-keeps
+returns-in_err-next-clause-keeps c = keeps_trans c.loop-place.invariant.keeps c.in_err-next.ensures.keeps
+
+pub loop-place-preserved : goal.loop-place-preserved
+loop-place-preserved c = let next = c.in_ok-next.ensures in record {
+  keeps = keeps_trans c.loop-place.invariant.keeps next.keeps;
+  targets = targets_kept c.args.setting.now next.keeps c.loop-place.invariant.targets;
+  low = next.low;
+  letter = next.letter;
+}

@@ -1,0 +1,22 @@
+use Rattle.ps_brief.proofs.Lowering.{leads_kept, low_kept, target_at}
+use Rattle.ps_brief.proofs.bases.lowered.Goals as goal
+
+pub without-requires-clause-target : goal.without-requires-clause-target
+without-requires-clause-target c = target_at c.args.setting.now c.args.targets.now c.requires.targets c.args.place
+    c.requires.place c.index-target.result.now c.index-target.ensures
+
+pub path_to-requires : goal.path_to-requires
+path_to-requires c = record { held = c.in_ok-lower.ensures.low.held }
+
+pub returns-in-Some-clause-some : goal.returns-in-Some-clause-some
+returns-in-Some-clause-some c = let least = rw c.in-Some.is at c.in_ok-found.ensures in (c.in-Some._least, least.here)
+
+pub returns-in-None-clause-low : goal.returns-in-None-clause-low
+returns-in-None-clause-low c = low_kept c.args.setting.now c.args.targets.now.state c.args.low
+    c.in_ok-lower.ensures.keeps c.requires.low
+
+pub returns-in-None-clause-some : goal.returns-in-None-clause-some
+returns-in-None-clause-some c = (
+  c.requires.some.0,
+  leads_kept c.args.low 1 c.requires.some.0 c.in_ok-lower.ensures.keeps c.requires.low.held c.requires.some.1,
+)

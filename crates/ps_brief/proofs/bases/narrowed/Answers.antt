@@ -1,0 +1,23 @@
+use Rattle.std.proofs.Common.{sym}
+use Rattle.std.proofs.lemmas.Result.{IfOk-weaker}
+use Rattle.ps_diagram.proofs.Cells.{keeps_refl}
+use Rattle.ps_brief.proofs.Lowering.{target_at}
+use Rattle.ps_brief.proofs.bases.narrowed.Goals as goal
+
+pub eval-requires : goal.eval-requires
+eval-requires c =
+    record {
+      held = (target_at c.args.setting.now c.args.targets.now c.requires.targets c.args.place c.requires.place
+          c.index-target.result.now c.index-target.ensures).held;
+    }
+
+pub returns-in-Some-clause-keeps : goal.returns-in-Some-clause-keeps
+returns-in-Some-clause-keeps c = keeps_refl c.args.store.now
+
+pub without-requires-clause-target : goal.without-requires-clause-target
+without-requires-clause-target c = target_at c.args.setting.now c.args.targets.now c.requires.targets c.args.place
+    c.requires.place c.index-target.result.now c.index-target.ensures
+
+pub returns-in-None-clause-letter : goal.returns-in-None-clause-letter
+returns-in-None-clause-letter c = IfOk-weaker c.without.result _ _ (λ made stays.
+    stays c.args.letter 1 (sym c.in-None.ensures) c.requires.letter) c.without.ensures.stays

@@ -1,0 +1,4 @@
+pub mod Listings
+pub mod Settings
+pub mod Targets
+pub mod Inner

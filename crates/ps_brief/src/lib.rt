@@ -1,0 +1,28 @@
+//! Finds what a short circuit needs of an automaton's game, without the game. The game has a vertex of the second
+//! player for each class of the first player's letters, often 2^n of them for n propositions; here no class is made.
+//! All diagrams are in one store, which begins as a copy of the automaton's (`Store::copy`) and only gets more nodes.
+//!
+//! A *target* of a state is a key to which it has a step, with a diagram of the first player's letters behind which the
+//! second player can make this step. A *basis* of a state has letters of the first player: each letter lets the second
+//! player reach all that one of these does.
+//!
+//! | Call | What it gives |
+//! |---|---|
+//! | `Setting::new(automaton, order)` | the automaton, who moves first, and the propositions of both players as bits |
+//! | `targets_of(setting, store, state)` | a state's targets, in the order of the least letters that lead there |
+//! | `listing_of(setting, store)` | the first player's keys in the order of the game, and the targets of their states |
+//! | `Listing::of(state)` | the targets of a listed state |
+//! | `basis_of(setting, store, targets, most)` | a basis of a state, unless the search comes to `most` letters |
+//!
+//! The calls with a store fail if memory runs out. They keep the nodes of the store, also then.
+#![tactic(auto)]
+
+mod bases;
+mod listing;
+mod setting;
+mod steps;
+
+pub use bases::{Basis, basis_of};
+pub use listing::{Listing, listing_of};
+pub use setting::Setting;
+pub use steps::{Target, Targets, targets_of};
