@@ -25,7 +25,9 @@ FAMILIES = {
     "parts_of run tail_of value_of with_formula",
     "the word of a lasso, which automata and formulas read": "Repeats lasso_word",
     "what formulas, tableaux and fair cycles have of their own, as games and automata do": "AreDistinct Fits IsAnswer IsRun Keeps Leads",
-    "what products have of words of latches, and of groups of letters": "AreDifferent AreOnce IsRead IsWhole LeadsAlong",
+    "what products have of words of latches, and of groups of letters": "AreDifferent AreOnce IsRead IsWhole",
+    "letters over a mask, and formulas over propositions; what stands behind a letter, and in a text": "IsBehind IsOver",
+    "classes of letters that are known, and covers of sets that are known": "AreKnown",
 }
 # Acceptance marks are those of HOA texts; a fair cycle has marks of any kind on its edges.
 WITH_MARKS = ("ps_hoa", "ps_automaton", "ps_automaton_tests", "ps_fairness", "ps_game_tests", "ps_models", "ps_translation")
@@ -48,6 +50,7 @@ SAME_LEMMA_FILES = {
     "Building.antt": "ps_automaton ps_tlsf: the automaton of a draft; tables of formulas that grow",
     "Forms.antt": "ps_tlsf ps_zielonka: the formulas that operators form; one iteration of the solver",
     "Joining.antt": "ps_diagram ps_tlsf: overlays of trees; lists appended one after another",
+    "KnownLemmas.antt": "ps_diagram ps_tableau: results of operations; covers of sets, that are known",
     "Laps.antt": "ps_formula ps_verify: passes over a lap; laps of a trace",
     "Members.antt": "ps_ids ps_tableau: an id in a list; elements of lists",
     "NameLemmas.antt": "ps_hoa ps_tlsf: texts compared; the number of a declared name",
