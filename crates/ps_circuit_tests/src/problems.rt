@@ -47,6 +47,10 @@ impl<S: Solver> Solver for Noting<S> {
         self.solver.feed(text)
     }
 
+    fn is_free(&self) -> bool {
+        self.solver.is_free()
+    }
+
     fn solve(&mut self, game: &NamedGame) -> Result<Certificate, SolveFault> {
         self.vertices = game.game().count();
         self.solver.solve(game)

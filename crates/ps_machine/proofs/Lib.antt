@@ -1,5 +1,5 @@
 pub mod BoardLetters
-mod BoardMoves
+pub mod BoardMoves
 pub mod BoardSteps
 mod ByLetters
 pub mod CertificateThere

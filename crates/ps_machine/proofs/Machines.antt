@@ -5,6 +5,7 @@ pub mod MemorySteps
 pub mod KeptMemories
 pub mod Listing
 pub mod Assembling
+pub mod WholeMachines
 pub mod MachineLemmas
 pub mod Extracted
 pub mod PartsThere

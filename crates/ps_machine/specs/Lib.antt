@@ -10,6 +10,7 @@ pub mod KeyNames
 pub mod Keys
 pub mod Machines
 pub mod Numbering
+pub mod Parts
 pub mod Solvers
 pub mod Solving
 pub mod Inner

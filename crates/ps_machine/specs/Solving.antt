@@ -4,6 +4,7 @@
 -- - `AnswersSurely game r`: r is what a sure solver answers: a valid certificate that fits the game, or out of memory
 -- - `AnswersLeast game r`: r is what psyn's own solver answers: a valid certificate whose counts (the numbers that
 --   prove it) are the least for its moves, or out of memory
+-- - `IsFree solver`: the solver may give each answer that psyn's own solver may give
 -- - `NamesVertices game r`: if the answer is a cycle, it has at least one vertex, and all its vertices are vertices of
 --   the game
 -- - `Replays game fed r`: the answer is the result of parsing the text that was fed
@@ -15,7 +16,7 @@ use Rattle.ps_game.specs.Games.{NamedGameData, vertex_count}
 use Rattle.ps_certificate.specs.Certificates.{CertificateData, winner_of, Fits, IsValid}
 use Rattle.ps_certificate.specs.Least.{HasLeastCounts}
 use Rattle.ps_certificate.specs.Texts.{ReadsCertificate}
-use Rattle.ps_machine.specs.Solvers.{SolverData}
+use Rattle.ps_machine.specs.Solvers.{SolverData, Answered}
 use Rattle.ps_machine.specs.declared.fault.SolveFault.{SolveFault}
 use Rattle.ps_machine.specs.declared.fault.SolveFault.TheVariants.{BadCycle, Text, OutOfMemory}
 
@@ -35,6 +36,10 @@ AnswersSurely game (Err (Text cause offset)) = ⊥
 abbrev pub AnswersLeast : NamedGameData → Result CertificateData SolveFault → Type 0
 AnswersLeast game (Ok certificate) = IsCertified game certificate × HasLeastCounts game.game certificate
 AnswersLeast game (Err fault) = AnswersSurely game (Err fault)
+
+abbrev pub IsFree : SolverData → Type 0
+IsFree solver = (game : NamedGameData) (answer : Result CertificateData SolveFault) → AnswersLeast game answer →
+    Answered solver solver game answer
 
 abbrev pub NamesVertices : NamedGameData → Result CertificateData SolveFault → Type 0
 NamesVertices game (Ok certificate) = Unit {0}

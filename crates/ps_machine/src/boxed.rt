@@ -14,6 +14,10 @@ impl Solver for Box<dyn Solver> {
         (**self).feed(text)
     }
 
+    fn is_free(&self) -> bool {
+        (**self).is_free()
+    }
+
     fn solve(&mut self, game: &NamedGame) -> Result<Certificate, SolveFault> {
         (**self).solve(game)
     }

@@ -101,6 +101,10 @@ impl Solver for BuiltIn {
         Ok(())
     }
 
+    fn is_free(&self) -> bool {
+        true
+    }
+
     fn solve(&mut self, game: &NamedGame) -> Result<Certificate, SolveFault> {
         let game = game.game();
         if fits_narrow(game) {

@@ -1,6 +1,6 @@
 //! The machine of a certificate.
 
-ghost use Rattle.std.specs.Prelude.{◌≡◌, ◌≤◌, ℕ, List, IfOk, OnOk, length, map};
+ghost use Rattle.std.specs.Prelude.{◌≡◌, ◌<◌, ◌≤◌, ℕ, List, IfOk, OnOk, length, map};
 ghost use Rattle.ps_automaton.specs.Automata.{IsBuiltFrom};
 ghost use Rattle.ps_automaton.specs.Chains.{Chain};
 ghost use Rattle.ps_certificate.specs.Certificates.{Fits, IsValid};
@@ -18,6 +18,7 @@ ghost use Rattle.ps_machine.specs.Inner.Drawing.{AreMemories, AreUsed};
 ghost use Rattle.ps_machine.specs.Extracting.{HasPropositions, IsMachineOf};
 ghost use Rattle.ps_machine.specs.Keys.{mover_of};
 ghost use Rattle.ps_machine.specs.Machines.{behaviour};
+ghost use Rattle.ps_machine.specs.Parts.{ArePartsOf};
 ghost use Rattle.ps_machine.specs.Inner.Planning.{AreDrawnBy, AreKnownBy, AreRowsBy, IsPlanned, IsReadyPlan, board_by};
 ghost use Rattle.ps_machine.specs.Inner.Trying.{IsReadyToTry};
 ghost use Rattle.ps_machine.specs.declared.key.Key.{Key};
@@ -28,7 +29,7 @@ use crate::few_letters::FewLetters;
 use crate::game::AutomatonGame;
 use crate::key::{Key, Order};
 use crate::letter_plan::LetterPlan;
-use crate::machine::{Diagrams, Machine, Propositions};
+use crate::machine::{Machine, MachineParts, Propositions};
 use crate::memories::{Memories, remembered};
 use crate::moves::is_first;
 use crate::used::used_vertices;
@@ -104,6 +105,29 @@ pub fn machine_of_certificate(
     machine_by(alloc, &plan, &game.divided)
 }
 
+/// Makes the machine of a player from its diagrams and rows, with the automaton's propositions. Fails if out of memory.
+pub fn machine_of_diagrams(
+    alloc: Global,
+    automaton: &Automaton,
+    order: Order,
+    player: Player,
+    moves_first: bool,
+    diagrams: MachineParts,
+) -> Result<Machine, AllocError>
+    requires player { player < 2 }
+    requires parts { ArePartsOf moves_first (board_of order automaton.now) diagrams }
+    ensures player { IfOk result (λ m. m.player ≡ player) }
+    ensures first { IfOk result (λ m. m.is_first ≡ moves_first) }
+    ensures store { IfOk result (λ m. m.store ≡ diagrams.store) }
+    ensures nodes { IfOk result (λ m. m.nodes ≡ diagrams.nodes.items) }
+    ensures rows { IfOk result (λ m. m.rows ≡ diagrams.rows.keys) }
+    ensures propositions { IfOk result (λ m. HasPropositions automaton.now.names (board_of order automaton.now)
+        (behaviour m)) }
+{
+    let propositions = roles(alloc, automaton, order, moves_first)?;
+    Ok(Machine::new(player, moves_first, propositions, diagrams))
+}
+
 /// The memory states of the winner of vertex 0, for the vertices that its moves can reach.
 fn memories_of(
     alloc: Global,
@@ -140,7 +164,7 @@ fn machine_by(alloc: Global, plan: &Plan<'_>, division: &Division) -> Result<Mac
 }
 
 /// Makes the diagrams of all memory states, and their rows.
-fn draw(alloc: Global, plan: &Plan<'_>, division: &Division) -> Result<Diagrams, AllocError>
+fn draw(alloc: Global, plan: &Plan<'_>, division: &Division) -> Result<MachineParts, AllocError>
     requires plan { IsPlanned plan.now }
     requires division { AreKnownBy plan.now division.now }
     ensures letters { IfOk result (λ made. made.store.propositions ≡ length plan.now.automaton.now.names) }
@@ -158,7 +182,7 @@ fn draw_by_letters(
     alloc: Global,
     plan: &Plan<'_>,
     letters: &FewLetters,
-) -> Result<Diagrams, AllocError>
+) -> Result<MachineParts, AllocError>
     requires plan { IsPlanned plan.now }
     requires letters { AreFewLetters (board_by plan.now) letters.now }
     ensures letters { IfOk result (λ made. made.store.propositions ≡ length plan.now.automaton.now.names) }
@@ -173,7 +197,7 @@ fn draw_by_letters(
         places: Vec::new(alloc),
     };
     let nodes = nodes_by_letters(alloc, plan, &letters, &mut drawing)?;
-    Ok(Diagrams {
+    Ok(MachineParts {
         store: drawing.store,
         nodes,
         rows: drawing.rows,
@@ -205,7 +229,7 @@ fn draw_by_classes(
     alloc: Global,
     plan: &Plan<'_>,
     divided: &Divided,
-) -> Result<Diagrams, AllocError>
+) -> Result<MachineParts, AllocError>
     requires { IsReadyPlan plan.now divided.now }
     ensures letters { IfOk result (λ made. made.store.propositions ≡ length plan.now.automaton.now.names) }
     ensures drawn { IfOk result (λ made. AreDrawnBy plan.now made.store made.rows.keys made.nodes.items
@@ -217,7 +241,7 @@ fn draw_by_classes(
         places: Vec::new(alloc),
     };
     let nodes = nodes_of(alloc, plan, divided, &mut drawing)?;
-    Ok(Diagrams {
+    Ok(MachineParts {
         store: drawing.store,
         nodes,
         rows: drawing.rows,

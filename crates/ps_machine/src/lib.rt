@@ -55,7 +55,7 @@ mod used;
 
 pub use built_in::BuiltIn;
 pub use divided::{Divided, Division};
-pub use extracting::{extract, machine_of_certificate};
+pub use extracting::{extract, machine_of_certificate, machine_of_diagrams};
 pub use fault::SolveFault;
 pub use few_letters::FewLetters;
 pub use game::{AutomatonGame, game_of};
@@ -64,6 +64,6 @@ pub use laws::{
     each_game_has_a_certificate, game_is_there, game_of_file_is_game, lassos_of_file_won,
     lassos_won, machine_is_there, one_game, one_game_of_file, one_machine, one_machine_of_file,
 };
-pub use machine::{Machine, Row};
+pub use machine::{Machine, MachineParts, Row};
 pub use replay::Replay;
 pub use solver::Solver;

@@ -29,8 +29,10 @@ pub(crate) struct Propositions {
     pub outputs: Vec<u32>,
 }
 
+/// The diagrams of a machine, and its rows.
 #[derive(Drop)]
-pub(crate) struct Diagrams {
+pub struct MachineParts {
+    /// The store of the diagrams.
     pub store: Store,
     /// The diagram of each memory state.
     pub nodes: Vec<Node>,
@@ -89,7 +91,7 @@ impl Machine {
         player: Player,
         moves_first: bool,
         propositions: Propositions,
-        diagrams: Diagrams,
+        diagrams: MachineParts,
     ) -> Machine
         requires { IsWholeMachine (machine_of player moves_first propositions diagrams) }
         ensures { result ≡ machine_of player moves_first propositions diagrams }

@@ -38,6 +38,10 @@ impl Solver for Replay {
         Ok(())
     }
 
+    fn is_free(&self) -> bool {
+        false
+    }
+
     fn solve(&mut self, game: &NamedGame) -> Result<Certificate, SolveFault> {
         match read(self.alloc, &self.text, game) {
             Ok(certificate) => Ok(certificate),

@@ -2,7 +2,7 @@
 
 ghost use Rattle.std.specs.Prelude.{◌≡◌, true, None, IsOk, OnOk, OnErr};
 ghost use Rattle.ps_machine.specs.Solvers.{Answered, IsKept, SolverData, once_fed};
-ghost use Rattle.ps_machine.specs.Solving.{AnswersSurely, NamesVertices};
+ghost use Rattle.ps_machine.specs.Solving.{AnswersSurely, IsFree, NamesVertices};
 
 use crate::fault::SolveFault;
 use ps_certificate::Certificate;
@@ -20,6 +20,11 @@ pub trait Solver: Drop {
         ensures unkept { (known self.old).fed ≡ None → IsOk result }
         ensures ok { OnOk result (IsKept (once_fed text.now (known self.old)) (known self.new)) }
         ensures err { OnErr result (IsKept (known self.old) (known self.new)) };
+
+    /// Whether the solver may give any valid certificate with the least counts. Then another way to find one may take
+    /// its place.
+    fn is_free(&self) -> bool
+        ensures { result ≡ true → IsFree (known self.now) };
 
     /// The solver's certificate of the game, or why it returns none.
     fn solve(&mut self, game: &NamedGame) -> Result<Certificate, SolveFault>

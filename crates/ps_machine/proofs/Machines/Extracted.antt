@@ -16,7 +16,7 @@ use Rattle.ps_machine.specs.Keys.{mover_of}
 use Rattle.ps_machine.specs.Machines.{MachineData, IsWholeMachine, behaviour}
 use Rattle.ps_machine.specs.declared.key.Key.{Key}
 use Rattle.ps_machine.specs.declared.key.Order.{Order}
-use Rattle.ps_machine.specs.declared.machine.Diagrams.{Diagrams}
+use Rattle.ps_machine.specs.declared.machine.MachineParts.{MachineParts}
 use Rattle.ps_machine.specs.declared.machine.Propositions.{Propositions}
 use Rattle.ps_machine.proofs.Machines.UsedVertices.{used_first}
 use Rattle.ps_machine.proofs.Machines.KeptMemories.{all_kept, each_kept, some_kept}
@@ -62,7 +62,7 @@ module _ {order : Order} {a : AutomatonData} {keys : List Key} {game : ParityGam
     pub has : HasPropositions a.names (board_of order a) (behaviour n)
     pub of : IsMachineOf (board_of order a) (mover_of order) keys game certificate (behaviour n)
 
-  pub made : (p : Propositions) (d : Diagrams) {n : MachineData} → length a.names ≤ 64 → AreNames a.names →
+  pub made : (p : Propositions) (d : MachineParts) {n : MachineData} → length a.names ≤ 64 → AreNames a.names →
       map bytes_of p.names.items ≡ a.names → HasRoles first (board_of order a) p.inputs.items p.outputs.items →
       d.store.propositions ≡ length a.names → AreDrawn first (board_of order a) keys kept certificate d.store
       d.rows.keys d.nodes.items (length kept) → n ≡ machine_of player first p d → IsMade n
