@@ -1,5 +1,5 @@
 -- The law `one_answer` is proved by a lemma.
-use Rattle.ps_text.proofs.OneAnswer.{has_one_answer}
+use Rattle.ps_text.proofs.ParsedAnswers.OneAnswer.{has_one_answer}
 use Rattle.ps_text.proofs.answers.one_answer.Goals as goal
 
 pub returns : goal.returns

@@ -1,7 +1,7 @@
 use Rattle.std.proofs.Common.{◌≡◌, ℕ, ◌+◌, ◌-◌, ◌*◌, ◌%◌, ◌<◌, ◌≤◌, true, length, get_or, arith, rules}
 use Rattle.std.specs.Char.{is_ascii_digit}
-use Rattle.ps_text.proofs.LeadingDigits.{count_one, read_one}
-use Rattle.ps_text.proofs.FewDigits.{digit_small, few_small, few_more}
+use Rattle.ps_text.proofs.BytesAndDigits.LeadingDigits.{count_one, read_one}
+use Rattle.ps_text.proofs.BytesAndDigits.FewDigits.{digit_small, few_small, few_more}
 use Rattle.ps_text.proofs.numbers.few_digits.Goals as goal
 
 -- a number with fewer than 18 digits, and one more digit, do not wrap

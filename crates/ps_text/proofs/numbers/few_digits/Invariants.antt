@@ -1,5 +1,5 @@
 use Rattle.std.proofs.Common.{◌^◌, ◌<◌, ◌≤◌, ◌-◌, length}
-use Rattle.ps_text.proofs.LeadingDigits.{IsCountedTo, IsReadTo}
+use Rattle.ps_text.proofs.BytesAndDigits.LeadingDigits.{IsCountedTo, IsReadTo}
 use Rattle.ps_text.proofs.numbers.few_digits.Given as goal
 
 abbrev pub decreases-loop-digits : goal.decreases-loop-digits

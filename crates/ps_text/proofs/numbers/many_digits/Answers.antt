@@ -1,5 +1,6 @@
 use Rattle.std.proofs.Common.{◌≡◌, ◌+◌, ◌-◌, ◌*◌, get_or, sym, subst, arith, rules}
-use Rattle.ps_text.proofs.LeadingDigits.{IsReadTo, read_none, read_one, read_too_much, read_to_end, read_to_other}
+use Rattle.ps_text.proofs.BytesAndDigits.LeadingDigits.{IsReadTo, read_none, read_one, read_too_much, read_to_end}
+use Rattle.ps_text.proofs.BytesAndDigits.LeadingDigits.{read_to_other}
 use Rattle.ps_text.proofs.numbers.many_digits.Goals as goal
 
 pub loop-digits-init : goal.loop-digits-init

@@ -1,5 +1,5 @@
 use Rattle.std.proofs.Common.{length, ◌-◌}
-use Rattle.ps_text.proofs.LeadingDigits.{IsReadTo}
+use Rattle.ps_text.proofs.BytesAndDigits.LeadingDigits.{IsReadTo}
 use Rattle.ps_text.proofs.numbers.many_digits.Given as goal
 
 abbrev pub decreases-loop-digits : goal.decreases-loop-digits

@@ -1,5 +1,5 @@
 -- The law `one_tokenisation` is proved by a lemma.
-use Rattle.ps_text.proofs.OneTokenisation.{has_one_tokenisation}
+use Rattle.ps_text.proofs.ParsedAnswers.OneTokenisation.{has_one_tokenisation}
 use Rattle.ps_text.proofs.tokens.one_tokenisation.Goals as goal
 
 pub returns : goal.returns

@@ -1,4 +1,4 @@
-use Rattle.ps_text.proofs.Bytes.Single.{refuted, byte_reads, byte_stops}
+use Rattle.ps_text.proofs.BytesAndDigits.Bytes.Single.{refuted, byte_reads, byte_stops}
 use Rattle.ps_text.proofs.cursor.Cursor.byte.Goals as goal
 
 pub returns-then-comes : goal.returns-then-comes

@@ -1,6 +1,6 @@
 use Rattle.std.proofs.Common.{refl}
 use Rattle.ps_text.specs.Bytes.{is_digit}
-use Rattle.ps_text.proofs.Bytes.Moves.{passes_in}
+use Rattle.ps_text.proofs.BytesAndDigits.Bytes.Moves.{passes_in}
 use Rattle.ps_text.proofs.cursor.Cursor.digits.Goals as goal
 
 pub returns-clause-passes : goal.returns-clause-passes

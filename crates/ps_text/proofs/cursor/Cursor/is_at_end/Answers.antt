@@ -1,6 +1,6 @@
 use Rattle.std.proofs.Common.{◌∙◌, sym, ap, length, eqb, arith}
 use Rattle.std.proofs.lemmas.Bool.{ne_eqb}
-use Rattle.ps_text.proofs.Bytes.Moves.{left_in}
+use Rattle.ps_text.proofs.BytesAndDigits.Bytes.Moves.{left_in}
 use Rattle.ps_text.proofs.cursor.Cursor.is_at_end.Goals as goal
 
 pub returns-else-self : goal.returns-else-self

@@ -1,6 +1,6 @@
 use Rattle.std.proofs.Common.{◌∙◌, ap, drop}
 use Rattle.ps_text.specs.Cursors.{stream_offset}
-use Rattle.ps_text.proofs.Bytes.Moves.{place_is}
+use Rattle.ps_text.proofs.BytesAndDigits.Bytes.Moves.{place_is}
 use Rattle.ps_text.proofs.cursor.Cursor.offset.Goals as goal
 
 pub returns : goal.returns

@@ -1,4 +1,4 @@
-use Rattle.ps_text.proofs.Bytes.Moves.{passes_in}
+use Rattle.ps_text.proofs.BytesAndDigits.Bytes.Moves.{passes_in}
 use Rattle.ps_text.proofs.cursor.Cursor.run.Goals as goal
 
 pub returns : goal.returns

@@ -2,7 +2,7 @@ use Rattle.std.proofs.Common.{◌∙◌, ap}
 use Rattle.ps_text.specs.Answers.{Stream}
 use Rattle.ps_text.specs.Bytes.{Seen}
 use Rattle.ps_text.specs.Readers.{tail}
-use Rattle.ps_text.proofs.Bytes.Moves.{past_byte}
+use Rattle.ps_text.proofs.BytesAndDigits.Bytes.Moves.{past_byte}
 use Rattle.ps_text.proofs.cursor.Cursor.step.Goals as goal
 
 pub returns-then-self-clause-next : goal.returns-then-self-clause-next

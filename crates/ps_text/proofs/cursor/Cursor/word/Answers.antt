@@ -1,5 +1,5 @@
-use Rattle.ps_text.proofs.Bytes.Lawful.{chain_word}
-use Rattle.ps_text.proofs.Bytes.Lefts.{unread, past, exits_at, word_left, word_read}
+use Rattle.ps_text.proofs.BytesAndDigits.Bytes.Lawful.{chain_word}
+use Rattle.ps_text.proofs.BytesAndDigits.Bytes.Lefts.{unread, past, exits_at, word_left, word_read}
 use Rattle.ps_text.proofs.cursor.Cursor.word.Goals as goal
 
 pub loop-byte-init : goal.loop-byte-init

@@ -1,6 +1,6 @@
 use Rattle.std.proofs.Common.{drop}
 use Rattle.ps_text.specs.Bytes.{word}
-use Rattle.ps_text.proofs.Bytes.Lefts.{Left}
+use Rattle.ps_text.proofs.BytesAndDigits.Bytes.Lefts.{Left}
 use Rattle.ps_text.proofs.cursor.Cursor.word.Given as goal
 
 abbrev pub invariant-loop-byte : goal.invariant-loop-byte

@@ -4,7 +4,7 @@ use Rattle.std.specs.List.{AllByRecursion}
 use Rattle.std.proofs.lemmas.List.{append_cancel_left}
 use Rattle.ps_text.specs.Answers.{Piece}
 use Rattle.ps_text.specs.Tokens.{NextToken, TokensFrom, TokensDiffer, HasOneTokenisation}
-use Rattle.ps_text.proofs.Splits.{Compared, shorter, same, longer, compared, same_head}
+use Rattle.ps_text.proofs.Combinators.Splits.{Compared, shorter, same, longer, compared, same_head}
 
 pub all_at : (P : ℕ → Type 0) (xs ys : List ℕ) (b : ℕ) → AllByRecursion P (xs ++ b ∷ ys) → P b
 all_at P [] ys b h = h.0

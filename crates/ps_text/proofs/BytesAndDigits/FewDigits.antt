@@ -2,7 +2,7 @@
 use Rattle.std.proofs.Common.{◌≡◌, ℕ, ◌+◌, ◌-◌, ◌*◌, ◌^◌, ◌<◌, ◌≤◌, true, add-one, arith, rules}
 use Rattle.std.proofs.Math.Nat.{pow-suc, pow-le-pow_right}
 use Rattle.std.specs.Char.{is_ascii_digit}
-use Rattle.ps_text.proofs.Decimals.{digit_is}
+use Rattle.ps_text.proofs.BytesAndDigits.Decimals.{digit_is}
 
 -- the value of a digit is at most 9
 pub digit_small : (b : ℕ) → is_ascii_digit b ≡ true → b - 48 ≤ 9

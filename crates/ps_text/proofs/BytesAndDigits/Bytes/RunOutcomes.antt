@@ -9,10 +9,10 @@ use Rattle.ps_text.specs.Parts.{IsRead, is_cause}
 use Rattle.ps_text.specs.Outcomes.{Outcome, was_read, has_fault, HasOutcomes}
 use Rattle.ps_text.specs.Runs.{AllOf, StopsBefore}
 use Rattle.ps_text.specs.Bytes.{Seen, bytes_of, byte_causes, BeginsRun, IsBadRun, run}
-use Rattle.ps_text.proofs.Outcomes.{Judged, bad, good, has_refusal}
-use Rattle.ps_text.proofs.Simple.{none_is_some, same_some}
-use Rattle.ps_text.proofs.Splits.{same_head}
-use Rattle.ps_text.proofs.Bytes.Runs.{laws_run, bad_is, run_read}
+use Rattle.ps_text.proofs.ParsedAnswers.Outcomes.{Judged, bad, good, has_refusal}
+use Rattle.ps_text.proofs.Combinators.Simple.{none_is_some, same_some}
+use Rattle.ps_text.proofs.Combinators.Splits.{same_head}
+use Rattle.ps_text.proofs.BytesAndDigits.Bytes.Runs.{laws_run, bad_is, run_read}
 
 -- the longest prefix of a list in which all items pass the test
 pub record Spanned {X : Type 0} (q : X → Bool) (xs : List X) : Type 0 where

@@ -10,7 +10,7 @@ use Rattle.std.specs.List.{prefix_len, take_while}
 use Rattle.std.proofs.Math.Seq.{take-length}
 use Rattle.std.proofs.lemmas.Bool.{cases_Bool}
 use Rattle.ps_text.specs.Runs.{AllOf, StopsBefore}
-use Rattle.ps_text.proofs.Splits.{same_head, same_tail}
+use Rattle.ps_text.proofs.Combinators.Splits.{same_head, same_tail}
 
 module _ (p : ℕ → Bool) where
   pub all_left : (a b : List ℕ) → AllOf p (a ++ b) → AllOf p a

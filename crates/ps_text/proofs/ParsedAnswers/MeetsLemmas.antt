@@ -4,13 +4,14 @@ use Rattle.std.proofs.Common.{rules}
 use Rattle.ps_text.specs.Answers.{Stream, Found, next_of, offset_of}
 use Rattle.ps_text.specs.Parts.{Part, Causes, give, one, then_by, mapped, either, many}
 use Rattle.ps_text.specs.Readers.{refusal_at, tail, Reads, Meets}
-use Rattle.ps_text.proofs.Laws.{Joint, Laws, Apart}
-use Rattle.ps_text.proofs.Covered.{Enters, Avoids}
-use Rattle.ps_text.proofs.Exits as steps
-use Rattle.ps_text.proofs.Exits.{reads_give, reads_mapped, reads_then, reads_next, stops_mapped, stops_first}
-use Rattle.ps_text.proofs.Exits.{stops_behind, stops_bad, stops_refusal}
-use Rattle.ps_text.proofs.Branches as branches
-use Rattle.ps_text.proofs.Branches.{reads_shrinks, meets_as, many_reads, many_fails_later}
+use Rattle.ps_text.proofs.Combinators.Laws.{Joint, Laws, Apart}
+use Rattle.ps_text.proofs.Combinators.Covered.{Enters, Avoids}
+use Rattle.ps_text.proofs.ParsedAnswers.Exits as steps
+use Rattle.ps_text.proofs.ParsedAnswers.Exits.{reads_give, reads_mapped, reads_then, reads_next, stops_mapped}
+use Rattle.ps_text.proofs.ParsedAnswers.Exits.{stops_first}
+use Rattle.ps_text.proofs.ParsedAnswers.Exits.{stops_behind, stops_bad, stops_refusal}
+use Rattle.ps_text.proofs.ParsedAnswers.Branches as branches
+use Rattle.ps_text.proofs.ParsedAnswers.Branches.{reads_shrinks, meets_as, many_reads, many_fails_later}
 
 module _ {T F E : Type 0} (found : E → Option (Found F)) (causes : Causes T F) where
   pub meets_give : {V X : Type 0} (view : X → V) (s : Stream T) (x : X) (v : V) → view x ≡ v →

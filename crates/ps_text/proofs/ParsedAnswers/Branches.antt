@@ -21,11 +21,12 @@ use Rattle.std.proofs.lemmas.List.{length-map}
 use Rattle.ps_text.specs.Answers.{Stream, Found, signs, next_of}
 use Rattle.ps_text.specs.Parts.{Part, Causes, IsRead, IsBroken, either, times, many}
 use Rattle.ps_text.specs.Readers.{Stops, Reads, Meets, Carries}
-use Rattle.ps_text.proofs.Laws.{Laws, Apart}
-use Rattle.ps_text.proofs.Exits.{stops_as, reads_then, stops_first, stops_behind, suffix_refl}
-use Rattle.ps_text.proofs.InPlace.{Covers, read_as, fault_as}
-use Rattle.ps_text.proofs.Covered.{Enters, Avoids, enters_broken, enters_read, enters_then, covers_left, covers_right}
-use Rattle.ps_text.proofs.Repeated.{more_items, covers_item, joint_many, joint_times, read_none}
+use Rattle.ps_text.proofs.Combinators.Laws.{Laws, Apart}
+use Rattle.ps_text.proofs.ParsedAnswers.Exits.{stops_as, reads_then, stops_first, stops_behind, suffix_refl}
+use Rattle.ps_text.proofs.Combinators.InPlace.{Covers, read_as, fault_as}
+use Rattle.ps_text.proofs.Combinators.Covered.{Enters, Avoids, enters_broken, enters_read, enters_then, covers_left}
+use Rattle.ps_text.proofs.Combinators.Covered.{covers_right}
+use Rattle.ps_text.proofs.Combinators.Repeated.{more_items, covers_item, joint_many, joint_times, read_none}
 
 pub enters_first : {T V F : Type 0} {odd : T → Type 0} {P : Part T V F} {First More : T → Type 0} {Null : Type 0} →
     Laws odd P First More Null → (there : Option T) → Enters P there → (t : T) → there ≡ Some t → First t

@@ -12,11 +12,11 @@ use Rattle.std.proofs.Common.{inr, ⊎_elim, ◌∙◌, append_assoc, arith, rul
 use Rattle.ps_text.specs.Answers.{Begins, Stream, Found, first_of, next_of, offset_of}
 use Rattle.ps_text.specs.Parts.{Part, Causes, IsRead, IsBroken, IsFault, is_cause, CleanUpTo, barred}
 use Rattle.ps_text.specs.Readers.{Stops, Reads}
-use Rattle.ps_text.proofs.Splits.{Placed, inside, behind, placed, length_more, inside_of}
-use Rattle.ps_text.proofs.Laws.{Laws, Or, When, Apart}
-use Rattle.ps_text.proofs.InPlace.{stops_at, read_quiet, quiet_at, fault_begins, fault_from}
-use Rattle.ps_text.proofs.Joined.{text_begins}
-use Rattle.ps_text.proofs.Exits.{stops_as}
+use Rattle.ps_text.proofs.Combinators.Splits.{Placed, inside, behind, placed, length_more, inside_of}
+use Rattle.ps_text.proofs.Combinators.Laws.{Laws, Or, When, Apart}
+use Rattle.ps_text.proofs.Combinators.InPlace.{stops_at, read_quiet, quiet_at, fault_begins, fault_from}
+use Rattle.ps_text.proofs.Combinators.Joined.{text_begins}
+use Rattle.ps_text.proofs.ParsedAnswers.Exits.{stops_as}
 
 -- a symbol for which `Bad` states an error, if the symbol follows a text with some value
 abbrev pub Bar : {T V F : Type 0} → (V → T → F → Type 0) → T → Type 0

@@ -14,11 +14,11 @@ use Rattle.std.proofs.Common.{rules, ◌≡◌, ℕ, zero, suc, ◌+◌, ◌<◌
 use Rattle.std.proofs.Common.{sym, ap, inl, inr, ⊎_elim, arith}
 use Rattle.ps_text.specs.Answers.{first_of}
 use Rattle.ps_text.specs.Parts.{Part, IsRead, IsJoined, IsBehind, give, either, then_by, times, many}
-use Rattle.ps_text.proofs.Laws.{Laws, Nothing, Or, When, Apart, weaker, Joint}
-use Rattle.ps_text.proofs.InPlace.{Covers, stops_by, read_as}
-use Rattle.ps_text.proofs.Joined.{joint, read_then}
-use Rattle.ps_text.proofs.Simple.{nil_is_cons, laws_give, laws_then}
-use Rattle.ps_text.proofs.Covered.{Avoids, Enters, laws_either}
+use Rattle.ps_text.proofs.Combinators.Laws.{Laws, Nothing, Or, When, Apart, weaker, Joint}
+use Rattle.ps_text.proofs.Combinators.InPlace.{Covers, stops_by, read_as}
+use Rattle.ps_text.proofs.Combinators.Joined.{joint, read_then}
+use Rattle.ps_text.proofs.Combinators.Simple.{nil_is_cons, laws_give, laws_then}
+use Rattle.ps_text.proofs.Combinators.Covered.{Avoids, Enters, laws_either}
 
 -- if a text of P is followed by a text of Q that is also a text of R, the whole is a text of P followed by one of R
 joined_as : {T A B : Type 0} {P : List T → A → Type 0} {Q R : A → List T → B → Type 0} {text : List T} {b : B} →

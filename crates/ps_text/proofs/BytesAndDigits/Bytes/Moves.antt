@@ -9,10 +9,10 @@ use Rattle.ps_text.specs.Readers.{tail}
 use Rattle.ps_text.specs.Runs.{StopsBefore}
 use Rattle.ps_text.specs.Bytes.{Seen, pieces_at, ends_line}
 use Rattle.ps_text.specs.Cursors.{rest_with_newline, stream_offset, Passes}
-use Rattle.ps_text.proofs.ByteRuns.{run_all, run_ends}
-use Rattle.ps_text.proofs.Simple.{none_is_some, same_some}
-use Rattle.ps_text.proofs.Covered.{Avoids}
-use Rattle.ps_text.proofs.Bytes.Pieces.{length_pieces}
+use Rattle.ps_text.proofs.BytesAndDigits.ByteRuns.{run_all, run_ends}
+use Rattle.ps_text.proofs.Combinators.Simple.{none_is_some, same_some}
+use Rattle.ps_text.proofs.Combinators.Covered.{Avoids}
+use Rattle.ps_text.proofs.BytesAndDigits.Bytes.Pieces.{length_pieces}
 
 -- ## The beginning
 

@@ -11,8 +11,8 @@ use Rattle.std.specs.Option.{option_map}
 use Rattle.ps_text.specs.Answers.{Piece, Stream, signs, first_of}
 use Rattle.ps_text.specs.Bytes.{Seen, pieces_at, bytes_of, first_at}
 use Rattle.ps_text.specs.Cursors.{next_byte}
-use Rattle.ps_text.proofs.Splits.{same_head}
-use Rattle.ps_text.proofs.Simple.{nil_is_cons}
+use Rattle.ps_text.proofs.Combinators.Splits.{same_head}
+use Rattle.ps_text.proofs.Combinators.Simple.{nil_is_cons}
 
 pub bytes_append : (a b : List Seen) → bytes_of (a ++ b) ≡ bytes_of a ++ bytes_of b
 bytes_append [] b = refl

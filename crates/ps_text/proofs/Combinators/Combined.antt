@@ -14,11 +14,11 @@
 --   begins after it (`Joint`)
 use Rattle.std.proofs.Common.{◌≡◌, ℕ, Option, Some, inl, inr, rules}
 use Rattle.ps_text.specs.Parts.{Part, give, one, then_by, either, times, many}
-use Rattle.ps_text.proofs.Laws.{Laws, Joint, Nothing, Or, Within, Apart, weaker}
-use Rattle.ps_text.proofs.Joined.{joint}
-use Rattle.ps_text.proofs.Simple.{Taken, BadSign, laws_give, laws_one, laws_then}
-use Rattle.ps_text.proofs.Covered.{laws_either}
-use Rattle.ps_text.proofs.Repeated.{laws_times, laws_many}
+use Rattle.ps_text.proofs.Combinators.Laws.{Laws, Joint, Nothing, Or, Within, Apart, weaker}
+use Rattle.ps_text.proofs.Combinators.Joined.{joint}
+use Rattle.ps_text.proofs.Combinators.Simple.{Taken, BadSign, laws_give, laws_one, laws_then}
+use Rattle.ps_text.proofs.Combinators.Covered.{laws_either}
+use Rattle.ps_text.proofs.Combinators.Repeated.{laws_times, laws_many}
 
 pub both_within : {T : Type 0} {A B C : T → Type 0} → Within A C → Within B C → Within (Or A B) C
 both_within h k = search rules

@@ -13,14 +13,15 @@ use Rattle.ps_text.specs.Readers.{StopsWith, Reads}
 use Rattle.ps_text.specs.Runs.{AllOf}
 use Rattle.ps_text.specs.Bytes.{Seen, pieces_at, bytes_of, first_at, byte_causes, BeginsRun, IsBadRun, run}
 use Rattle.ps_text.specs.Cursors.{Passes, stream_offset}
-use Rattle.ps_text.proofs.Splits.{same_head}
-use Rattle.ps_text.proofs.ByteRuns.{all_left, all_right, same_run}
-use Rattle.ps_text.proofs.Laws.{Laws}
-use Rattle.ps_text.proofs.Simple.{none_is_some}
-use Rattle.ps_text.proofs.OneAnswer.{signs_split}
-use Rattle.ps_text.proofs.Bytes.Pieces.{bytes_append, pieces_with, pieces_split, bytes_with, first_with, length_with}
-use Rattle.ps_text.proofs.Bytes.Pieces.{first_sees}
-use Rattle.ps_text.proofs.Bytes.Single.{Odd, stops_here}
+use Rattle.ps_text.proofs.Combinators.Splits.{same_head}
+use Rattle.ps_text.proofs.BytesAndDigits.ByteRuns.{all_left, all_right, same_run}
+use Rattle.ps_text.proofs.Combinators.Laws.{Laws}
+use Rattle.ps_text.proofs.Combinators.Simple.{none_is_some}
+use Rattle.ps_text.proofs.ParsedAnswers.OneAnswer.{signs_split}
+use Rattle.ps_text.proofs.BytesAndDigits.Bytes.Pieces.{bytes_append, pieces_with, pieces_split, bytes_with, first_with}
+use Rattle.ps_text.proofs.BytesAndDigits.Bytes.Pieces.{length_with}
+use Rattle.ps_text.proofs.BytesAndDigits.Bytes.Pieces.{first_sees}
+use Rattle.ps_text.proofs.BytesAndDigits.Bytes.Single.{Odd, stops_here}
 
 module _ {V C : Type 0} (p : ℕ → Bool) (see : ℕ → List ℕ → V) (Bad : List ℕ → C → Type 0) where
   pub run_begins : (b : ℕ) → p b ≡ true → Begins (run p see Bad).IsText []

@@ -4,8 +4,8 @@
 -- - `laws_tight`: `then_by P Q` satisfies the laws, if P has no empty text and no symbol continues a text of P
 use Rattle.std.proofs.Common.{arith}
 use Rattle.ps_text.specs.Parts.{Part, then_by}
-use Rattle.ps_text.proofs.Laws.{Laws, Nothing, Or, When, Apart, weaker}
-use Rattle.ps_text.proofs.Simple.{laws_then}
+use Rattle.ps_text.proofs.Combinators.Laws.{Laws, Nothing, Or, When, Apart, weaker}
+use Rattle.ps_text.proofs.Combinators.Simple.{laws_then}
 
 module _ {T A B F : Type 0} {odd : T → Type 0} {P : Part T A F} {Q : A → Part T B F}
     {First First' More' : T → Type 0} where

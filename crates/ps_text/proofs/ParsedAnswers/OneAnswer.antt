@@ -3,7 +3,7 @@ use Rattle.std.proofs.Common.{◌≡◌, ℕ, ◌<◌, ◌≤◌, ◌⊎◌, Lis
 use Rattle.std.proofs.lemmas.List.{map-append, length-map}
 use Rattle.ps_text.specs.Answers.{Piece, Stream, Found, signs, offset_of, IsClean, IsFirstAt, HasOneMeaning}
 use Rattle.ps_text.specs.Answers.{AreNumbered, HasOneAnswer}
-use Rattle.ps_text.proofs.Splits.{same_split}
+use Rattle.ps_text.proofs.Combinators.Splits.{same_split}
 
 pub signs_split : {T : Type 0} (all front rest : List (Piece T)) → all ≡ front ++ rest →
     signs all ≡ signs front ++ signs rest

@@ -7,8 +7,9 @@
 --   `joint` derives this from the laws
 --
 -- State the laws of each production of a grammar once, as in `laws_entry : Laws odd entry EntryFirst EntryMore ⊥`. The
--- laws of a production are proved with the lemma of the production's outermost combinator (proofs/Combined.antt). By
--- `weaker`, the sets First and More that this lemma gives are replaced by larger ones, which the format names.
+-- laws of a production are proved with the lemma of the production's outermost combinator
+-- (proofs/Combinators/Combined.antt). By `weaker`, the sets First and More that this lemma gives are replaced by larger
+-- ones, which the format names.
 use Rattle.std.proofs.Common.{◌≡◌, ◌⊎◌, List, [], ◌∷◌, ◌++◌, rules}
 use Rattle.ps_text.specs.Answers.{Begins}
 use Rattle.ps_text.specs.Parts.{Part}

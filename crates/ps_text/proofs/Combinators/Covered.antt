@@ -1,5 +1,5 @@
 -- If the next symbol decides which of several alternatives follows, parsing the whole has the same result as parsing
--- this alternative (proofs/InPlace.antt). For example, `either P Q` has the result of P or the result of Q.
+-- this alternative (proofs/Combinators/InPlace.antt). For example, `either P Q` has the result of P or the result of Q.
 -- - `Enters P there`: the next symbol begins a text of P, or is an error of P
 -- - `Avoids A there`: the next symbol is not in the set A
 -- - `covers_left`, `covers_right`: `either` has the texts and errors of one alternative, if the next symbol does not
@@ -10,10 +10,10 @@ use Rattle.std.proofs.Common.{arith, ◌≡◌, ◌⊎◌, List, [], ◌∷◌, 
 use Rattle.std.proofs.Common.{rules, ⊎_elim}
 use Rattle.ps_text.specs.Answers.{Begins, first_of}
 use Rattle.ps_text.specs.Parts.{Part, IsRead, IsBroken, one, then_by, mapped, either}
-use Rattle.ps_text.proofs.Laws.{Laws, Or, When, Apart, Joint}
-use Rattle.ps_text.proofs.InPlace.{Covers}
-use Rattle.ps_text.proofs.Joined.{begins_left}
-use Rattle.ps_text.proofs.Simple.{same_some}
+use Rattle.ps_text.proofs.Combinators.Laws.{Laws, Or, When, Apart, Joint}
+use Rattle.ps_text.proofs.Combinators.InPlace.{Covers}
+use Rattle.ps_text.proofs.Combinators.Joined.{begins_left}
+use Rattle.ps_text.proofs.Combinators.Simple.{same_some}
 
 abbrev pub Enters : {T V F : Type 0} → Part T V F → Option T → Type 0
 Enters P None = ⊥

@@ -19,12 +19,12 @@ use Rattle.ps_text.specs.declared.faults.Fault.{Fault}
 use Rattle.ps_text.specs.declared.faults.Fault.TheVariants.{Text}
 use Rattle.ps_text.specs.Bytes.{Seen, byte_causes, take_byte, byte}
 use Rattle.ps_text.specs.Cursors.{next_byte, stream_offset}
-use Rattle.ps_text.proofs.Laws.{Laws, Nothing, Or, Apart, weaker}
-use Rattle.ps_text.proofs.Simple.{none_is_some, same_some, Taken, BadSign, laws_one, refused}
-use Rattle.ps_text.proofs.Covered.{Avoids, Enters, enters_one}
-use Rattle.ps_text.proofs.Exits.{reads_next}
-use Rattle.ps_text.proofs.Outcomes.{has_one}
-use Rattle.ps_text.proofs.Decisions.{judge_none}
+use Rattle.ps_text.proofs.Combinators.Laws.{Laws, Nothing, Or, Apart, weaker}
+use Rattle.ps_text.proofs.Combinators.Simple.{none_is_some, same_some, Taken, BadSign, laws_one, refused}
+use Rattle.ps_text.proofs.Combinators.Covered.{Avoids, Enters, enters_one}
+use Rattle.ps_text.proofs.ParsedAnswers.Exits.{reads_next}
+use Rattle.ps_text.proofs.ParsedAnswers.Outcomes.{has_one}
+use Rattle.ps_text.proofs.ParsedAnswers.Decisions.{judge_none}
 
 pub refuted : {A : Type 0} {truth : Bool} → (A → truth ≡ true) → truth ≡ false → A → ⊥
 refuted f e a = let y : true ≡ false = sym (f a) ∙ e in cc

@@ -18,10 +18,11 @@ use Rattle.ps_text.specs.Readers.{Reads, Stops, Meets, Carries}
 use Rattle.ps_text.specs.Faults.{found_of}
 use Rattle.ps_text.specs.declared.faults.Fault.{Fault}
 use Rattle.ps_text.specs.Bytes.{Seen, byte_causes, word}
-use Rattle.ps_text.proofs.Exits.{exits, reads_give, reads_mapped, stops_mapped, stops_first, carries_start}
-use Rattle.ps_text.proofs.Exits.{carries_then}
-use Rattle.ps_text.proofs.Branches.{Stands, reads_as, stops_as_well}
-use Rattle.ps_text.proofs.Bytes.Lawful.{Chain}
+use Rattle.ps_text.proofs.ParsedAnswers.Exits.{exits, reads_give, reads_mapped, stops_mapped, stops_first}
+use Rattle.ps_text.proofs.ParsedAnswers.Exits.{carries_start}
+use Rattle.ps_text.proofs.ParsedAnswers.Exits.{carries_then}
+use Rattle.ps_text.proofs.ParsedAnswers.Branches.{Stands, reads_as, stops_as_well}
+use Rattle.ps_text.proofs.BytesAndDigits.Bytes.Lawful.{Chain}
 
 pub value_is : {V C : Type 0} {P : Part Seen V C} {old new : Stream Seen} {v w : V} → v ≡ w → Reads P old v new →
     Reads P old w new

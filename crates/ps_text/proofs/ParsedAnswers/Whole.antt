@@ -16,12 +16,13 @@ use Rattle.ps_text.specs.Answers.{signs}
 use Rattle.ps_text.specs.Parts.{Part, Causes, IsWrong, by_part, by_sign, by_grammar, PartAnswers, IsRead, IsBroken}
 use Rattle.ps_text.specs.Parts.{IsFault, IsFaultAt, is_cause, is_refusal, CleanUpTo, NoCauseAt, refusal_of}
 use Rattle.ps_text.specs.Readers.{IsSuffix, StopsWith}
-use Rattle.ps_text.proofs.Splits.{Compared, shorter, same, longer, compared, length_more, head_of, inside_of}
-use Rattle.ps_text.proofs.Laws.{Laws}
-use Rattle.ps_text.proofs.InPlace.{quiet_at, read_quiet, fault_begins}
-use Rattle.ps_text.proofs.Joined.{begins_on, text_begins}
-use Rattle.ps_text.proofs.Simple.{same_some, none_is_some}
-use Rattle.ps_text.proofs.OneAnswer.{signs_split}
+use Rattle.ps_text.proofs.Combinators.Splits.{Compared, shorter, same, longer, compared, length_more, head_of}
+use Rattle.ps_text.proofs.Combinators.Splits.{inside_of}
+use Rattle.ps_text.proofs.Combinators.Laws.{Laws}
+use Rattle.ps_text.proofs.Combinators.InPlace.{quiet_at, read_quiet, fault_begins}
+use Rattle.ps_text.proofs.Combinators.Joined.{begins_on, text_begins}
+use Rattle.ps_text.proofs.Combinators.Simple.{same_some, none_is_some}
+use Rattle.ps_text.proofs.ParsedAnswers.OneAnswer.{signs_split}
 
 abbrev pub Own : {T F : Type 0} → Causes T F → T → Type 0
 Own {T} {F} causes t = (f : F) × (causes.own t ≡ Some f)

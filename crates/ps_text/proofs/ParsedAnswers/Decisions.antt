@@ -12,8 +12,8 @@ use Rattle.std.proofs.Common.{inl, rules, inr, Option, None, Some, arith}
 use Rattle.std.specs.Prelude.{IfSome}
 use Rattle.std.specs.List.{Contains}
 use Rattle.std.proofs.lemmas.Bool.{cases_eq, cases_lt}
-use Rattle.ps_text.proofs.Outcomes.{Judged, bad, good, bad_only}
-use Rattle.ps_text.proofs.Simple.{none_is_some}
+use Rattle.ps_text.proofs.ParsedAnswers.Outcomes.{Judged, bad, good, bad_only}
+use Rattle.ps_text.proofs.Combinators.Simple.{none_is_some}
 
 abbrev pub Decided : Type 0 → Type 0
 Decided A = A ⊎ ¬ A

@@ -17,8 +17,8 @@
 -- - `carries_start`, `carries_then`, `carries_reads`, `carries_stops`: the invariant `Carries` of a parsing loop holds
 --   at the start and after a grammar was parsed; at the loop's exits, it gives the result of parsing the whole
 --
--- For successive calls, nest `reads_then`; j is a proof of `Joint` (proofs/Laws.antt) for the two grammars that are
--- parsed one after the other. In `exits`, s states what the error reports (`Stops`), and c, which is
+-- For successive calls, nest `reads_then`; j is a proof of `Joint` (proofs/Combinators/Laws.antt) for the two grammars
+-- that are parsed one after the other. In `exits`, s states what the error reports (`Stops`), and c, which is
 -- `c.from_residual.ensures.1`, states that the result is this error. For example, the following calls parse the grammar
 -- `line = then_by number (λ n. mapped (λ _. n) semicolon)`:
 --         let n = number(tokens)?; semicolon(tokens)?; Ok(n)
@@ -33,10 +33,11 @@ use Rattle.std.proofs.lemmas.Result.{err_from_is_err_and}
 use Rattle.ps_text.specs.Answers.{Piece, Stream, Found, first_of, next_of, signs, offset_of}
 use Rattle.ps_text.specs.Parts.{Part, Causes, IsFault, give, one, then_by, mapped}
 use Rattle.ps_text.specs.Readers.{refusal_at, tail, tail_of, IsSuffix, StopsWith, Stops, Reads, Meets, Carries}
-use Rattle.ps_text.proofs.Laws.{Joint}
-use Rattle.ps_text.proofs.Joined.{read_then, fault_left, fault_right}
-use Rattle.ps_text.proofs.Simple.{none_is_some, same_some, read_give, read_one, bad_one, refused_one, read_mapped}
-use Rattle.ps_text.proofs.Simple.{fault_mapped}
+use Rattle.ps_text.proofs.Combinators.Laws.{Joint}
+use Rattle.ps_text.proofs.Combinators.Joined.{read_then, fault_left, fault_right}
+use Rattle.ps_text.proofs.Combinators.Simple.{none_is_some, same_some, read_give, read_one, bad_one, refused_one}
+use Rattle.ps_text.proofs.Combinators.Simple.{read_mapped}
+use Rattle.ps_text.proofs.Combinators.Simple.{fault_mapped}
 
 pub suffix_refl : {T : Type 0} (s : Stream T) → IsSuffix s s
 suffix_refl s = record { taken = []; split = refl; end = refl }

@@ -17,7 +17,7 @@ use Rattle.std.proofs.Common.{inl, ◌∙◌, append_assoc, arith, length-append
 use Rattle.ps_text.specs.Answers.{Begins, first_of}
 use Rattle.ps_text.specs.Parts.{Part, Causes, IsRead, IsBroken, IsFault, IsFaultAt, is_cause, is_refusal, CleanUpTo}
 use Rattle.ps_text.specs.Parts.{StopsAt, NoCauseAt}
-use Rattle.ps_text.proofs.Splits.{inside, behind, placed, length_more, head_of}
+use Rattle.ps_text.proofs.Combinators.Splits.{inside, behind, placed, length_more, head_of}
 
 module _ {T V F : Type 0} (P : Part T V F) (front : List T) where
   pub stops_by : (there : Option T) → ((t : T) → there ≡ Some t → Begins P.IsText (front ++ t ∷ []) → ⊥) →

@@ -14,10 +14,11 @@ use Rattle.std.proofs.Common.{◌≡◌, ◌⊎◌, List, [], ◌∷◌, ◌++�
 use Rattle.std.proofs.Common.{inl, inr, append_assoc, append-nil, arith, rules}
 use Rattle.ps_text.specs.Answers.{Begins, first_of}
 use Rattle.ps_text.specs.Parts.{Part, Causes, IsRead, IsBroken, IsFault, CleanUpTo, StopsAt, IsBehind, then_by}
-use Rattle.ps_text.proofs.Splits.{Compared, shorter, same, longer, compared, inside_of}
-use Rattle.ps_text.proofs.Laws.{Laws, Joint, Apart}
-use Rattle.ps_text.proofs.InPlace.{stops_at, quiet_at, read_quiet, fault_begins, fault_from, Covers, read_as, fault_as}
-use Rattle.ps_text.proofs.InPlace.{after, read_after, fault_after}
+use Rattle.ps_text.proofs.Combinators.Splits.{Compared, shorter, same, longer, compared, inside_of}
+use Rattle.ps_text.proofs.Combinators.Laws.{Laws, Joint, Apart}
+use Rattle.ps_text.proofs.Combinators.InPlace.{stops_at, quiet_at, read_quiet, fault_begins, fault_from, Covers}
+use Rattle.ps_text.proofs.Combinators.InPlace.{read_as, fault_as}
+use Rattle.ps_text.proofs.Combinators.InPlace.{after, read_after, fault_after}
 
 pub text_begins : {T V : Type 0} (IsText : List T → V → Type 0) {text : List T} {v : V} → IsText text v →
     Begins IsText text

@@ -15,10 +15,10 @@ use Rattle.std.specs.Prelude.{◌==◌, if◌then◌else◌}
 use Rattle.std.proofs.lemmas.Bool.{eqb-true}
 use Rattle.ps_text.specs.Answers.{Begins, first_of}
 use Rattle.ps_text.specs.Parts.{Part, Causes, IsRead, IsFault, is_cause, give, one, then_by, mapped, refusal_of}
-use Rattle.ps_text.proofs.Splits.{Placed, inside, behind, placed, same_head, same_tail}
-use Rattle.ps_text.proofs.Laws.{Laws, Nothing, Or, When, Apart}
-use Rattle.ps_text.proofs.InPlace.{stops_by, stops_at, quiet_by, fault_from}
-use Rattle.ps_text.proofs.Joined.{GoesOn, begins_left, begins_right, joint, text_behind, cause_behind}
+use Rattle.ps_text.proofs.Combinators.Splits.{Placed, inside, behind, placed, same_head, same_tail}
+use Rattle.ps_text.proofs.Combinators.Laws.{Laws, Nothing, Or, When, Apart}
+use Rattle.ps_text.proofs.Combinators.InPlace.{stops_by, stops_at, quiet_by, fault_from}
+use Rattle.ps_text.proofs.Combinators.Joined.{GoesOn, begins_left, begins_right, joint, text_behind, cause_behind}
 
 -- if two options `Some` are equal, their values are equal
 pub same_some : {T : Type 0} (other value : T) → Some other ≡ Some value → other ≡ value

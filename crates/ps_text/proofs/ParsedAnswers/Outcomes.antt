@@ -15,17 +15,19 @@ use Rattle.ps_text.specs.Answers.{Begins, Piece, Stream, Found, HasOneMeaning, f
 use Rattle.ps_text.specs.Parts.{Part, Causes, PartAnswers, IsRead, IsBroken, IsFault, IsFaultAt, is_cause, is_refusal}
 use Rattle.ps_text.specs.Parts.{refusal_of, give, one, mapped, then_by, either, times, many, barred}
 use Rattle.ps_text.specs.Outcomes.{Outcome, was_read, has_fault, HasOutcomes, IsOrderly}
-use Rattle.ps_text.proofs.Splits.{same_tail}
-use Rattle.ps_text.proofs.Laws.{Laws, Or, When, Apart, Joint}
-use Rattle.ps_text.proofs.Joined.{begins_on, read_then, fault_left, fault_right}
-use Rattle.ps_text.proofs.Simple.{none_is_some, same_some, nil_is_cons, append_nil_left, read_give, read_one, bad_one}
-use Rattle.ps_text.proofs.Simple.{refused, refused_one, read_mapped, fault_mapped, laws_then}
-use Rattle.ps_text.proofs.InPlace.{read_as, fault_as}
-use Rattle.ps_text.proofs.Covered.{Enters, Avoids, enters_broken, enters_read}
-use Rattle.ps_text.proofs.Repeated.{joint_many, joint_times, more_items, covers_item, laws_many, read_nothing}
-use Rattle.ps_text.proofs.Branches.{Stands, left_entered, right_otherwise, item_entered, shrinks}
-use Rattle.ps_text.proofs.Barred.{Bar, read_barred, fault_barred, fault_bar}
-use Rattle.ps_text.proofs.Whole.{Own, answers_ok, answers_fault, answers_trailing}
+use Rattle.ps_text.proofs.Combinators.Splits.{same_tail}
+use Rattle.ps_text.proofs.Combinators.Laws.{Laws, Or, When, Apart, Joint}
+use Rattle.ps_text.proofs.Combinators.Joined.{begins_on, read_then, fault_left, fault_right}
+use Rattle.ps_text.proofs.Combinators.Simple.{none_is_some, same_some, nil_is_cons, append_nil_left, read_give}
+use Rattle.ps_text.proofs.Combinators.Simple.{read_one, bad_one}
+use Rattle.ps_text.proofs.Combinators.Simple.{refused, refused_one, read_mapped, fault_mapped, laws_then}
+use Rattle.ps_text.proofs.Combinators.InPlace.{read_as, fault_as}
+use Rattle.ps_text.proofs.Combinators.Covered.{Enters, Avoids, enters_broken, enters_read}
+use Rattle.ps_text.proofs.Combinators.Repeated.{joint_many, joint_times, more_items, covers_item, laws_many}
+use Rattle.ps_text.proofs.Combinators.Repeated.{read_nothing}
+use Rattle.ps_text.proofs.ParsedAnswers.Branches.{Stands, left_entered, right_otherwise, item_entered, shrinks}
+use Rattle.ps_text.proofs.Combinators.Barred.{Bar, read_barred, fault_barred, fault_bar}
+use Rattle.ps_text.proofs.ParsedAnswers.Whole.{Own, answers_ok, answers_fault, answers_trailing}
 
 -- it is decided which of the errors that `Bad` states has the smallest number, or that there is no such error
 pub data Judged {F : Type 0} (number : F → ℕ) (Bad : F → Type 0) : Type 0 where

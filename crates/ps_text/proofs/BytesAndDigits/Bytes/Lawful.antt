@@ -15,15 +15,15 @@ use Rattle.std.proofs.Common.{◌≡◌, ◌⊎◌, ℕ, Bool, true, List, [], �
 use Rattle.ps_text.specs.Parts.{Part, give, one, then_by, either, many, mapped}
 use Rattle.ps_text.specs.Outcomes.{HasOutcomes}
 use Rattle.ps_text.specs.Bytes.{Seen, byte_causes, byte, word, run}
-use Rattle.ps_text.proofs.Laws.{Laws, Joint, Nothing, Or, When, Within, Apart, weaker}
-use Rattle.ps_text.proofs.Joined.{joint}
-use Rattle.ps_text.proofs.Simple.{Taken, BadSign, laws_give, laws_one, laws_mapped, laws_then}
-use Rattle.ps_text.proofs.Covered.{laws_either}
-use Rattle.ps_text.proofs.Repeated.{laws_many}
-use Rattle.ps_text.proofs.Outcomes.{Judged, has_give, has_one, has_mapped, has_then, has_either, has_many}
-use Rattle.ps_text.proofs.Bytes.Single.{Odd, At, Any, not_odd, laws_byte, has_byte}
-use Rattle.ps_text.proofs.Bytes.Runs.{laws_run}
-use Rattle.ps_text.proofs.Bytes.RunOutcomes.{has_run}
+use Rattle.ps_text.proofs.Combinators.Laws.{Laws, Joint, Nothing, Or, When, Within, Apart, weaker}
+use Rattle.ps_text.proofs.Combinators.Joined.{joint}
+use Rattle.ps_text.proofs.Combinators.Simple.{Taken, BadSign, laws_give, laws_one, laws_mapped, laws_then}
+use Rattle.ps_text.proofs.Combinators.Covered.{laws_either}
+use Rattle.ps_text.proofs.Combinators.Repeated.{laws_many}
+use Rattle.ps_text.proofs.ParsedAnswers.Outcomes.{Judged, has_give, has_one, has_mapped, has_then, has_either, has_many}
+use Rattle.ps_text.proofs.BytesAndDigits.Bytes.Single.{Odd, At, Any, not_odd, laws_byte, has_byte}
+use Rattle.ps_text.proofs.BytesAndDigits.Bytes.Runs.{laws_run}
+use Rattle.ps_text.proofs.BytesAndDigits.Bytes.RunOutcomes.{has_run}
 
 pub record Lawful {V C : Type 0} (number : C → ℕ) (syntax : C) (part : Part Seen V C) (First More : Seen → Type 0)
     (Null : Type 0) : Type 0 where
