@@ -61,8 +61,17 @@ impl<K: Hashed> KeyList<K> {
         ensures value { result ≡ length self.now }
         ensures few { result < 2 ^ 32 }
     {
-        let _ = &self.table;
+        self.keys_are_few();
         self.list.len()
+    }
+
+    /// There are fewer than 2^32 keys: the prover learns it here.
+    #[inline(always)]
+    pub fn keys_are_few(&self)
+        ensures { length self.now < 2 ^ 32 }
+    {
+        // the table has more slots than keys
+        let _ = &self.table;
     }
 
     /// The last index of a key that equals this one.

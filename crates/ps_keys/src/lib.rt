@@ -12,6 +12,7 @@
 //! | `KeyList::place_of(key)` | the index of a key in the list, to which it is appended if it is new |
 //! | `KeyList::find(key)` | the index of a key in the list, or none |
 //! | `KeyList::as_slice`, `len` | the keys in the order in which they were appended, and their number |
+//! | `KeyList::keys_are_few` | a fact: there are fewer than 2^32 keys |
 //! | `KeyMap::get(key)`, `put(key, value)` | the value of a key, if it has one; gives a value to a key that has none |
 #![tactic(auto)]
 

@@ -132,8 +132,6 @@ impl Table {
         ensures keys { HasKeys K.hash list.now (place + 1) self.new }
         ensures size { length self.new.slots.items ≡ length self.old.slots.items }
     {
-        let _ = list;
-        let _ = key;
         self.slots[free.slot] = tag_of(free.hash, self.slots.len()) + (place as u32 + 1);
         self.reach = self.reach.max(free.passed + 1);
     }
