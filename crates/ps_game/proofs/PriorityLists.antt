@@ -13,7 +13,7 @@ use Rattle.ps_ids.proofs.Members.{any-from_Contains, Contains-any}
 use Rattle.ps_game.specs.Games.{ParityGame, vertex_count, priority_of}
 use Rattle.ps_game.specs.Plays.{greatest}
 use Rattle.ps_game.specs.Ranking.{ListsPriorities}
-use Rattle.ps_game.proofs.LoopPriorities.{le-greatest}
+use Rattle.ps_game.proofs.PathsAndLoops.LoopPriorities.{le-greatest}
 
 -- for each game and parity, an ascending list of the game's priorities of this parity exists
 pub priorities_there : (game : ParityGame) (parity : ℕ) → (list : List ℕ) × ListsPriorities game parity list

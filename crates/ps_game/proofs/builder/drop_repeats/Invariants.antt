@@ -1,4 +1,4 @@
-use Rattle.ps_game.proofs.DistinctByStamps.{IsDropped}
+use Rattle.ps_game.proofs.StoredGames.DistinctByStamps.{IsDropped}
 use Rattle.ps_game.proofs.builder.drop_repeats.Given as goal
 
 abbrev pub invariant-loop-number : goal.invariant-loop-number

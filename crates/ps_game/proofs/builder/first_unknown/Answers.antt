@@ -1,7 +1,7 @@
 use Rattle.std.proofs.Common.{◌≡◌, get_or, below_more, rules}
 use Rattle.std.proofs.lemmas.List.{get_or_default}
 use Rattle.ps_game.specs.Games.{vertex_count, successors_of, no_vertex}
-use Rattle.ps_game.proofs.Unknown.{all_from_find}
+use Rattle.ps_game.proofs.StoredGames.Unknown.{all_from_find}
 use Rattle.ps_game.proofs.builder.first_unknown.Goals as goal
 
 pub loop-number-preserved : goal.loop-number-preserved

@@ -1,5 +1,5 @@
 use Rattle.std.proofs.Common.{◌<◌, length, get_or, refl, arith}
-use Rattle.ps_game.proofs.DistinctByStamps.{keep, leave}
+use Rattle.ps_game.proofs.StoredGames.DistinctByStamps.{keep, leave}
 use Rattle.ps_game.proofs.builder.keep_first_places.Goals as goal
 use Rattle.ps_game.proofs.builder.keep_first_places.Goals.{then-seen-number, else-seen-number}
 

@@ -1,4 +1,4 @@
-use Rattle.ps_game.proofs.DistinctByStamps.{IsKept}
+use Rattle.ps_game.proofs.StoredGames.DistinctByStamps.{IsKept}
 use Rattle.ps_game.proofs.builder.keep_first_places.Given as goal
 
 abbrev pub invariant-loop-place : goal.invariant-loop-place

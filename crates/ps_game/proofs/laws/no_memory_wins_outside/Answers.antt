@@ -1,6 +1,6 @@
 use Rattle.std.proofs.Common.{rules}
-use Rattle.ps_game.proofs.Beaten.{histories_beaten}
-use Rattle.ps_game.proofs.Memory.{WinsByNoMemory-AllHistoriesBeaten}
+use Rattle.ps_game.proofs.PathsAndLoops.Beaten.{histories_beaten}
+use Rattle.ps_game.proofs.PathsAndLoops.Memory.{WinsByNoMemory-AllHistoriesBeaten}
 use Rattle.ps_game.proofs.laws.no_memory_wins_outside.Goals as goal
 
 pub returns : goal.returns

@@ -1,4 +1,4 @@
-use Rattle.ps_game.proofs.OnPaths.{HoldsWithin-same_moves}
+use Rattle.ps_game.proofs.PathsAndLoops.OnPaths.{HoldsWithin-same_moves}
 use Rattle.ps_game.proofs.laws.only_own_moves_matter.Goals as goal
 
 pub returns : goal.returns

@@ -2,7 +2,7 @@ use Rattle.std.proofs.Common.{◌<◌, length, get_or, arith}
 use Rattle.std.proofs.lemmas.Bool.{false≢true}
 use Rattle.ps_game.specs.Games.{vertex_count, successors_of}
 use Rattle.ps_game.specs.Regions.{has}
-use Rattle.ps_game.proofs.SubgameFacts.{edge_at, none_leads}
+use Rattle.ps_game.proofs.PathsAndLoops.SubgameFacts.{edge_at, none_leads}
 use Rattle.ps_game.proofs.subgame.goes_on.Goals as goal
 
 pub contains-requires : goal.contains-requires

@@ -1,5 +1,5 @@
 use Rattle.std.proofs.Common.{rules}
-use Rattle.ps_game.proofs.Groups.{group_summed, group_fits}
+use Rattle.ps_game.proofs.StoredGames.Groups.{group_summed, group_fits}
 use Rattle.ps_game.proofs.words.count_set.Goals as goal
 
 pub loop-group-preserved : goal.loop-group-preserved

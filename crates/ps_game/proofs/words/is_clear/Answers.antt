@@ -1,5 +1,5 @@
 use Rattle.std.proofs.Common.{rules}
-use Rattle.ps_game.proofs.Groups.{group_clear, clear_group}
+use Rattle.ps_game.proofs.StoredGames.Groups.{group_clear, clear_group}
 use Rattle.ps_game.proofs.words.is_clear.Goals as goal
 
 pub loop-group-preserved : goal.loop-group-preserved

@@ -3,7 +3,7 @@ use Rattle.std.specs.Int.{bit_not, w64}
 use Rattle.std.specs.Simd.Lanes.{chunk}
 use Rattle.std.proofs.lemmas.List.{get_or-map, length-map}
 use Rattle.std.proofs.lemmas.Simd.{get_or-chunk, length-chunk}
-use Rattle.ps_game.proofs.Groups.{group_combined}
+use Rattle.ps_game.proofs.StoredGames.Groups.{group_combined}
 use Rattle.ps_game.proofs.words.subtract.Goals as goal
 
 pub loop-group-preserved : goal.loop-group-preserved

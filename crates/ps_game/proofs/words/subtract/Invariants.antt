@@ -1,7 +1,7 @@
 use Rattle.std.proofs.Common.{◌*◌, get_or}
 use Rattle.std.specs.Prelude.{bit_and}
 use Rattle.std.specs.Int.{bit_not, w64}
-use Rattle.ps_game.proofs.Groups.{AreCombined}
+use Rattle.ps_game.proofs.StoredGames.Groups.{AreCombined}
 use Rattle.ps_game.proofs.words.subtract.Given as goal
 
 abbrev pub invariant-loop-group : goal.invariant-loop-group

@@ -1,7 +1,7 @@
 use Rattle.std.proofs.Common.{◌*◌, arith}
 use Rattle.std.specs.Simd.Lanes.{chunk}
 use Rattle.std.proofs.lemmas.Simd.{get_or-chunk, length-chunk}
-use Rattle.ps_game.proofs.Groups.{group_combined}
+use Rattle.ps_game.proofs.StoredGames.Groups.{group_combined}
 use Rattle.ps_game.proofs.words.unite.Goals as goal
 
 pub loop-group-preserved : goal.loop-group-preserved

@@ -1,6 +1,6 @@
 use Rattle.std.proofs.Common.{◌*◌, get_or}
 use Rattle.std.specs.Prelude.{bit_or}
-use Rattle.ps_game.proofs.Groups.{AreCombined}
+use Rattle.ps_game.proofs.StoredGames.Groups.{AreCombined}
 use Rattle.ps_game.proofs.words.unite.Given as goal
 
 abbrev pub invariant-loop-group : goal.invariant-loop-group

@@ -1,6 +1,6 @@
 use Rattle.std.proofs.Common.{rules}
 use Rattle.ps_game.specs.Drafts.{NoneUnknown}
-use Rattle.ps_game.proofs.Unknown.{first_unknown_once, no_first_unknown}
+use Rattle.ps_game.proofs.StoredGames.Unknown.{first_unknown_once, no_first_unknown}
 use Rattle.ps_game.proofs.builder.GameBuilder.finish.Goals as goal
 use Rattle.ps_game.proofs.builder.GameBuilder.finish.Goals.{In_default-first_unknown}
 

@@ -1,5 +1,5 @@
 use Rattle.std.proofs.Common.{◌∙◌}
-use Rattle.ps_game.proofs.FlatArrays.{edges_count}
+use Rattle.ps_game.proofs.StoredGames.FlatArrays.{edges_count}
 use Rattle.ps_game.proofs.flat.FlatGame.edges.Goals as goal
 
 pub returns : goal.returns

@@ -1,5 +1,5 @@
 use Rattle.std.proofs.Common.{arith, rules}
-use Rattle.ps_game.proofs.FlatArrays.{offsets_fit, successors_fit}
+use Rattle.ps_game.proofs.StoredGames.FlatArrays.{offsets_fit, successors_fit}
 use Rattle.ps_game.proofs.flat.FlatGame.in_width.Goals as goal
 
 pub in_width-requires : goal.in_width-requires

@@ -1,5 +1,5 @@
 use Rattle.std.proofs.Common.{arith}
-use Rattle.ps_game.proofs.FlatArrays.{owners_count}
+use Rattle.ps_game.proofs.StoredGames.FlatArrays.{owners_count}
 use Rattle.ps_game.proofs.flat.FlatGameArena.count.Goals as goal
 
 pub returns-clause-vertices : goal.returns-clause-vertices

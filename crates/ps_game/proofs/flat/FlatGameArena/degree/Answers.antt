@@ -1,5 +1,5 @@
 use Rattle.std.proofs.Common.{arith}
-use Rattle.ps_game.proofs.FlatArrays.{stands}
+use Rattle.ps_game.proofs.StoredGames.FlatArrays.{stands}
 use Rattle.ps_game.proofs.flat.FlatGameArena.degree.Goals as goal
 
 pub overflow_add-vertex : goal.overflow_add-vertex

@@ -1,6 +1,6 @@
 use Rattle.std.proofs.Common.{arith}
 use Rattle.std.proofs.lemmas.Grind.{get_or_default_zero}
-use Rattle.ps_game.proofs.FlatArrays.{stands}
+use Rattle.ps_game.proofs.StoredGames.FlatArrays.{stands}
 use Rattle.ps_game.proofs.flat.FlatGameArena.owner.Goals as goal
 
 pub index-requires : goal.index-requires

@@ -1,5 +1,5 @@
 use Rattle.std.proofs.Common.{arith}
-use Rattle.ps_game.proofs.FlatArrays.{stands, successor_is}
+use Rattle.ps_game.proofs.StoredGames.FlatArrays.{stands, successor_is}
 use Rattle.ps_game.proofs.flat.FlatGameArena.successor.Goals as goal
 
 pub at-requires : goal.at-requires

@@ -1,7 +1,7 @@
 use Rattle.std.proofs.Common.{◌≡◌, ◌+◌, ◌≤◌, suc, arith, length}
 use Rattle.std.proofs.lemmas.List.{get_or_default}
 use Rattle.std.proofs.lemmas.Option.{slice_get_past}
-use Rattle.ps_game.proofs.NameParts.{count_of_parts, part_at}
+use Rattle.ps_game.proofs.StoredGames.NameParts.{count_of_parts, part_at}
 use Rattle.ps_game.proofs.names.Names.get.Goals as goal
 use Rattle.ps_game.proofs.names.Names.get.Goals.{After-index-2}
 

@@ -1,5 +1,5 @@
 use Rattle.std.proofs.Common.{rules}
-use Rattle.ps_game.proofs.NameParts.{offsets_more, parts_of_more}
+use Rattle.ps_game.proofs.StoredGames.NameParts.{offsets_more, parts_of_more}
 use Rattle.ps_game.proofs.names.Names.push.Goals as goal
 
 pub invariant_of-self-2 : goal.invariant_of-self-2

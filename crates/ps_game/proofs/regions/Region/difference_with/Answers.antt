@@ -1,7 +1,7 @@
 use Rattle.std.proofs.Common.{◌&&◌, not, rules}
 use Rattle.std.specs.Vec.{with_items}
 use Rattle.std.proofs.lemmas.List.{with_items_is}
-use Rattle.ps_game.proofs.WordSets.{IsMade, same_words, difference_made}
+use Rattle.ps_game.proofs.StoredGames.WordSets.{IsMade, same_words, difference_made}
 use Rattle.ps_game.proofs.regions.Region.difference_with.Goals as goal
 use Rattle.ps_game.proofs.regions.Region.difference_with.Goals.{After-subtract}
 

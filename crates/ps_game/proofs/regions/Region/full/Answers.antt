@@ -1,5 +1,5 @@
 use Rattle.std.proofs.Common.{true, replicate, arith}
-use Rattle.ps_game.proofs.WordSets.{AreWords, full_part, full_whole}
+use Rattle.ps_game.proofs.StoredGames.WordSets.{AreWords, full_part, full_whole}
 use Rattle.ps_game.proofs.regions.Region.full.Goals as goal
 use Rattle.ps_game.proofs.regions.Region.full.Goals.{Joined-rest-gt0, then-rest-gt0, else-rest-gt0}
 

@@ -1,5 +1,5 @@
 use Rattle.std.proofs.Common.{rules}
-use Rattle.ps_game.proofs.WordSets.{places_are}
+use Rattle.ps_game.proofs.StoredGames.WordSets.{places_are}
 use Rattle.ps_game.proofs.regions.Region.places.Goals as goal
 
 pub returns : goal.returns

@@ -1,5 +1,5 @@
 use Rattle.std.proofs.Common.{rules}
-use Rattle.ps_game.proofs.WordSets.{places_are, bit_cleared}
+use Rattle.ps_game.proofs.StoredGames.WordSets.{places_are, bit_cleared}
 use Rattle.ps_game.proofs.regions.Region.remove.Goals as goal
 
 pub index_mut-requires : goal.index_mut-requires

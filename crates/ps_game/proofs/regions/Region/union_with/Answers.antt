@@ -2,7 +2,7 @@ use Rattle.std.proofs.Common.{rules}
 use Rattle.std.specs.Prelude.{◌||◌}
 use Rattle.std.specs.Vec.{with_items}
 use Rattle.std.proofs.lemmas.List.{with_items_is}
-use Rattle.ps_game.proofs.WordSets.{IsMade, same_words, union_made}
+use Rattle.ps_game.proofs.StoredGames.WordSets.{IsMade, same_words, union_made}
 use Rattle.ps_game.proofs.regions.Region.union_with.Goals as goal
 use Rattle.ps_game.proofs.regions.Region.union_with.Goals.{After-unite}
 

@@ -1,5 +1,5 @@
 use Rattle.std.proofs.Common.{rules}
-use Rattle.ps_game.proofs.MoveLists.{no_moves}
+use Rattle.ps_game.proofs.StoredGames.MoveLists.{no_moves}
 use Rattle.ps_game.proofs.strategy.Strategy.empty.Goals as goal
 
 pub returns : goal.returns

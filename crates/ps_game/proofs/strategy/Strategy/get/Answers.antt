@@ -1,6 +1,6 @@
 use Rattle.std.proofs.Common.{◌∙◌, Some, sym, ap, rules}
 use Rattle.std.proofs.lemmas.Grind.{get_or_default_zero}
-use Rattle.ps_game.proofs.MoveLists.{length-moves_of, move_read}
+use Rattle.ps_game.proofs.StoredGames.MoveLists.{length-moves_of, move_read}
 use Rattle.ps_game.proofs.strategy.Strategy.get.Goals as goal
 
 pub contains-requires : goal.contains-requires

@@ -1,5 +1,5 @@
 use Rattle.std.proofs.Common.{rules}
-use Rattle.ps_game.proofs.MoveLists.{length-moves_of}
+use Rattle.ps_game.proofs.StoredGames.MoveLists.{length-moves_of}
 use Rattle.ps_game.proofs.strategy.Strategy.places.Goals as goal
 
 pub returns : goal.returns

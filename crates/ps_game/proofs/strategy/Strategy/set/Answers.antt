@@ -1,5 +1,5 @@
 use Rattle.std.proofs.Common.{rules}
-use Rattle.ps_game.proofs.MoveLists.{length-moves_of, one_moved}
+use Rattle.ps_game.proofs.StoredGames.MoveLists.{length-moves_of, one_moved}
 use Rattle.ps_game.proofs.strategy.Strategy.set.Goals as goal
 
 pub insert-requires : goal.insert-requires

@@ -1,6 +1,6 @@
 use Rattle.std.proofs.Common.{◌∙◌, rules}
 use Rattle.std.proofs.lemmas.List.{map-id}
-use Rattle.ps_game.proofs.FlatArrays.{game_flat}
+use Rattle.ps_game.proofs.StoredGames.FlatArrays.{game_flat}
 use Rattle.ps_game.proofs.vertices.Vertices.as_game.Goals as goal
 
 pub invariant_of-result : goal.invariant_of-result

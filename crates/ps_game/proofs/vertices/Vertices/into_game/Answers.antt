@@ -1,7 +1,7 @@
 use Rattle.std.proofs.Common.{subst, rules}
 use Rattle.ps_game.specs.Games.{IsGame}
-use Rattle.ps_game.proofs.Finished.{IsGame-without_repeats}
-use Rattle.ps_game.proofs.VertexArrays.{without_repeats-same}
+use Rattle.ps_game.proofs.StoredGames.Finished.{IsGame-without_repeats}
+use Rattle.ps_game.proofs.StoredGames.VertexArrays.{without_repeats-same}
 use Rattle.ps_game.proofs.vertices.Vertices.into_game.Goals as goal
 
 pub as_game-requires : goal.as_game-requires

@@ -1,5 +1,5 @@
 use Rattle.std.proofs.Common.{rules}
-use Rattle.ps_game.proofs.VertexArrays.{all_tested-each, successors-below}
+use Rattle.ps_game.proofs.StoredGames.VertexArrays.{all_tested-each, successors-below}
 use Rattle.ps_game.proofs.vertices.Vertices.know_successors.Goals as goal
 
 pub returns-then-are_places : goal.returns-then-are_places

@@ -3,7 +3,7 @@ use Rattle.std.proofs.lemmas.Grind.{get_or_default_zero}
 use Rattle.std.proofs.lemmas.List.{take_more}
 use Rattle.std.proofs.lemmas.List.Elements.{All-get_or}
 use Rattle.ps_game.specs.Games.{VertexData, no_vertex, vertex_count, owner_of, priority_of, successors_of}
-use Rattle.ps_game.proofs.FlatArrays.{stands}
+use Rattle.ps_game.proofs.StoredGames.FlatArrays.{stands}
 use Rattle.ps_game.proofs.vertices.Vertices.listed.Goals as goal
 
 pub of_number-requires : goal.of_number-requires

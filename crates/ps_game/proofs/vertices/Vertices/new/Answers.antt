@@ -1,5 +1,5 @@
 use Rattle.std.proofs.Common.{[], ◌∷◌, ◌++◌, ap, ◌∙◌, arith, rules}
-use Rattle.ps_game.proofs.VertexArrays.{StandFor, stand_for, tell_none}
+use Rattle.ps_game.proofs.StoredGames.VertexArrays.{StandFor, stand_for, tell_none}
 use Rattle.ps_game.proofs.vertices.Vertices.new.Goals as goal
 use Rattle.ps_game.proofs.vertices.Vertices.new.Goals.{After-new-3}
 

@@ -1,7 +1,7 @@
 use Rattle.std.proofs.Common.{ℕ, ◌<◌, List, [], ◌∷◌, ◌++◌, ap, ◌∙◌, arith, rules}
 use Rattle.std.proofs.lemmas.List.Elements.{All-push}
 use Rattle.ps_game.specs.Games.{VertexData}
-use Rattle.ps_game.proofs.VertexArrays.{StandFor, stand_for, tell_more}
+use Rattle.ps_game.proofs.StoredGames.VertexArrays.{StandFor, stand_for, tell_more}
 use Rattle.ps_game.proofs.vertices.Vertices.push.Goals as goal
 use Rattle.ps_game.proofs.vertices.Vertices.push.Goals.{After-push_reserved-3}
 

@@ -3,8 +3,8 @@ use Rattle.std.proofs.lemmas.Grind.{common_steps}
 use Rattle.std.specs.List.{Contains}
 use Rattle.ps_ids.specs.Ids.{place_of}
 use Rattle.ps_game.specs.Drafts.{with_places}
-use Rattle.ps_game.proofs.FlatArrays.{All-successors}
-use Rattle.ps_game.proofs.VertexArrays.{StandFor, stand_for, players-placed, tell_placed, with_places-same}
+use Rattle.ps_game.proofs.StoredGames.FlatArrays.{All-successors}
+use Rattle.ps_game.proofs.StoredGames.VertexArrays.{StandFor, stand_for, players-placed, tell_placed, with_places-same}
 use Rattle.ps_game.proofs.vertices.Vertices.resolve.Goals as goal
 use Rattle.ps_game.proofs.vertices.Vertices.resolve.Goals.{After-places_in}
 

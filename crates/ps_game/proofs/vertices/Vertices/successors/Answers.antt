@@ -1,6 +1,6 @@
 use Rattle.std.proofs.Common.{arith, length-drop}
 use Rattle.ps_game.specs.Games.{successors_of}
-use Rattle.ps_game.proofs.FlatArrays.{IsPart, part_read}
+use Rattle.ps_game.proofs.StoredGames.FlatArrays.{IsPart, part_read}
 use Rattle.ps_game.proofs.vertices.Vertices.successors.Goals as goal
 use Rattle.ps_game.proofs.vertices.Vertices.successors.Goals.{After-index-end}
 

@@ -2,8 +2,8 @@ use Rattle.std.proofs.Common.{◌<◌, ◌≤◌, length, take, ap, ◌∙◌, a
 use Rattle.std.proofs.lemmas.Grind.{get_or_default_zero}
 use Rattle.std.proofs.lemmas.List.Elements.{All-take}
 use Rattle.ps_game.specs.Games.{VertexData, vertex_count}
-use Rattle.ps_game.proofs.FlatArrays.{owners_count}
-use Rattle.ps_game.proofs.VertexArrays.{StandFor, stand_for, tell_front}
+use Rattle.ps_game.proofs.StoredGames.FlatArrays.{owners_count}
+use Rattle.ps_game.proofs.StoredGames.VertexArrays.{StandFor, stand_for, tell_front}
 use Rattle.ps_game.proofs.vertices.Vertices.truncate.Goals as goal
 use Rattle.ps_game.proofs.vertices.Vertices.truncate.Goals.{After-truncate-4}
 

@@ -11,7 +11,7 @@ use Rattle.ps_game.specs.Games.{ParityGame, vertex_count}
 use Rattle.ps_game.specs.Plays.{IsPath, IsLoop}
 use Rattle.ps_game.specs.Strategies.{FiniteMemory, IsFiniteMemory, memory_at, Agrees, WinsFrom, WinsByNoMemory}
 use Rattle.ps_game.specs.Strategies.{last_vertex, IsHistoryTable, GoesBy, AllHistoriesBeaten}
-use Rattle.ps_game.proofs.Repeats.{repeats}
+use Rattle.ps_game.proofs.PathsAndLoops.Repeats.{repeats}
 
 module _ (game : ParityGame) (player : ℕ) (strategy : FiniteMemory) (is_strategy : IsFiniteMemory game player strategy)
   where

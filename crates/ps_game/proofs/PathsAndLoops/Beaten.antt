@@ -11,8 +11,8 @@ use Rattle.std.proofs.lemmas.List.{get_or_append_left, length_push}
 use Rattle.ps_game.specs.Games.{ParityGame, IsGame, vertex_count, owner_of, HasEdge}
 use Rattle.ps_game.specs.Plays.{IsPath, Follows, Holds, other_player}
 use Rattle.ps_game.specs.Strategies.{IsHistoryTable, GoesBy, AllHistoriesBeaten, last_vertex}
-use Rattle.ps_game.proofs.Paths.{IsPath-push, Follows-push, GoesBy-push}
-use Rattle.ps_game.proofs.Repeats.{HasLoop-IsPath}
+use Rattle.ps_game.proofs.PathsAndLoops.Paths.{IsPath-push, Follows-push, GoesBy-push}
+use Rattle.ps_game.proofs.PathsAndLoops.Repeats.{HasLoop-IsPath}
 
 -- a path of k + 1 vertices from v, on which the player who holds the set follows the table and the other player follows
 -- the history table

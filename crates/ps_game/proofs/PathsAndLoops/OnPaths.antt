@@ -6,7 +6,7 @@ use Rattle.std.proofs.lemmas.Bool.{cases_eq}
 use Rattle.ps_game.specs.Games.{ParityGame, vertex_count, owner_of}
 use Rattle.ps_game.specs.Plays.{IsPath, IsLoop, Follows, Holds, loop_priority}
 use Rattle.ps_game.specs.Subgames.{IsRound, IsTop, HoldsWithin}
-use Rattle.ps_game.proofs.LoopPriorities.{le-loop_priority, loop_priority_stands}
+use Rattle.ps_game.proofs.PathsAndLoops.LoopPriorities.{le-loop_priority, loop_priority_stands}
 
 -- the vertices of a path from position i on
 abbrev pub from_place : List ℕ → ℕ → ℕ → ℕ

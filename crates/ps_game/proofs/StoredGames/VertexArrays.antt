@@ -17,7 +17,7 @@ use Rattle.ps_ids.proofs.IdPlaces.{position_here}
 use Rattle.ps_game.specs.Games.{VertexData, ParityGame}
 use Rattle.ps_game.specs.Drafts.{distinct, without_repeats, with_places, AreOwn, HaveNoRepeats}
 use Rattle.ps_game.specs.Flat.{game_in, AreVertices, TellGame, all_successors}
-use Rattle.ps_game.proofs.FlatArrays.{front_within, game_is}
+use Rattle.ps_game.proofs.StoredGames.FlatArrays.{front_within, game_is}
 
 -- ---- adding a vertex
 

@@ -14,7 +14,7 @@ use Rattle.ps_game.specs.Games.{successors_of}
 use Rattle.ps_game.specs.Drafts.{NoneUnknown}
 use Rattle.ps_game.specs.Flat.{successors_in, vertex_in, game_in, AreFlat, FitsWithin, TellGame, all_successors}
 use Rattle.ps_game.specs.Flat.{edge_count}
-use Rattle.ps_game.proofs.SubgameFacts.{edge_at}
+use Rattle.ps_game.proofs.PathsAndLoops.SubgameFacts.{edge_at}
 
 -- ---- consecutive pieces
 
