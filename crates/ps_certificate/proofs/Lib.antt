@@ -1,25 +1,5 @@
-pub mod CountRule
-pub mod SuccessorEdges
-pub mod EntrySteps
-pub mod FirstFlaws
-pub mod TextFits
-pub mod Holding
-pub mod Keeping
-pub mod SomeFlaw
+pub mod FlawsAndValidity
+pub mod ReadCertificates
 pub mod SparseRows
-pub mod Lists
-pub mod Loops
-pub mod NumberPart
-pub mod Numerals
-pub mod OneFlaw
-pub mod OneReading
-pub mod PairLoops
-pub mod PairSteps
-pub mod ByteSteps
-pub mod CertificateParts
-pub mod NumberOutcomes
-pub mod TextLaws
-pub mod Windows
 pub mod Rereading
-pub mod ZeroRuns
 mod OneWinner

@@ -7,9 +7,9 @@ use Rattle.std.specs.Prelude.{IsSomeAnd, IfSome, slice_index, unwrap_or}
 use Rattle.std.proofs.lemmas.Bool.{cases_eq, eq-eqb, ne_eqb}
 use Rattle.ps_game.specs.Games.{ParityGame, vertex_count, owner_of, HasEdge}
 use Rattle.ps_game.specs.Plays.{IsPath, Follows, loop_priority}
-use Rattle.ps_game.proofs.Repeats.{HasLoop-IsPath}
+use Rattle.ps_game.proofs.PathsAndLoops.Repeats.{HasLoop-IsPath}
 use Rattle.ps_certificate.specs.Certificates.{CertificateData, Fits, IsValid, winner_of, choice_of}
-use Rattle.ps_certificate.proofs.Holding.{BothHold-from_valid}
+use Rattle.ps_certificate.proofs.FlawsAndValidity.Holding.{BothHold-from_valid}
 
 some_and : (P Q : ℕ → Type 0) (o : Option ℕ) → IsSomeAnd o P → IfSome o Q → (w : ℕ) × (o ≡ Some w) × P w × Q w
 some_and P Q o h k = search rules

@@ -9,7 +9,7 @@ use Rattle.std.specs.List.{All}
 use Rattle.std.proofs.lemmas.Bool.{eq-eqb, ne_eqb, eqb-true}
 use Rattle.std.proofs.lemmas.List.Elements.{All-head, All-tail}
 use Rattle.ps_certificate.specs.Pairs.{Pairs, with_pair}
-use Rattle.ps_certificate.proofs.OneReading.{Rises}
+use Rattle.ps_certificate.proofs.ReadCertificates.OneReading.{Rises}
 
 -- the counts known after the pairs of the priorities `ps` and their counts `cs` were read
 abbrev pub after : List ℕ → List ℕ → Pairs → Pairs

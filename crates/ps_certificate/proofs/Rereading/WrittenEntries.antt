@@ -21,14 +21,14 @@ use Rattle.std.proofs.lemmas.List.Kept.{AllPairs-from_increasing}
 use Rattle.ps_text.specs.Answers.{signs, first_of}
 use Rattle.ps_text.specs.Parts.{IsRead, give, one, then_by, many, mapped}
 use Rattle.ps_text.specs.Digits.{IsDigit, decimal_value}
-use Rattle.ps_text.proofs.InPlace.{Covers, read_as}
-use Rattle.ps_text.proofs.Laws.{Laws}
-use Rattle.ps_text.proofs.Joined.{read_then}
-use Rattle.ps_text.proofs.Simple.{same_some, read_give, read_one, read_mapped}
-use Rattle.ps_text.proofs.Covered.{Avoids, covers_left, covers_right}
-use Rattle.ps_text.proofs.Repeated.{read_item, read_none}
-use Rattle.ps_text.proofs.Whole.{answers_ok}
-use Rattle.ps_text.proofs.Decimals.{number_text, plain}
+use Rattle.ps_text.proofs.Combinators.InPlace.{Covers, read_as}
+use Rattle.ps_text.proofs.Combinators.Laws.{Laws}
+use Rattle.ps_text.proofs.Combinators.Joined.{read_then}
+use Rattle.ps_text.proofs.Combinators.Simple.{same_some, read_give, read_one, read_mapped}
+use Rattle.ps_text.proofs.Combinators.Covered.{Avoids, covers_left, covers_right}
+use Rattle.ps_text.proofs.Combinators.Repeated.{read_item, read_none}
+use Rattle.ps_text.proofs.ParsedAnswers.Whole.{answers_ok}
+use Rattle.ps_text.proofs.BytesAndDigits.Decimals.{number_text, plain}
 use Rattle.ps_game.specs.Games.{ParityGame, NamedGameData, IsNamedGame, vertex_count}
 use Rattle.ps_certificate.specs.declared.fault.CertCause.{CertCause}
 use Rattle.ps_certificate.specs.declared.fault.CertCause.TheVariants.{Syntax, OtherGame}
@@ -42,21 +42,28 @@ use Rattle.ps_certificate.specs.Texts.{version, winner, vertex_of, choice, count
 use Rattle.ps_certificate.specs.Texts.{entries, certificate, ReadsCertificate as ReadsText}
 use Rattle.ps_certificate.specs.Written.{fields, pairs, counts_text, move_text, entry_line, entry_lines, version_digit}
 use Rattle.ps_certificate.specs.Written.{head_text, IsWord, IsWritable, HasWords, text_in}
-use Rattle.ps_certificate.proofs.OneReading.{Rises, rises as rises_of}
+use Rattle.ps_certificate.proofs.ReadCertificates.OneReading.{Rises, rises as rises_of}
 use Rattle.ps_certificate.proofs.Rereading.CountsOfPairs.{after, after_counts}
-use Rattle.ps_text.proofs.Bytes.Lawful.{chain_word}
-use Rattle.ps_certificate.proofs.CertificateParts.{Chain}
-use Rattle.ps_certificate.proofs.TextLaws.{digit_no_space, first_taken, second_taken, dash, chosen, lawful_dash}
-use Rattle.ps_certificate.proofs.TextLaws.{lawful_chosen, laws_priority, chain_listed, chain_priorities, chain_count}
-use Rattle.ps_certificate.proofs.TextLaws.{chain_counts, laws_pair, chain_pair, chain_priority, chain_colon}
-use Rattle.ps_certificate.proofs.TextLaws.{chain_pairs, chain_id, chain_space, chain_winner, chain_second, chain_choice}
-use Rattle.ps_certificate.proofs.TextLaws.{chain_entries, chain_first, chain_version, chain_vertices, chain_number}
-use Rattle.ps_certificate.proofs.TextLaws.{chain_odd_word, chain_odd, chain_even_word, chain_even, lawful_certificate}
-use Rattle.ps_certificate.proofs.Numerals.{numeral_ended}
+use Rattle.ps_text.proofs.BytesAndDigits.Bytes.Lawful.{chain_word}
+use Rattle.ps_certificate.proofs.ReadCertificates.CertificateParts.{Chain}
+use Rattle.ps_certificate.proofs.ReadCertificates.TextLaws.{digit_no_space, first_taken, second_taken, dash, chosen}
+use Rattle.ps_certificate.proofs.ReadCertificates.TextLaws.{lawful_dash}
+use Rattle.ps_certificate.proofs.ReadCertificates.TextLaws.{lawful_chosen, laws_priority, chain_listed}
+use Rattle.ps_certificate.proofs.ReadCertificates.TextLaws.{chain_priorities, chain_count}
+use Rattle.ps_certificate.proofs.ReadCertificates.TextLaws.{chain_counts, laws_pair, chain_pair, chain_priority}
+use Rattle.ps_certificate.proofs.ReadCertificates.TextLaws.{chain_colon}
+use Rattle.ps_certificate.proofs.ReadCertificates.TextLaws.{chain_pairs, chain_id, chain_space, chain_winner}
+use Rattle.ps_certificate.proofs.ReadCertificates.TextLaws.{chain_second, chain_choice}
+use Rattle.ps_certificate.proofs.ReadCertificates.TextLaws.{chain_entries, chain_first, chain_version, chain_vertices}
+use Rattle.ps_certificate.proofs.ReadCertificates.TextLaws.{chain_number}
+use Rattle.ps_certificate.proofs.ReadCertificates.TextLaws.{chain_odd_word, chain_odd, chain_even_word, chain_even}
+use Rattle.ps_certificate.proofs.ReadCertificates.TextLaws.{lawful_certificate}
+use Rattle.ps_certificate.proofs.ReadCertificates.Numerals.{numeral_ended}
 use Rattle.ps_certificate.specs.Inner.Reading.{numeral}
-use Rattle.ps_certificate.proofs.NumberPart.{Odd, AtDigit, Settled, settled_other, settled_zero, settled_priority}
-use Rattle.ps_certificate.proofs.NumberPart.{run_length, read_run}
-use Rattle.ps_text.proofs.Bytes.Single.{At, byte_taken}
+use Rattle.ps_certificate.proofs.ReadCertificates.NumberPart.{Odd, AtDigit, Settled, settled_other, settled_zero}
+use Rattle.ps_certificate.proofs.ReadCertificates.NumberPart.{settled_priority}
+use Rattle.ps_certificate.proofs.ReadCertificates.NumberPart.{run_length, read_run}
+use Rattle.ps_text.proofs.BytesAndDigits.Bytes.Single.{At, byte_taken}
 
 abbrev seen : ℕ → List ℕ → List Seen
 seen at bytes = signs (pieces_at at bytes)

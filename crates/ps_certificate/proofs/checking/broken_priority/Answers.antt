@@ -1,7 +1,8 @@
 use Rattle.std.proofs.Common.{◌≡◌, ℕ, ◌<◌, List, length, ap, arith, rules}
 use Rattle.std.specs.List.Sorted.{IsStrictlyIncreasing}
-use Rattle.ps_certificate.proofs.CountRule.{opposing_rises, Compared, FallsAtStart, KeepsCount-compared}
-use Rattle.ps_certificate.proofs.CountRule.{IsFirstBroken-behind}
+use Rattle.ps_certificate.proofs.FlawsAndValidity.CountRule.{opposing_rises, Compared, FallsAtStart}
+use Rattle.ps_certificate.proofs.FlawsAndValidity.CountRule.{KeepsCount-compared}
+use Rattle.ps_certificate.proofs.FlawsAndValidity.CountRule.{IsFirstBroken-behind}
 use Rattle.ps_certificate.proofs.checking.broken_priority.Goals as goal
 
 pub invariant_of-rising : goal.invariant_of-rising

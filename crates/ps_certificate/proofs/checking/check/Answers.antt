@@ -1,9 +1,9 @@
 use Rattle.std.proofs.Common.{arith, below_more, rules}
 use Rattle.ps_certificate.specs.Certificates.{IsClosed}
 use Rattle.ps_certificate.specs.Inner.Prefixes.{IsFirstUnranked}
-use Rattle.ps_certificate.proofs.CountRule.{first_unranked, valid_in_the_end, valid_has_no_flaw}
-use Rattle.ps_certificate.proofs.FirstFlaws.{first_unsound, IsClosed-from_sound}
-use Rattle.ps_certificate.proofs.Holding.{BothHold-from_valid, NoneWinsOutside-from_valid}
+use Rattle.ps_certificate.proofs.FlawsAndValidity.CountRule.{first_unranked, valid_in_the_end, valid_has_no_flaw}
+use Rattle.ps_certificate.proofs.FlawsAndValidity.FirstFlaws.{first_unsound, IsClosed-from_sound}
+use Rattle.ps_certificate.proofs.FlawsAndValidity.Holding.{BothHold-from_valid, NoneWinsOutside-from_valid}
 use Rattle.ps_certificate.proofs.checking.check.Goals as goal
 
 pub returns-in-Some-clause-exact : goal.returns-in-Some-clause-exact

@@ -1,8 +1,9 @@
 use Rattle.std.proofs.Common.{◌≡◌, ◌∙◌, Some, sym, arith, below_more, rules}
 use Rattle.ps_game.specs.Games.{owner_of}
 use Rattle.ps_certificate.specs.Certificates.{Remains, winner_of, choice_of}
-use Rattle.ps_certificate.proofs.SuccessorEdges.{HasEdge-at, Remains-other}
-use Rattle.ps_certificate.proofs.CountRule.{own_edge, own_edges, other_edges, IsFirstFlawAt-rank, KeepsCountsAt-from_all}
+use Rattle.ps_certificate.proofs.FlawsAndValidity.SuccessorEdges.{HasEdge-at, Remains-other}
+use Rattle.ps_certificate.proofs.FlawsAndValidity.CountRule.{own_edge, own_edges, other_edges, IsFirstFlawAt-rank}
+use Rattle.ps_certificate.proofs.FlawsAndValidity.CountRule.{KeepsCountsAt-from_all}
 use Rattle.ps_certificate.proofs.checking.unranked_at.Goals as goal
 
 pub returns-in-Some-broken_priority-clause-some : goal.returns-in-Some-broken_priority-clause-some

@@ -1,6 +1,6 @@
 use Rattle.std.proofs.Common.{arith, below_more, refl, rules}
-use Rattle.ps_certificate.proofs.FirstFlaws.{first_unsound, IsClosed-from_sound, closed_has_no_flaw}
-use Rattle.ps_certificate.proofs.Keeping.{BothKeep-from_closed}
+use Rattle.ps_certificate.proofs.FlawsAndValidity.FirstFlaws.{first_unsound, IsClosed-from_sound, closed_has_no_flaw}
+use Rattle.ps_certificate.proofs.FlawsAndValidity.Keeping.{BothKeep-from_closed}
 use Rattle.ps_certificate.proofs.closing.closed.Goals as goal
 
 pub returns-in-Some-clause-exact : goal.returns-in-Some-clause-exact

@@ -1,5 +1,6 @@
 use Rattle.std.proofs.Common.{rules}
-use Rattle.ps_certificate.proofs.SuccessorEdges.{has_entry, own_entry, IsFirstEscape-at, StaysInside-from_all}
+use Rattle.ps_certificate.proofs.FlawsAndValidity.SuccessorEdges.{has_entry, own_entry, IsFirstEscape-at}
+use Rattle.ps_certificate.proofs.FlawsAndValidity.SuccessorEdges.{StaysInside-from_all}
 use Rattle.ps_certificate.proofs.closing.first_escape.Goals as goal
 
 pub winner-requires : goal.winner-requires

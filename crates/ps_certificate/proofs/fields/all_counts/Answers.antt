@@ -1,8 +1,9 @@
 use Rattle.std.proofs.Common.{arith}
 use Rattle.std.proofs.lemmas.List.{length-append}
 use Rattle.ps_certificate.specs.Texts.{OfOtherGame, Never}
-use Rattle.ps_certificate.proofs.NumberPart.{judged_fails, number_reads}
-use Rattle.ps_certificate.proofs.Loops.{fails, space_fails, count_fails, count_next, counts_end, counts_end_fails}
+use Rattle.ps_certificate.proofs.ReadCertificates.NumberPart.{judged_fails, number_reads}
+use Rattle.ps_certificate.proofs.ReadCertificates.Loops.{fails, space_fails, count_fails, count_next, counts_end}
+use Rattle.ps_certificate.proofs.ReadCertificates.Loops.{counts_end_fails}
 use Rattle.ps_certificate.proofs.fields.all_counts.Goals as goal
 
 pub returns-in_err-byte : goal.returns-in_err-byte

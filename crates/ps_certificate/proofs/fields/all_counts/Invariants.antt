@@ -1,6 +1,6 @@
 use Rattle.std.proofs.Common.{◌≡◌, ◌-◌, length}
 use Rattle.ps_certificate.specs.Texts.{counts}
-use Rattle.ps_certificate.proofs.Loops.{Listing}
+use Rattle.ps_certificate.proofs.ReadCertificates.Loops.{Listing}
 use Rattle.ps_certificate.proofs.fields.all_counts.Given as goal
 
 abbrev pub invariant-loop : goal.invariant-loop

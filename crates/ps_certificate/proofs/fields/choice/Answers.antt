@@ -1,10 +1,10 @@
 use Rattle.std.proofs.Common.{◌∙◌, sym, rules}
 use Rattle.ps_ids.proofs.Members.{Contains-any, Contains-none}
-use Rattle.ps_text.proofs.Bytes.Single.{refuted}
-use Rattle.ps_certificate.proofs.Loops.{fails}
-use Rattle.ps_certificate.proofs.NumberPart.{judged_fails, number_reads, number_wrong}
-use Rattle.ps_certificate.proofs.ByteSteps.{ends_true, ends_false}
-use Rattle.ps_certificate.proofs.EntrySteps.{choice_dash, choice_fails, choice_reads, place_is_vertex}
+use Rattle.ps_text.proofs.BytesAndDigits.Bytes.Single.{refuted}
+use Rattle.ps_certificate.proofs.ReadCertificates.Loops.{fails}
+use Rattle.ps_certificate.proofs.ReadCertificates.NumberPart.{judged_fails, number_reads, number_wrong}
+use Rattle.ps_certificate.proofs.ReadCertificates.ByteSteps.{ends_true, ends_false}
+use Rattle.ps_certificate.proofs.ReadCertificates.EntrySteps.{choice_dash, choice_fails, choice_reads, place_is_vertex}
 use Rattle.ps_certificate.proofs.fields.choice.Goals as goal
 use Rattle.ps_certificate.proofs.fields.choice.Goals.{else-is_none-via-then-is_none+else-ends}
 use Rattle.ps_certificate.proofs.fields.choice.Goals.{else-is_none-via-else-is_none}

@@ -1,7 +1,7 @@
 use Rattle.std.proofs.Common.{rules}
-use Rattle.ps_certificate.proofs.Loops.{fails}
-use Rattle.ps_certificate.proofs.NumberPart.{judged_fails, number_reads, number_wrong}
-use Rattle.ps_certificate.proofs.ByteSteps.{ends_true, ends_false}
+use Rattle.ps_certificate.proofs.ReadCertificates.Loops.{fails}
+use Rattle.ps_certificate.proofs.ReadCertificates.NumberPart.{judged_fails, number_reads, number_wrong}
+use Rattle.ps_certificate.proofs.ReadCertificates.ByteSteps.{ends_true, ends_false}
 use Rattle.ps_certificate.proofs.fields.exactly.Goals as goal
 use Rattle.ps_certificate.proofs.fields.exactly.Goals.{else-found-wanted-via-then-found-wanted+else-ends}
 use Rattle.ps_certificate.proofs.fields.exactly.Goals.{else-found-wanted-via-else-found-wanted}

@@ -1,8 +1,8 @@
 use Rattle.std.proofs.Common.{◌∙◌, length, sym}
 use Rattle.std.proofs.lemmas.Bool.{eqb-true}
-use Rattle.ps_text.proofs.Bytes.Moves.{is_empty_false}
-use Rattle.ps_text.proofs.Bytes.Single.{refuted}
-use Rattle.ps_certificate.proofs.ByteSteps.{end_reads, end_fails, end_missing}
+use Rattle.ps_text.proofs.BytesAndDigits.Bytes.Moves.{is_empty_false}
+use Rattle.ps_text.proofs.BytesAndDigits.Bytes.Single.{refuted}
+use Rattle.ps_certificate.proofs.ReadCertificates.ByteSteps.{end_reads, end_fails, end_missing}
 use Rattle.ps_certificate.proofs.fields.line_end.Goals as goal
 
 pub returns-then-not-comes : goal.returns-then-not-comes

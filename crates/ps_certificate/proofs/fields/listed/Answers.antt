@@ -1,11 +1,11 @@
 use Rattle.std.proofs.Common.{◌∙◌, drop, sym, rules}
-use Rattle.ps_text.proofs.Exits.{stops_behind, stops_mapped}
+use Rattle.ps_text.proofs.ParsedAnswers.Exits.{stops_behind, stops_mapped}
 use Rattle.ps_certificate.specs.Texts.{causes, OfOtherGame, NotNext, number, priority}
-use Rattle.ps_text.proofs.Bytes.Lefts.{unread, exits_at}
-use Rattle.ps_certificate.proofs.TextLaws.{chain_listed}
-use Rattle.ps_certificate.proofs.Loops.{fails, listed_reads, is_not_next, is_next}
-use Rattle.ps_certificate.proofs.NumberPart.{judged_fails, number_reads, number_wrong}
-use Rattle.ps_certificate.proofs.ByteSteps.{ends_true, ends_false}
+use Rattle.ps_text.proofs.BytesAndDigits.Bytes.Lefts.{unread, exits_at}
+use Rattle.ps_certificate.proofs.ReadCertificates.TextLaws.{chain_listed}
+use Rattle.ps_certificate.proofs.ReadCertificates.Loops.{fails, listed_reads, is_not_next, is_next}
+use Rattle.ps_certificate.proofs.ReadCertificates.NumberPart.{judged_fails, number_reads, number_wrong}
+use Rattle.ps_certificate.proofs.ReadCertificates.ByteSteps.{ends_true, ends_false}
 use Rattle.ps_certificate.proofs.fields.listed.Goals as goal
 use Rattle.ps_certificate.proofs.fields.listed.Goals.{else-ne-via-then-ne+else-ends, else-ne-via-else-ne}
 

@@ -1,7 +1,7 @@
 use Rattle.std.proofs.Common.{inl, inr}
-use Rattle.ps_text.proofs.Bytes.Single.{refuted}
-use Rattle.ps_text.proofs.Bytes.Moves.{is_empty_true, is_empty_false}
-use Rattle.ps_certificate.proofs.ByteSteps.{zero_passed, digits_passed, none_passed}
+use Rattle.ps_text.proofs.BytesAndDigits.Bytes.Single.{refuted}
+use Rattle.ps_text.proofs.BytesAndDigits.Bytes.Moves.{is_empty_true, is_empty_false}
+use Rattle.ps_certificate.proofs.ReadCertificates.ByteSteps.{zero_passed, digits_passed, none_passed}
 use Rattle.ps_certificate.proofs.fields.number.Goals as goal
 
 pub returns-then-comes : goal.returns-then-comes

@@ -1,11 +1,11 @@
 use Rattle.std.proofs.Common.{rules}
 use Rattle.ps_text.specs.Faults.{found_of}
-use Rattle.ps_text.proofs.Exits.{then_meets}
-use Rattle.ps_text.proofs.Branches.{carries_many, reads_shrinks}
-use Rattle.ps_text.proofs.Bytes.Single.{refuted}
+use Rattle.ps_text.proofs.ParsedAnswers.Exits.{then_meets}
+use Rattle.ps_text.proofs.ParsedAnswers.Branches.{carries_many, reads_shrinks}
+use Rattle.ps_text.proofs.BytesAndDigits.Bytes.Single.{refuted}
 use Rattle.ps_certificate.specs.Texts.{causes, priority}
-use Rattle.ps_certificate.proofs.TextLaws.{laws_priority, digit_no_space, chain_priorities}
-use Rattle.ps_certificate.proofs.Loops.{fails, priorities_fail, priorities_end}
+use Rattle.ps_certificate.proofs.ReadCertificates.TextLaws.{laws_priority, digit_no_space, chain_priorities}
+use Rattle.ps_certificate.proofs.ReadCertificates.Loops.{fails, priorities_fail, priorities_end}
 use Rattle.ps_certificate.proofs.fields.priorities.Goals as goal
 
 pub returns-in_err-left : goal.returns-in_err-left

@@ -1,6 +1,6 @@
 use Rattle.std.proofs.Common.{true, false, arith}
-use Rattle.ps_text.proofs.Bytes.Single.{refuted}
-use Rattle.ps_certificate.proofs.ByteSteps.{two_first, two_second, two_fails}
+use Rattle.ps_text.proofs.BytesAndDigits.Bytes.Single.{refuted}
+use Rattle.ps_certificate.proofs.ReadCertificates.ByteSteps.{two_first, two_second, two_fails}
 use Rattle.ps_certificate.proofs.fields.version.Goals as goal
 
 pub returns-then-comes : goal.returns-then-comes

@@ -3,7 +3,7 @@ use Rattle.std.proofs.Common.{◌-◌, arith, drop, false, refl}
 use Rattle.std.proofs.lemmas.Bool.{both_ways}
 use Rattle.std.proofs.lemmas.List.Elements.{All-take, All-drop, All-from_get_or}
 use Rattle.ps_game.specs.Ranking.{HasPriority}
-use Rattle.ps_certificate.proofs.Windows.{present_more}
+use Rattle.ps_certificate.proofs.FlawsAndValidity.Windows.{present_more}
 use Rattle.ps_certificate.proofs.fitted.all_present.Goals as goal
 
 pub returns-then-not-window_present : goal.returns-then-not-window_present

@@ -1,6 +1,6 @@
 use Rattle.std.proofs.Common.{◌∙◌, ap, subst, below_more, not, ◌%◌, ℕ}
 use Rattle.std.specs.List.{Contains}
-use Rattle.ps_certificate.proofs.Windows.{Contains-found}
+use Rattle.ps_certificate.proofs.FlawsAndValidity.Windows.{Contains-found}
 use Rattle.ps_certificate.proofs.fitted.is_complete.Goals as goal
 use Rattle.ps_certificate.proofs.fitted.is_complete.Goals.{else-priority-parity-via-then-priority-parity+else-is_none}
 use Rattle.ps_certificate.proofs.fitted.is_complete.Goals.{else-priority-parity-via-else-priority-parity}

@@ -1,8 +1,8 @@
 use Rattle.std.proofs.Common.{◌≡◌, ℕ, arith, false, refl}
 use Rattle.std.proofs.lemmas.Bool.{both_ways}
 use Rattle.ps_game.specs.Games.{vertex_count}
-use Rattle.ps_certificate.proofs.Lists.{nothing_marked}
-use Rattle.ps_certificate.proofs.Windows.{AreMarks, AreJust-found, All-from_marks, marked_in_the_end}
+use Rattle.ps_certificate.proofs.SparseRows.Lists.{nothing_marked}
+use Rattle.ps_certificate.proofs.FlawsAndValidity.Windows.{AreMarks, AreJust-found, All-from_marks, marked_in_the_end}
 use Rattle.ps_certificate.proofs.fitted.is_just.Goals as goal
 
 pub loop-vertex-init : goal.loop-vertex-init

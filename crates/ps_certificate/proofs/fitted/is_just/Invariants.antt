@@ -1,5 +1,5 @@
 use Rattle.std.proofs.Common.{◌≡◌, ℕ, ◌<◌, get_or, true, false}
-use Rattle.ps_certificate.proofs.Windows.{AreJust}
+use Rattle.ps_certificate.proofs.FlawsAndValidity.Windows.{AreJust}
 use Rattle.ps_certificate.proofs.fitted.is_just.Given as goal
 
 -- the priorities of the vertices before the loop's index are listed and marked, if they have the given parity; each

@@ -1,8 +1,9 @@
 use Rattle.std.proofs.Common.{arith, false, refl, rules}
 use Rattle.std.proofs.lemmas.Bool.{both_ways}
 use Rattle.ps_game.specs.Games.{vertex_count}
-use Rattle.ps_certificate.proofs.Lists.{nothing_marked}
-use Rattle.ps_certificate.proofs.Windows.{AreMarks, AreMarks-found, AreMarks-missing, All-from_marks, marked_in_the_end}
+use Rattle.ps_certificate.proofs.SparseRows.Lists.{nothing_marked}
+use Rattle.ps_certificate.proofs.FlawsAndValidity.Windows.{AreMarks, AreMarks-found, AreMarks-missing, All-from_marks}
+use Rattle.ps_certificate.proofs.FlawsAndValidity.Windows.{marked_in_the_end}
 use Rattle.ps_certificate.proofs.fitted.window_present.Goals as goal
 use Rattle.ps_certificate.proofs.fitted.window_present.Goals.{in-Some, in_default}
 

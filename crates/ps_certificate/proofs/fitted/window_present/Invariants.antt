@@ -1,5 +1,5 @@
 use Rattle.std.proofs.Common.{◌≡◌, ℕ, ◌<◌, get_or, true, false}
-use Rattle.ps_certificate.proofs.Windows.{AreMarks}
+use Rattle.ps_certificate.proofs.FlawsAndValidity.Windows.{AreMarks}
 use Rattle.ps_certificate.proofs.fitted.window_present.Given as goal
 
 -- each marked number is some vertex's priority; if the list `window` contains the priority of a vertex before the

@@ -1,4 +1,4 @@
-use Rattle.ps_certificate.proofs.OneFlaw.{one_first_flaw}
+use Rattle.ps_certificate.proofs.FlawsAndValidity.OneFlaw.{one_first_flaw}
 use Rattle.ps_certificate.proofs.laws.first_flaw_is_one.Goals as goal
 
 pub returns : goal.returns

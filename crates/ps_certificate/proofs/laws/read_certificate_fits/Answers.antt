@@ -1,4 +1,4 @@
-use Rattle.ps_certificate.proofs.TextFits.{certificate_fits}
+use Rattle.ps_certificate.proofs.ReadCertificates.TextFits.{certificate_fits}
 use Rattle.ps_certificate.proofs.laws.read_certificate_fits.Goals as goal
 
 pub returns : goal.returns

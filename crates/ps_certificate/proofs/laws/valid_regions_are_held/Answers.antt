@@ -1,4 +1,4 @@
-use Rattle.ps_certificate.proofs.Holding.{BothHold-from_valid}
+use Rattle.ps_certificate.proofs.FlawsAndValidity.Holding.{BothHold-from_valid}
 use Rattle.ps_certificate.proofs.laws.valid_regions_are_held.Goals as goal
 
 pub returns : goal.returns

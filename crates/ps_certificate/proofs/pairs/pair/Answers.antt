@@ -1,10 +1,10 @@
 use Rattle.std.proofs.Common.{refl}
 use Rattle.std.specs.Prelude.{slice_index}
-use Rattle.ps_text.proofs.Bytes.Lefts.{unread, exits_at, exits_last, reads_last}
+use Rattle.ps_text.proofs.BytesAndDigits.Bytes.Lefts.{unread, exits_at, exits_last, reads_last}
 use Rattle.ps_certificate.specs.Pairs.{with_pair}
-use Rattle.ps_certificate.proofs.Loops.{fails}
-use Rattle.ps_certificate.proofs.TextLaws.{chain_pair, chain_colon}
-use Rattle.ps_certificate.proofs.PairSteps.{past_priority, past_colon, pair_priority}
+use Rattle.ps_certificate.proofs.ReadCertificates.Loops.{fails}
+use Rattle.ps_certificate.proofs.ReadCertificates.TextLaws.{chain_pair, chain_colon}
+use Rattle.ps_certificate.proofs.ReadCertificates.PairSteps.{past_priority, past_colon, pair_priority}
 use Rattle.ps_certificate.proofs.pairs.pair.Goals as goal
 
 pub returns-in_err-byte-clause-read : goal.returns-in_err-byte-clause-read

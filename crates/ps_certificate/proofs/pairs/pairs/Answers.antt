@@ -1,9 +1,10 @@
 use Rattle.std.proofs.Common.{ℕ, List, [], ◌∷◌, ◌++◌, ◌∙◌, None, ap, subst, sym}
-use Rattle.ps_text.proofs.Bytes.Single.{refuted}
-use Rattle.ps_certificate.proofs.Loops.{fails}
-use Rattle.ps_certificate.proofs.PairLoops.{PairsSoFar, no_pairs_yet, pair_behind, pair_more, pair_fails, pairs_fail}
-use Rattle.ps_certificate.proofs.PairLoops.{pairs_done}
-use Rattle.ps_certificate.proofs.PairLoops.{pair_shrinks}
+use Rattle.ps_text.proofs.BytesAndDigits.Bytes.Single.{refuted}
+use Rattle.ps_certificate.proofs.ReadCertificates.Loops.{fails}
+use Rattle.ps_certificate.proofs.ReadCertificates.PairLoops.{PairsSoFar, no_pairs_yet, pair_behind, pair_more}
+use Rattle.ps_certificate.proofs.ReadCertificates.PairLoops.{pair_fails, pairs_fail}
+use Rattle.ps_certificate.proofs.ReadCertificates.PairLoops.{pairs_done}
+use Rattle.ps_certificate.proofs.ReadCertificates.PairLoops.{pair_shrinks}
 use Rattle.ps_certificate.proofs.pairs.pairs.Goals as goal
 
 pub more-init : goal.more-init

@@ -1,5 +1,5 @@
 use Rattle.std.proofs.Common.{length}
-use Rattle.ps_certificate.proofs.PairLoops.{PairsSoFar}
+use Rattle.ps_certificate.proofs.ReadCertificates.PairLoops.{PairsSoFar}
 use Rattle.ps_certificate.proofs.pairs.pairs.Given as goal
 
 abbrev pub invariant-more : goal.invariant-more

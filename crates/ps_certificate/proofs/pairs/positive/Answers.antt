@@ -1,8 +1,8 @@
 use Rattle.std.proofs.Common.{arith}
 use Rattle.ps_certificate.specs.Texts.{IsZero}
-use Rattle.ps_certificate.proofs.Loops.{fails}
-use Rattle.ps_certificate.proofs.NumberPart.{judged_fails}
-use Rattle.ps_certificate.proofs.PairSteps.{zero_fails, positive_reads}
+use Rattle.ps_certificate.proofs.ReadCertificates.Loops.{fails}
+use Rattle.ps_certificate.proofs.ReadCertificates.NumberPart.{judged_fails}
+use Rattle.ps_certificate.proofs.ReadCertificates.PairSteps.{zero_fails, positive_reads}
 use Rattle.ps_certificate.proofs.pairs.positive.Goals as goal
 
 pub returns-in_err-count : goal.returns-in_err-count

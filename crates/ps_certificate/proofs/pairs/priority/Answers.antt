@@ -1,6 +1,7 @@
 use Rattle.std.proofs.Common.{sym}
-use Rattle.ps_certificate.proofs.PairSteps.{priority_exits, priority_fails, priority_open, priority_low}
-use Rattle.ps_certificate.proofs.PairSteps.{priority_unknown, priority_reads}
+use Rattle.ps_certificate.proofs.ReadCertificates.PairSteps.{priority_exits, priority_fails, priority_open}
+use Rattle.ps_certificate.proofs.ReadCertificates.PairSteps.{priority_low}
+use Rattle.ps_certificate.proofs.ReadCertificates.PairSteps.{priority_unknown, priority_reads}
 use Rattle.ps_certificate.proofs.pairs.priority.Goals as goal
 
 pub returns-in_err-priority-clause-read : goal.returns-in_err-priority-clause-read

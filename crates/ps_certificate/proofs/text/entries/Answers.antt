@@ -1,6 +1,6 @@
 use Rattle.std.proofs.Common.{ℕ, List, [], ◌∷◌, ◌++◌, ◌∙◌, ap, arith}
 use Rattle.ps_game.specs.Games.{vertex_count}
-use Rattle.ps_certificate.proofs.Loops.{fails, entry_fails, entry_next, entries_end}
+use Rattle.ps_certificate.proofs.ReadCertificates.Loops.{fails, entry_fails, entry_next, entries_end}
 use Rattle.ps_certificate.proofs.text.entries.Goals as goal
 
 pub returns-in_err-won : goal.returns-in_err-won

@@ -1,6 +1,6 @@
 use Rattle.std.proofs.Common.{drop}
 use Rattle.ps_certificate.specs.Texts.{entries}
-use Rattle.ps_certificate.proofs.Loops.{Listing}
+use Rattle.ps_certificate.proofs.ReadCertificates.Loops.{Listing}
 use Rattle.ps_certificate.proofs.text.entries.Given as goal
 
 abbrev pub invariant-loop-vertex : goal.invariant-loop-vertex

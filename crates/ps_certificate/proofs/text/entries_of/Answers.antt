@@ -1,7 +1,8 @@
 use Rattle.std.proofs.Common.{◌∙◌, length, ap, sym}
 use Rattle.std.proofs.lemmas.Bool.{eqb-true, eqb-false}
 use Rattle.ps_game.specs.Games.{vertex_count}
-use Rattle.ps_certificate.proofs.EntrySteps.{lines_fail, lines_read, text_fails, text_reads, text_trails}
+use Rattle.ps_certificate.proofs.ReadCertificates.EntrySteps.{lines_fail, lines_read, text_fails, text_reads}
+use Rattle.ps_certificate.proofs.ReadCertificates.EntrySteps.{text_trails}
 use Rattle.ps_certificate.proofs.text.entries_of.Goals as goal
 
 pub returns-in_err-compact : goal.returns-in_err-compact

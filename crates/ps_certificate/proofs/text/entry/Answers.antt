@@ -1,8 +1,10 @@
-use Rattle.ps_text.proofs.Bytes.Lefts.{unread, exits_at}
+use Rattle.ps_text.proofs.BytesAndDigits.Bytes.Lefts.{unread, exits_at}
 use Rattle.ps_certificate.specs.Texts.{entry}
-use Rattle.ps_certificate.proofs.Loops.{fails}
-use Rattle.ps_certificate.proofs.TextLaws.{chain_id, chain_space, chain_winner, chain_second, chain_choice}
-use Rattle.ps_certificate.proofs.EntrySteps.{past_id, past_space, past_winner, past_second, counts_fail, entry_reads}
+use Rattle.ps_certificate.proofs.ReadCertificates.Loops.{fails}
+use Rattle.ps_certificate.proofs.ReadCertificates.TextLaws.{chain_id, chain_space, chain_winner, chain_second}
+use Rattle.ps_certificate.proofs.ReadCertificates.TextLaws.{chain_choice}
+use Rattle.ps_certificate.proofs.ReadCertificates.EntrySteps.{past_id, past_space, past_winner, past_second}
+use Rattle.ps_certificate.proofs.ReadCertificates.EntrySteps.{counts_fail, entry_reads}
 use Rattle.ps_certificate.proofs.text.entry.Goals as goal
 
 pub returns-in_err-exactly : goal.returns-in_err-exactly

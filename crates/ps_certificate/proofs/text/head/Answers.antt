@@ -1,7 +1,9 @@
-use Rattle.ps_text.proofs.Bytes.Lefts.{unread, stops_at}
-use Rattle.ps_certificate.proofs.TextLaws.{chain_first, chain_version, chain_vertices, chain_odd_word, chain_even_word}
-use Rattle.ps_certificate.proofs.EntrySteps.{head_fails, past_first, past_version, number_fails, past_number, odd_fails}
-use Rattle.ps_certificate.proofs.EntrySteps.{past_odd, even_fails, head_read}
+use Rattle.ps_text.proofs.BytesAndDigits.Bytes.Lefts.{unread, stops_at}
+use Rattle.ps_certificate.proofs.ReadCertificates.TextLaws.{chain_first, chain_version, chain_vertices, chain_odd_word}
+use Rattle.ps_certificate.proofs.ReadCertificates.TextLaws.{chain_even_word}
+use Rattle.ps_certificate.proofs.ReadCertificates.EntrySteps.{head_fails, past_first, past_version, number_fails}
+use Rattle.ps_certificate.proofs.ReadCertificates.EntrySteps.{past_number, odd_fails}
+use Rattle.ps_certificate.proofs.ReadCertificates.EntrySteps.{past_odd, even_fails, head_read}
 use Rattle.ps_certificate.proofs.text.head.Goals as goal
 
 pub returns-in_err-word : goal.returns-in_err-word

@@ -1,4 +1,4 @@
-use Rattle.ps_certificate.proofs.TextFits.{certificate_fits}
+use Rattle.ps_certificate.proofs.ReadCertificates.TextFits.{certificate_fits}
 use Rattle.ps_certificate.proofs.text.read.Goals as goal
 
 pub returns-clause-fits : goal.returns-clause-fits

@@ -1,6 +1,6 @@
 use Rattle.std.proofs.Common.{arith, rules}
 use Rattle.std.proofs.lemmas.List.{get_or_default, length-drop, take_all}
-use Rattle.ps_certificate.proofs.ZeroRuns.{zeros_written}
+use Rattle.ps_certificate.proofs.SparseRows.ZeroRuns.{zeros_written}
 use Rattle.ps_certificate.proofs.writer.write_fields.Goals as goal
 
 pub loop-place-preserved-then-zeros-gt0 : goal.loop-place-preserved-then-zeros-gt0

@@ -1,6 +1,6 @@
 use Rattle.std.proofs.Common.{arith}
 use Rattle.std.proofs.lemmas.Grind.{common_steps}
-use Rattle.ps_certificate.proofs.ZeroRuns.{fields-zeros, take-zeros}
+use Rattle.ps_certificate.proofs.SparseRows.ZeroRuns.{fields-zeros, take-zeros}
 use Rattle.ps_certificate.proofs.writer.write_zeros.Goals as goal
 
 pub returns : goal.returns

@@ -1,5 +1,5 @@
 use Rattle.std.proofs.Common.{arith}
-use Rattle.ps_certificate.proofs.Lists.{less_before}
+use Rattle.ps_certificate.proofs.SparseRows.Lists.{less_before}
 use Rattle.ps_certificate.proofs.rising.Rising.are_less_before.Goals as goal
 
 pub returns : goal.returns

@@ -1,5 +1,5 @@
 use Rattle.std.proofs.Common.{arith}
-use Rattle.ps_certificate.proofs.Lists.{not_less_from}
+use Rattle.ps_certificate.proofs.SparseRows.Lists.{not_less_from}
 use Rattle.ps_certificate.proofs.rising.Rising.are_not_less_from.Goals as goal
 
 pub returns : goal.returns

@@ -1,5 +1,5 @@
 use Rattle.std.proofs.Common.{Ok, Err, arith}
-use Rattle.ps_certificate.proofs.Lists.{search_result, rising_far, rising_near}
+use Rattle.ps_certificate.proofs.SparseRows.Lists.{search_result, rising_far, rising_near}
 use Rattle.ps_certificate.proofs.rising.Rising.first_at_least.Goals as goal
 
 pub returns-in-Ok-clause-before : goal.returns-in-Ok-clause-before

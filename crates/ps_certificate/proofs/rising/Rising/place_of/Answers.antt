@@ -1,5 +1,5 @@
 use Rattle.std.proofs.Common.{Err}
-use Rattle.ps_certificate.proofs.Lists.{search_result, not_between}
+use Rattle.ps_certificate.proofs.SparseRows.Lists.{search_result, not_between}
 use Rattle.ps_certificate.proofs.rising.Rising.place_of.Goals as goal
 
 pub returns-in-Err-clause-none : goal.returns-in-Err-clause-none

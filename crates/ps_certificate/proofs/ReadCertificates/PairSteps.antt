@@ -26,13 +26,14 @@ use Rattle.ps_certificate.specs.Inner.Prefixes.{IsAt}
 use Rattle.ps_text.specs.Cursors.{next_byte, stream_offset}
 use Rattle.ps_certificate.specs.Inner.Reading.{is_end, rises, IsNumberRead, TellsNumber, TellsPriority}
 use Rattle.ps_certificate.specs.Texts.{causes, judged, WrongPriority, IsZero, pair}
-use Rattle.ps_certificate.proofs.NumberPart.{settled_zero, settled_priority, syntax_least, judged_reads, judged_fails}
-use Rattle.ps_certificate.proofs.NumberPart.{judged_wrong}
-use Rattle.ps_text.proofs.Bytes.Lefts.{unread, past, stops_at}
-use Rattle.ps_certificate.proofs.CertificateParts.{Left}
-use Rattle.ps_certificate.proofs.TextLaws.{behind_space, chain_pair, chain_priority, chain_colon}
-use Rattle.ps_text.proofs.Bytes.Single.{byte_stops}
-use Rattle.ps_certificate.proofs.ByteSteps.{ends_true, ends_false}
+use Rattle.ps_certificate.proofs.ReadCertificates.NumberPart.{settled_zero, settled_priority, syntax_least}
+use Rattle.ps_certificate.proofs.ReadCertificates.NumberPart.{judged_reads, judged_fails}
+use Rattle.ps_certificate.proofs.ReadCertificates.NumberPart.{judged_wrong}
+use Rattle.ps_text.proofs.BytesAndDigits.Bytes.Lefts.{unread, past, stops_at}
+use Rattle.ps_certificate.proofs.ReadCertificates.CertificateParts.{Left}
+use Rattle.ps_certificate.proofs.ReadCertificates.TextLaws.{behind_space, chain_pair, chain_priority, chain_colon}
+use Rattle.ps_text.proofs.BytesAndDigits.Bytes.Single.{byte_stops}
+use Rattle.ps_certificate.proofs.ReadCertificates.ByteSteps.{ends_true, ends_false}
 
 -- ## A count that is not 0
 

@@ -19,11 +19,11 @@ use Rattle.ps_text.specs.Readers.{tail, Reads, Stops, Carries}
 use Rattle.ps_text.specs.Cursors.{next_byte, stream_offset}
 use Rattle.ps_text.specs.Faults.{found_of}
 use Rattle.ps_text.specs.declared.faults.Fault.TheVariants.{Text, OutOfMemory}
-use Rattle.ps_text.proofs.Simple.{same_some}
-use Rattle.ps_text.proofs.Covered.{Avoids}
-use Rattle.ps_text.proofs.Exits.{reads_mapped, stops_mapped}
-use Rattle.ps_text.proofs.Branches.{Stands, left_otherwise, right_otherwise, reads_as, stops_as_well}
-use Rattle.ps_text.proofs.Whole.{answers_ok, answers_fault, answers_trailing}
+use Rattle.ps_text.proofs.Combinators.Simple.{same_some}
+use Rattle.ps_text.proofs.Combinators.Covered.{Avoids}
+use Rattle.ps_text.proofs.ParsedAnswers.Exits.{reads_mapped, stops_mapped}
+use Rattle.ps_text.proofs.ParsedAnswers.Branches.{Stands, left_otherwise, right_otherwise, reads_as, stops_as_well}
+use Rattle.ps_text.proofs.ParsedAnswers.Whole.{answers_ok, answers_fault, answers_trailing}
 use Rattle.ps_certificate.specs.declared.fault.CertCause.{CertCause}
 use Rattle.ps_certificate.specs.declared.fault.CertCause.TheVariants.{Syntax}
 use Rattle.ps_certificate.specs.Faults.{CertFault}
@@ -33,15 +33,19 @@ use Rattle.ps_certificate.specs.Inner.Reading.{all_entries, TellsHead, TellsEntr
 use Rattle.ps_text.specs.Bytes.{Seen, pieces_at, stream_at, byte, word}
 use Rattle.ps_certificate.specs.Texts.{Field, causes, number, priorities, winner, vertex_of, choice, counts_in, lost_by}
 use Rattle.ps_certificate.specs.Texts.{entry, entries, version, certificate}
-use Rattle.ps_text.proofs.Bytes.Single.{avoids, byte_reads}
-use Rattle.ps_text.proofs.Bytes.Lefts.{unread, past, stops_at, stops_last, reads_last}
-use Rattle.ps_certificate.proofs.CertificateParts.{Left}
-use Rattle.ps_certificate.proofs.NumberPart.{AtDigit}
-use Rattle.ps_certificate.proofs.TextLaws.{chosen, lawful_dash, lawful_chosen, entry_counts, behind_winner, behind_id}
-use Rattle.ps_certificate.proofs.TextLaws.{chain_id, chain_space, chain_winner, chain_second, chain_choice, chain_first}
-use Rattle.ps_certificate.proofs.TextLaws.{chain_version, chain_vertices, chain_number, chain_odd_word, chain_odd}
-use Rattle.ps_certificate.proofs.TextLaws.{chain_even_word, chain_even, behind_odd, behind_count, behind_version}
-use Rattle.ps_certificate.proofs.TextLaws.{lawful_certificate}
+use Rattle.ps_text.proofs.BytesAndDigits.Bytes.Single.{avoids, byte_reads}
+use Rattle.ps_text.proofs.BytesAndDigits.Bytes.Lefts.{unread, past, stops_at, stops_last, reads_last}
+use Rattle.ps_certificate.proofs.ReadCertificates.CertificateParts.{Left}
+use Rattle.ps_certificate.proofs.ReadCertificates.NumberPart.{AtDigit}
+use Rattle.ps_certificate.proofs.ReadCertificates.TextLaws.{chosen, lawful_dash, lawful_chosen, entry_counts}
+use Rattle.ps_certificate.proofs.ReadCertificates.TextLaws.{behind_winner, behind_id}
+use Rattle.ps_certificate.proofs.ReadCertificates.TextLaws.{chain_id, chain_space, chain_winner, chain_second}
+use Rattle.ps_certificate.proofs.ReadCertificates.TextLaws.{chain_choice, chain_first}
+use Rattle.ps_certificate.proofs.ReadCertificates.TextLaws.{chain_version, chain_vertices, chain_number, chain_odd_word}
+use Rattle.ps_certificate.proofs.ReadCertificates.TextLaws.{chain_odd}
+use Rattle.ps_certificate.proofs.ReadCertificates.TextLaws.{chain_even_word, chain_even, behind_odd, behind_count}
+use Rattle.ps_certificate.proofs.ReadCertificates.TextLaws.{behind_version}
+use Rattle.ps_certificate.proofs.ReadCertificates.TextLaws.{lawful_certificate}
 
 -- ## Moves
 

@@ -9,15 +9,15 @@ use Rattle.std.specs.Prelude.{slice_index}
 use Rattle.std.proofs.lemmas.Bool.{cases_eq, eqb-true, eq-eqb}
 use Rattle.ps_game.specs.Games.{ParityGame, IsGame, vertex_count, priority_of}
 use Rattle.ps_game.specs.Plays.{IsPath, IsLoop, Follows, WinsLoop, loop_priority, other_player}
-use Rattle.ps_game.proofs.LoopPriorities.{le-loop_priority, loop_priority_stands}
-use Rattle.ps_game.proofs.Beaten.{histories_beaten}
-use Rattle.ps_game.proofs.Memory.{WinsByNoMemory-AllHistoriesBeaten}
+use Rattle.ps_game.proofs.PathsAndLoops.LoopPriorities.{le-loop_priority, loop_priority_stands}
+use Rattle.ps_game.proofs.PathsAndLoops.Beaten.{histories_beaten}
+use Rattle.ps_game.proofs.PathsAndLoops.Memory.{WinsByNoMemory-AllHistoriesBeaten}
 use Rattle.ps_certificate.specs.Certificates.{CertificateData, Fits, IsValid, KeepsCount, winner_of, choice_of}
 use Rattle.ps_certificate.specs.Certificates.{counts_of, opposing, opposing_at}
 use Rattle.ps_certificate.specs.Regions.{BothHold, NoneWinsOutside}
-use Rattle.ps_certificate.proofs.SuccessorEdges.{place_of}
-use Rattle.ps_certificate.proofs.CountRule.{opposing_complete}
-use Rattle.ps_certificate.proofs.Keeping.{path_stays, BothKeep-from_closed}
+use Rattle.ps_certificate.proofs.FlawsAndValidity.SuccessorEdges.{place_of}
+use Rattle.ps_certificate.proofs.FlawsAndValidity.CountRule.{opposing_complete}
+use Rattle.ps_certificate.proofs.FlawsAndValidity.Keeping.{path_stays, BothKeep-from_closed}
 
 -- if a sequence of numbers never rises, its last number is at most its first
 pub never_rises_along : (f : ℕ → ℕ) (i d : ℕ) → ((k : ℕ) → i ≤ k → k < i + d → f (k + 1) ≤ f k) → f (i + d) ≤ f i

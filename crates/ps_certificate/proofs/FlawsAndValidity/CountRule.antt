@@ -15,9 +15,10 @@ use Rattle.ps_certificate.specs.Certificates.{winner_of, choice_of, counts_of, o
 use Rattle.ps_certificate.specs.Inner.Prefixes.{IsFirstBroken, IsFirstFlawAt, KeepsCounts, KeepsCountsAt}
 use Rattle.ps_certificate.specs.Inner.Prefixes.{KeepCountsBefore}
 use Rattle.ps_certificate.specs.Inner.Prefixes.{IsSoundAt, stage_of, vertex_of}
-use Rattle.ps_certificate.proofs.SuccessorEdges.{place_of, IsSomeAnd-at, Remains-own}
-use Rattle.ps_certificate.proofs.FirstFlaws.{first_of_stage, closed_has_no_flaw, stage_cases, IsClosed-from_sound}
-use Rattle.ps_certificate.proofs.Lists.{rising_far}
+use Rattle.ps_certificate.proofs.FlawsAndValidity.SuccessorEdges.{place_of, IsSomeAnd-at, Remains-own}
+use Rattle.ps_certificate.proofs.FlawsAndValidity.FirstFlaws.{first_of_stage, closed_has_no_flaw, stage_cases}
+use Rattle.ps_certificate.proofs.FlawsAndValidity.FirstFlaws.{IsClosed-from_sound}
+use Rattle.ps_certificate.proofs.SparseRows.Lists.{rising_far}
 
 -- in a certificate that fits its game, the list of the priorities that oppose a player is ascending
 pub opposing_rises : {game : ParityGame} {certificate : CertificateData} (player : ℕ) → Fits game certificate →

@@ -13,18 +13,20 @@ use Rattle.ps_text.specs.Answers.{Stream, Found}
 use Rattle.ps_text.specs.Cursors.{next_byte}
 use Rattle.ps_text.specs.Parts.{many}
 use Rattle.ps_text.specs.Readers.{Reads, Stops, Carries}
-use Rattle.ps_text.proofs.Covered.{enters_then}
-use Rattle.ps_text.proofs.Exits.{reads_mapped, reads_then, stops_mapped, stops_first, stops_behind, carries_start}
-use Rattle.ps_text.proofs.Exits.{carries_stops}
-use Rattle.ps_text.proofs.Branches.{reads_shrinks, many_ends, many_fails, carries_many}
+use Rattle.ps_text.proofs.Combinators.Covered.{enters_then}
+use Rattle.ps_text.proofs.ParsedAnswers.Exits.{reads_mapped, reads_then, stops_mapped, stops_first, stops_behind}
+use Rattle.ps_text.proofs.ParsedAnswers.Exits.{carries_start}
+use Rattle.ps_text.proofs.ParsedAnswers.Exits.{carries_stops}
+use Rattle.ps_text.proofs.ParsedAnswers.Branches.{reads_shrinks, many_ends, many_fails, carries_many}
 use Rattle.ps_certificate.specs.declared.fault.CertCause.{CertCause}
 use Rattle.ps_certificate.specs.Pairs.{Pairs, no_pairs, with_pair}
 use Rattle.ps_text.specs.Bytes.{Seen, byte}
 use Rattle.ps_certificate.specs.Inner.Reading.{rises as above}
 use Rattle.ps_certificate.specs.Texts.{causes, pair, counts_in}
-use Rattle.ps_certificate.proofs.TextLaws.{digit_no_space, behind_space, laws_pair, chain_pair, chain_pairs}
-use Rattle.ps_certificate.proofs.OneReading.{Rises, rises}
-use Rattle.ps_text.proofs.Bytes.Single.{avoids, enters_byte}
+use Rattle.ps_certificate.proofs.ReadCertificates.TextLaws.{digit_no_space, behind_space, laws_pair, chain_pair}
+use Rattle.ps_certificate.proofs.ReadCertificates.TextLaws.{chain_pairs}
+use Rattle.ps_certificate.proofs.ReadCertificates.OneReading.{Rises, rises}
+use Rattle.ps_text.proofs.BytesAndDigits.Bytes.Single.{avoids, enters_byte}
 
 -- ## Storing a count at its index
 

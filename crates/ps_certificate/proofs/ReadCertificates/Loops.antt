@@ -14,11 +14,12 @@ use Rattle.ps_text.specs.Cursors.{next_byte}
 use Rattle.ps_text.specs.Parts.{many, mapped}
 use Rattle.ps_text.specs.Readers.{Reads, Stops, Parses, Carries}
 use Rattle.ps_text.specs.Faults.{found_of}
-use Rattle.ps_text.proofs.Laws.{Joint}
-use Rattle.ps_text.proofs.Covered.{enters_then}
-use Rattle.ps_text.proofs.Exits.{exits, reads_give, reads_mapped, reads_then, stops_mapped, stops_first, stops_behind}
-use Rattle.ps_text.proofs.Exits.{carries_stops}
-use Rattle.ps_text.proofs.Branches.{many_ends, many_fails}
+use Rattle.ps_text.proofs.Combinators.Laws.{Joint}
+use Rattle.ps_text.proofs.Combinators.Covered.{enters_then}
+use Rattle.ps_text.proofs.ParsedAnswers.Exits.{exits, reads_give, reads_mapped, reads_then, stops_mapped, stops_first}
+use Rattle.ps_text.proofs.ParsedAnswers.Exits.{stops_behind}
+use Rattle.ps_text.proofs.ParsedAnswers.Exits.{carries_stops}
+use Rattle.ps_text.proofs.ParsedAnswers.Branches.{many_ends, many_fails}
 use Rattle.ps_certificate.specs.declared.fault.CertCause.{CertCause}
 use Rattle.ps_certificate.specs.Faults.{CertFault}
 use Rattle.ps_certificate.specs.Certificates.{EntryData}
@@ -26,9 +27,10 @@ use Rattle.ps_certificate.specs.Inner.Reading.{Tells}
 use Rattle.ps_text.specs.Bytes.{Seen, byte}
 use Rattle.ps_certificate.specs.Texts.{Field, causes, number, Never, NotNext, priority, priorities, counts, entry}
 use Rattle.ps_certificate.specs.Texts.{entries}
-use Rattle.ps_certificate.proofs.TextLaws.{digit_no_space, laws_priority, chain_listed, chain_priorities, chain_count}
-use Rattle.ps_certificate.proofs.TextLaws.{chain_counts, chain_entries}
-use Rattle.ps_text.proofs.Bytes.Single.{avoids, enters_byte}
+use Rattle.ps_certificate.proofs.ReadCertificates.TextLaws.{digit_no_space, laws_priority, chain_listed}
+use Rattle.ps_certificate.proofs.ReadCertificates.TextLaws.{chain_priorities, chain_count}
+use Rattle.ps_certificate.proofs.ReadCertificates.TextLaws.{chain_counts, chain_entries}
+use Rattle.ps_text.proofs.BytesAndDigits.Bytes.Single.{avoids, enters_byte}
 
 pub fails : {V X : Type 0} (view : X → V) (P : Field V) (old new : Stream Seen) (fault : CertFault) (result : Result X
     CertFault) → Stops causes P old (found_of fault) → IsErrAnd result (λ y. y ≡ fault) → Tells view P old result new

@@ -6,8 +6,8 @@ use Rattle.std.proofs.lemmas.List.Kept.{AllPairs-from_increasing}
 use Rattle.std.proofs.lemmas.Map.Made.{Contains-tail}
 use Rattle.ps_text.specs.Answers.{Found, AreNumbered}
 use Rattle.ps_text.specs.Parts.{IsWrong}
-use Rattle.ps_text.proofs.OneAnswer.{has_one_answer}
-use Rattle.ps_text.proofs.Outcomes.{some_answer}
+use Rattle.ps_text.proofs.ParsedAnswers.OneAnswer.{has_one_answer}
+use Rattle.ps_text.proofs.ParsedAnswers.Outcomes.{some_answer}
 use Rattle.ps_game.proofs.PriorityLists.{priorities_there}
 use Rattle.ps_game.specs.Games.{ParityGame, NamedGameData}
 use Rattle.ps_certificate.specs.declared.fault.CertCause.{CertCause}
@@ -16,7 +16,7 @@ use Rattle.ps_game.specs.Ranking.{ListsPriorities, HasPriority}
 use Rattle.ps_certificate.specs.Certificates.{CertificateData}
 use Rattle.ps_text.specs.Bytes.{stream_at}
 use Rattle.ps_certificate.specs.Texts.{causes, certificate, ReadsCertificate}
-use Rattle.ps_certificate.proofs.TextLaws.{lawful_certificate}
+use Rattle.ps_certificate.proofs.ReadCertificates.TextLaws.{lawful_certificate}
 
 -- in the list, each number is less than all the numbers after it
 abbrev pub Rises : List ℕ → Type 0

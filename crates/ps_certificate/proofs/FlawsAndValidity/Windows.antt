@@ -10,8 +10,8 @@ use Rattle.std.proofs.lemmas.Bool.{cases_eq, cases_order, cases_lt}
 use Rattle.ps_game.specs.Games.{ParityGame, vertex_count, priority_of}
 use Rattle.ps_game.specs.Ranking.{HasPriority}
 use Rattle.ps_certificate.specs.Inner.Prefixes.{IsAt}
-use Rattle.ps_certificate.proofs.Lists.{rising_far}
-use Rattle.ps_certificate.proofs.SuccessorEdges.{Contains-at}
+use Rattle.ps_certificate.proofs.SparseRows.Lists.{rising_far}
+use Rattle.ps_certificate.proofs.FlawsAndValidity.SuccessorEdges.{Contains-at}
 
 -- if a search for a number in a list returned an index, the list contains the number
 pub Contains-found : (list : List ℕ) (number : ℕ) (found : Option ℕ) → IfSome found (IsAt list number) →

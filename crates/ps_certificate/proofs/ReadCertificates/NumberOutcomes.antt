@@ -12,10 +12,11 @@ use Rattle.ps_text.specs.Answers.{first_of}
 use Rattle.ps_text.specs.Digits.{decimal_value}
 use Rattle.ps_text.specs.Parts.{IsFaultAt}
 use Rattle.ps_text.specs.Outcomes.{Outcome, was_read, has_fault, HasOutcomes}
-use Rattle.ps_text.proofs.Outcomes.{Judged, bad, good}
-use Rattle.ps_text.proofs.Decisions.{Decided, decide_not, decide_both, decide_one, decide_below, decide_in, judge_cause}
-use Rattle.ps_text.proofs.Decisions.{judge_one, judge_as}
-use Rattle.ps_text.proofs.Simple.{none_is_some, same_some}
+use Rattle.ps_text.proofs.ParsedAnswers.Outcomes.{Judged, bad, good}
+use Rattle.ps_text.proofs.ParsedAnswers.Decisions.{Decided, decide_not, decide_both, decide_one, decide_below}
+use Rattle.ps_text.proofs.ParsedAnswers.Decisions.{decide_in, judge_cause}
+use Rattle.ps_text.proofs.ParsedAnswers.Decisions.{judge_one, judge_as}
+use Rattle.ps_text.proofs.Combinators.Simple.{none_is_some, same_some}
 use Rattle.ps_certificate.specs.declared.fault.CertCause.{CertCause}
 use Rattle.ps_certificate.specs.declared.fault.CertCause.TheVariants.{Syntax, OtherGame}
 use Rattle.ps_certificate.specs.Faults.{cause_number}
@@ -24,9 +25,10 @@ use Rattle.ps_certificate.specs.Inner.Reading.{numeral}
 use Rattle.ps_text.specs.Bytes.{Seen}
 use Rattle.ps_certificate.specs.Texts.{causes, EndsField, Verdict, judged, OfOtherGame, number, NotNext, IsMissing}
 use Rattle.ps_certificate.specs.Texts.{WrongPriority, IsZero}
-use Rattle.ps_certificate.proofs.NumberPart.{Settled, IsWrongRun, run_length, settled_other, nothing_there, too_large}
-use Rattle.ps_certificate.proofs.NumberPart.{wrong_number, at_front, number_read, AtDigit, laws_judged}
-use Rattle.ps_certificate.proofs.CertificateParts.{Lawful}
+use Rattle.ps_certificate.proofs.ReadCertificates.NumberPart.{Settled, IsWrongRun, run_length, settled_other}
+use Rattle.ps_certificate.proofs.ReadCertificates.NumberPart.{nothing_there, too_large}
+use Rattle.ps_certificate.proofs.ReadCertificates.NumberPart.{wrong_number, at_front, number_read, AtDigit, laws_judged}
+use Rattle.ps_certificate.proofs.ReadCertificates.CertificateParts.{Lawful}
 
 -- ## Numbers
 

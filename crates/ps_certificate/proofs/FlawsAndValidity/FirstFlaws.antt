@@ -8,7 +8,7 @@ use Rattle.ps_certificate.specs.declared.flaw.Flaw.TheVariants.{Move, Escape, Ra
 use Rattle.ps_certificate.specs.Certificates.{CertificateData, HasRightMove, IsClosed, IsFlaw, Precedes, IsFirstFlaw}
 use Rattle.ps_certificate.specs.Certificates.{choice_of}
 use Rattle.ps_certificate.specs.Inner.Prefixes.{IsSoundAt, IsFirstFlawAt, stage_of, vertex_of}
-use Rattle.ps_certificate.proofs.SuccessorEdges.{HasWrongMove-from_not_right, not_wrong_when_right}
+use Rattle.ps_certificate.proofs.FlawsAndValidity.SuccessorEdges.{HasWrongMove-from_not_right, not_wrong_when_right}
 
 -- of two flaws that the same stage of the check reports, the one at the earlier vertex comes first
 later_vertex : (game : ParityGame) (flaw other : Flaw) → stage_of flaw ≡ stage_of other →

@@ -20,18 +20,18 @@ use Rattle.ps_text.specs.Digits.{decimal_value}
 use Rattle.ps_text.specs.declared.faults.Fault.TheVariants.{Text}
 use Rattle.ps_text.specs.Bytes.{Seen, pieces_at, take_byte, is_digit}
 use Rattle.ps_text.specs.Cursors.{next_byte, stream_offset, IsAhead, Passes}
-use Rattle.ps_text.proofs.ByteRuns.{run_len}
-use Rattle.ps_text.proofs.Laws.{Or}
-use Rattle.ps_text.proofs.Simple.{none_is_some, same_some}
-use Rattle.ps_text.proofs.Exits.{reads_next, stops_bad}
-use Rattle.ps_text.proofs.Bytes.Pieces.{next_at}
-use Rattle.ps_text.proofs.Bytes.Single.{At, byte_taken, next_is, avoids, stops_here}
+use Rattle.ps_text.proofs.BytesAndDigits.ByteRuns.{run_len}
+use Rattle.ps_text.proofs.Combinators.Laws.{Or}
+use Rattle.ps_text.proofs.Combinators.Simple.{none_is_some, same_some}
+use Rattle.ps_text.proofs.ParsedAnswers.Exits.{reads_next, stops_bad}
+use Rattle.ps_text.proofs.BytesAndDigits.Bytes.Pieces.{next_at}
+use Rattle.ps_text.proofs.BytesAndDigits.Bytes.Single.{At, byte_taken, next_is, avoids, stops_here}
 use Rattle.ps_certificate.specs.declared.fault.CertCause.TheVariants.{Syntax, OtherGame}
 use Rattle.ps_certificate.specs.Faults.{CertFault, cause_number}
 use Rattle.ps_certificate.specs.Inner.Reading.{is_end, comes, numeral, IsNumberRead, HasNoNumber}
 use Rattle.ps_certificate.specs.Texts.{causes, EndsField, take_two, two, IsMissing}
-use Rattle.ps_certificate.proofs.NumberPart.{stops_at_place}
-use Rattle.ps_certificate.proofs.TextLaws.{lawful_two, lawful_newline, first_taken, second_taken}
+use Rattle.ps_certificate.proofs.ReadCertificates.NumberPart.{stops_at_place}
+use Rattle.ps_certificate.proofs.ReadCertificates.TextLaws.{lawful_two, lawful_newline, first_taken, second_taken}
 
 -- ## One of two bytes
 

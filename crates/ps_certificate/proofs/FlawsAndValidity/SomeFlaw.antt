@@ -12,7 +12,7 @@
 use Rattle.std.proofs.Common.{◌≡◌, ◌≢◌, ℕ, zero, suc, ◌<◌, ◌≤◌, ◌⊎◌, inl, inr, length, get_or, Option, None, Some, refl}
 use Rattle.std.proofs.Common.{sym, subst, arith, rules}
 use Rattle.std.proofs.lemmas.Bool.{cases_eq, cases_lt}
-use Rattle.ps_text.proofs.Decisions.{Decided, decide_in}
+use Rattle.ps_text.proofs.ParsedAnswers.Decisions.{Decided, decide_in}
 use Rattle.ps_game.specs.Games.{ParityGame, vertex_count, owner_of, successors_of, HasEdge}
 use Rattle.ps_game.specs.Ranking.{KeepsRule}
 use Rattle.ps_certificate.specs.declared.flaw.Flaw.{Flaw}
@@ -22,11 +22,14 @@ use Rattle.ps_certificate.specs.Certificates.{IsFirstFlaw, KeepsCount, winner_of
 use Rattle.ps_certificate.specs.Certificates.{opposing_at}
 use Rattle.ps_certificate.specs.Inner.Prefixes.{IsSoundAt, IsFirstFlawAt, IsFirstBroken, IsFirstEscape, KeepsCounts}
 use Rattle.ps_certificate.specs.Inner.Prefixes.{KeepsCountsAt, StaysInside}
-use Rattle.ps_certificate.proofs.CountRule.{IsFirstFlawAt-rank, KeepsCountsAt-from_all, first_unranked, other_edges}
-use Rattle.ps_certificate.proofs.CountRule.{own_edge, own_edges, valid_has_no_flaw, valid_in_the_end}
-use Rattle.ps_certificate.proofs.SuccessorEdges.{HasEdge-at, IsFirstEscape-at, IsSomeAnd-at, Remains-other}
-use Rattle.ps_certificate.proofs.SuccessorEdges.{StaysInside-from_all, not_wrong_when_right, own_move}
-use Rattle.ps_certificate.proofs.FirstFlaws.{IsClosed-from_sound, closed_has_no_flaw, first_move, first_unsound}
+use Rattle.ps_certificate.proofs.FlawsAndValidity.CountRule.{IsFirstFlawAt-rank, KeepsCountsAt-from_all, first_unranked}
+use Rattle.ps_certificate.proofs.FlawsAndValidity.CountRule.{other_edges}
+use Rattle.ps_certificate.proofs.FlawsAndValidity.CountRule.{own_edge, own_edges, valid_has_no_flaw, valid_in_the_end}
+use Rattle.ps_certificate.proofs.FlawsAndValidity.SuccessorEdges.{HasEdge-at, IsFirstEscape-at, IsSomeAnd-at}
+use Rattle.ps_certificate.proofs.FlawsAndValidity.SuccessorEdges.{Remains-other}
+use Rattle.ps_certificate.proofs.FlawsAndValidity.SuccessorEdges.{StaysInside-from_all, not_wrong_when_right, own_move}
+use Rattle.ps_certificate.proofs.FlawsAndValidity.FirstFlaws.{IsClosed-from_sound, closed_has_no_flaw, first_move}
+use Rattle.ps_certificate.proofs.FlawsAndValidity.FirstFlaws.{first_unsound}
 
 -- ## The first place
 

@@ -3,8 +3,8 @@
 --   errors
 use Rattle.ps_text.specs.Answers.{Stream}
 use Rattle.ps_text.specs.Bytes.{Seen}
-use Rattle.ps_text.proofs.Bytes.Lawful as lawful
-use Rattle.ps_text.proofs.Bytes.Lefts as lefts
+use Rattle.ps_text.proofs.BytesAndDigits.Bytes.Lawful as lawful
+use Rattle.ps_text.proofs.BytesAndDigits.Bytes.Lefts as lefts
 use Rattle.ps_certificate.specs.declared.fault.CertCause.TheVariants.{Syntax}
 use Rattle.ps_certificate.specs.Faults.{cause_number}
 use Rattle.ps_certificate.specs.Texts.{Field}

@@ -11,23 +11,24 @@ use Rattle.ps_text.specs.Digits.{IsDigit, IsPlainNumber, decimal_value}
 use Rattle.ps_text.specs.declared.faults.Fault.TheVariants.{Text}
 use Rattle.std.specs.List.{All}
 use Rattle.std.proofs.lemmas.List.Elements.{All-head, All-drop}
-use Rattle.ps_text.proofs.Splits.{same_head}
-use Rattle.ps_text.proofs.Laws.{Laws}
-use Rattle.ps_text.proofs.Simple.{none_is_some}
-use Rattle.ps_text.proofs.Whole.{Own}
+use Rattle.ps_text.proofs.Combinators.Splits.{same_head}
+use Rattle.ps_text.proofs.Combinators.Laws.{Laws}
+use Rattle.ps_text.proofs.Combinators.Simple.{none_is_some}
+use Rattle.ps_text.proofs.ParsedAnswers.Whole.{Own}
 use Rattle.ps_certificate.specs.declared.fault.CertCause.{CertCause}
 use Rattle.ps_certificate.specs.declared.fault.CertCause.TheVariants.{Syntax, OtherGame}
 use Rattle.ps_certificate.specs.Faults.{CertFault, cause_number}
 use Rattle.ps_text.specs.Cursors.{stream_offset}
-use Rattle.ps_text.proofs.Bytes.Pieces.{bytes_append, bytes_at, pieces_with, pieces_split}
+use Rattle.ps_text.proofs.BytesAndDigits.Bytes.Pieces.{bytes_append, bytes_at, pieces_with, pieces_split}
 use Rattle.ps_certificate.specs.Inner.Reading.{numeral, HasNoNumber, IsNumberRead}
 use Rattle.ps_text.specs.Bytes.{Seen, pieces_at, bytes_of}
 use Rattle.ps_certificate.specs.Texts.{causes, EndsField, Verdict, IsBadNumber, Field, judged, OfOtherGame, number}
 use Rattle.ps_certificate.specs.Texts.{IsZero, WrongPriority}
 use Rattle.ps_certificate.specs.Pairs.{Pairs}
-use Rattle.ps_text.proofs.Decimals.{value_grows}
-use Rattle.ps_certificate.proofs.Numerals.{numeral_split, numeral_plain, numeral_longest, plain_front, numeral_ended}
-use Rattle.ps_certificate.proofs.Numerals.{numeral_zero}
+use Rattle.ps_text.proofs.BytesAndDigits.Decimals.{value_grows}
+use Rattle.ps_certificate.proofs.ReadCertificates.Numerals.{numeral_split, numeral_plain, numeral_longest, plain_front}
+use Rattle.ps_certificate.proofs.ReadCertificates.Numerals.{numeral_ended}
+use Rattle.ps_certificate.proofs.ReadCertificates.Numerals.{numeral_zero}
 
 -- ## The bytes after the first ones
 

@@ -9,12 +9,13 @@ use Rattle.std.specs.List.{Contains}
 use Rattle.std.proofs.lemmas.Bool.{eqb-true, eq-eqb, ne_eqb, cases_eq}
 use Rattle.ps_text.specs.Parts.{NoBad, one, then_by, many, mapped}
 use Rattle.ps_text.specs.Bytes.{Seen, take_byte, byte, word}
-use Rattle.ps_text.proofs.Laws.{Laws, Nothing, Or, Apart}
-use Rattle.ps_text.proofs.Simple.{Taken, none_is_some}
-use Rattle.ps_text.proofs.Decisions.{decide_not, decide_in, judge_none}
-use Rattle.ps_text.proofs.Bytes.Single.{Odd, At, Any, seen, byte_taken, taken_byte}
-use Rattle.ps_text.proofs.Bytes.Lawful.{larger, chained, next, tight, given, mapped_by, either_of, many_by, one_sign}
-use Rattle.ps_text.proofs.Bytes.Lawful.{byte_of, chain_word}
+use Rattle.ps_text.proofs.Combinators.Laws.{Laws, Nothing, Or, Apart}
+use Rattle.ps_text.proofs.Combinators.Simple.{Taken, none_is_some}
+use Rattle.ps_text.proofs.ParsedAnswers.Decisions.{decide_not, decide_in, judge_none}
+use Rattle.ps_text.proofs.BytesAndDigits.Bytes.Single.{Odd, At, Any, seen, byte_taken, taken_byte}
+use Rattle.ps_text.proofs.BytesAndDigits.Bytes.Lawful.{larger, chained, next, tight, given, mapped_by, either_of}
+use Rattle.ps_text.proofs.BytesAndDigits.Bytes.Lawful.{many_by, one_sign}
+use Rattle.ps_text.proofs.BytesAndDigits.Bytes.Lawful.{byte_of, chain_word}
 use Rattle.ps_certificate.specs.declared.fault.CertCause.{CertCause}
 use Rattle.ps_certificate.specs.Faults.{cause_number}
 use Rattle.ps_certificate.specs.Certificates.{EntryData, CertificateData}
@@ -24,10 +25,11 @@ use Rattle.ps_certificate.specs.Inner.Reading.{all_entries}
 use Rattle.ps_certificate.specs.Texts.{Field, take_two, two, judged, number, Never, NotNext, priority, IsMissing}
 use Rattle.ps_certificate.specs.Texts.{priorities, winner, vertex_of, choice, counts, WrongPriority, IsZero, pair}
 use Rattle.ps_certificate.specs.Texts.{counts_in, lost_by, entry, entries, version, certificate}
-use Rattle.ps_certificate.proofs.CertificateParts.{Lawful, Chain}
-use Rattle.ps_certificate.proofs.NumberPart.{AtDigit, settled_zero, settled_priority}
-use Rattle.ps_certificate.proofs.NumberOutcomes.{judged_by, number_by, decide_next, judge_priority, judge_zero}
-use Rattle.ps_certificate.proofs.NumberOutcomes.{judge_missing}
+use Rattle.ps_certificate.proofs.ReadCertificates.CertificateParts.{Lawful, Chain}
+use Rattle.ps_certificate.proofs.ReadCertificates.NumberPart.{AtDigit, settled_zero, settled_priority}
+use Rattle.ps_certificate.proofs.ReadCertificates.NumberOutcomes.{judged_by, number_by, decide_next, judge_priority}
+use Rattle.ps_certificate.proofs.ReadCertificates.NumberOutcomes.{judge_zero}
+use Rattle.ps_certificate.proofs.ReadCertificates.NumberOutcomes.{judge_missing}
 
 -- ## Sets of bytes
 

@@ -11,7 +11,7 @@ use Rattle.std.proofs.lemmas.List.{append_cancel_left, take-append-drop}
 use Rattle.std.proofs.Math.Seq.{take-append_seam, drop-append_seam}
 use Rattle.std.proofs.lemmas.List.Sums.{take_while-cons}
 use Rattle.ps_text.specs.Digits.{IsDigit, BeginsWithZero, IsPlainNumber, decimal_value}
-use Rattle.ps_text.proofs.Decimals.{digit_is, digit_passes, value_grows}
+use Rattle.ps_text.proofs.BytesAndDigits.Decimals.{digit_is, digit_passes, value_grows}
 use Rattle.ps_certificate.specs.Inner.Reading.{comes, numeral}
 use Rattle.ps_certificate.specs.Texts.{EndsField}
 
