@@ -1,4 +1,4 @@
-use Rattle.ps_measure.proofs.CountsOrCycle.{held_ranks, ranks_or_cycle}
+use Rattle.ps_measure.proofs.RaisedCounts.CountsOrCycle.{held_ranks, ranks_or_cycle}
 use Rattle.ps_measure.proofs.laws.counts_are_there.Goals as goal
 
 pub returns : goal.returns

@@ -1,7 +1,7 @@
 use Rattle.std.proofs.lemmas.Grind.{common_steps}
 use Rattle.std.proofs.Common.{arith, rules}
 use Rattle.std.proofs.lemmas.Bool.{eqb-true}
-use Rattle.ps_measure.proofs.Rows.{filled_none}
+use Rattle.ps_measure.proofs.CountRows.Rows.{filled_none}
 use Rattle.ps_measure.proofs.measuring.fill.Goals as goal
 
 pub returns-then-is_empty-clause-filled : goal.returns-then-is_empty-clause-filled

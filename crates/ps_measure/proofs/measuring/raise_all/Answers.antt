@@ -3,9 +3,9 @@ use Rattle.std.proofs.lemmas.Result.{err_from_is_err_and}
 use Rattle.ps_game.specs.Games.{ParityGame, IsGame, vertex_count}
 use Rattle.ps_measure.specs.Inner.Filling.{AreLevels}
 use Rattle.ps_measure.specs.Inner.Remaining.{IsReverse, LowData, RemainingData, StarData, remaining_graph, star_graph}
-use Rattle.ps_measure.proofs.PriorityGraph.{group_at}
-use Rattle.ps_measure.proofs.Rows.{ranked_empty, ranked_fits, filled_bound}
-use Rattle.ps_measure.proofs.WholeTable.{IsAtPlace, is_at_place, column_done, refused}
+use Rattle.ps_measure.proofs.LinksOfEdges.PriorityGraph.{group_at}
+use Rattle.ps_measure.proofs.CountRows.Rows.{ranked_empty, ranked_fits, filled_bound}
+use Rattle.ps_measure.proofs.CountRows.WholeTable.{IsAtPlace, is_at_place, column_done, refused}
 use Rattle.ps_measure.proofs.measuring.raise_all.Goals as goal
 
 -- if r is the value of `remaining`, the given graph, region and levels, with the priority at index `place`, are the

@@ -1,7 +1,7 @@
 use Rattle.std.proofs.Common.{refl, ◌∙◌, rules}
 use Rattle.std.proofs.lemmas.Result.{err_from_is_err_and}
-use Rattle.ps_measure.proofs.Held.{held_refusal}
-use Rattle.ps_measure.proofs.WholeTable.{whole}
+use Rattle.ps_measure.proofs.RaisedCounts.Held.{held_refusal}
+use Rattle.ps_measure.proofs.CountRows.WholeTable.{whole}
 use Rattle.ps_measure.proofs.measuring.ranks.Goals as goal
 
 pub returns-in_err-raises-clause-held : goal.returns-in_err-raises-clause-held

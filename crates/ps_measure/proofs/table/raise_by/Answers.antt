@@ -1,6 +1,6 @@
 use Rattle.std.proofs.Common.{arith, rules}
 use Rattle.std.proofs.lemmas.List.{length-set, get_or_read, get_or-set_same, get_or-set_other}
-use Rattle.ps_measure.proofs.CountCells.{from_none, next_below, place_below, row_step}
+use Rattle.ps_measure.proofs.CountRows.CountCells.{from_none, next_below, place_below, row_step}
 use Rattle.ps_measure.proofs.table.raise_by.Goals as goal
 
 pub loop-next-smaller : goal.loop-next-smaller

@@ -1,6 +1,7 @@
 use Rattle.std.proofs.Common.{refl, arith, rules}
-use Rattle.ps_measure.proofs.PassSteps.{grows_set, step_fits, step_counting, step_raised, step_enough, step_inside}
-use Rattle.ps_measure.proofs.PassSteps.{step_lost}
+use Rattle.ps_measure.proofs.RaisedCounts.PassSteps.{grows_set, step_fits, step_counting, step_raised, step_enough}
+use Rattle.ps_measure.proofs.RaisedCounts.PassSteps.{step_inside}
+use Rattle.ps_measure.proofs.RaisedCounts.PassSteps.{step_lost}
 use Rattle.ps_measure.proofs.column.Column.pass.Goals as goal
 
 pub weight-weight-requires : goal.weight-weight-requires

@@ -1,8 +1,8 @@
 use Rattle.std.proofs.lemmas.Grind.{elements}
 use Rattle.std.proofs.Common.{arith, ◌∙◌, sym}
 use Rattle.std.proofs.lemmas.Bool.{OnFalse_at}
-use Rattle.ps_measure.proofs.Passing.{grows_on}
-use Rattle.ps_measure.proofs.PassSteps.{pass_one, pass_none}
+use Rattle.ps_measure.proofs.RaisedCounts.Passing.{grows_on}
+use Rattle.ps_measure.proofs.RaisedCounts.PassSteps.{pass_one, pass_none}
 use Rattle.ps_measure.proofs.column.Column.pass_all.Goals as goal
 use Rattle.ps_measure.proofs.column.Column.pass_all.Goals.{in-Some+else-pass, in_default}
 

@@ -1,5 +1,5 @@
 use Rattle.std.proofs.Common.{arith, refl, sym, ◌∙◌}
-use Rattle.ps_measure.proofs.CountsPlaced.{put_none, put_skip, put_one, put_each, none_later}
+use Rattle.ps_measure.proofs.CountRows.CountsPlaced.{put_none, put_skip, put_one, put_each, none_later}
 use Rattle.ps_measure.proofs.column.Column.put_ascending.Goals as goal
 use Rattle.ps_measure.proofs.column.Column.put_ascending.Goals.{then-count-gt0+in_ok-put, else-count-gt0}
 

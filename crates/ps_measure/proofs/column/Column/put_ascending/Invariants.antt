@@ -1,5 +1,5 @@
 use Rattle.ps_measure.specs.Inner.Columns.{value_of}
-use Rattle.ps_measure.proofs.CountsPlaced.{ArePut, IsSame}
+use Rattle.ps_measure.proofs.CountRows.CountsPlaced.{ArePut, IsSame}
 use Rattle.ps_measure.proofs.column.Column.put_ascending.Given as goal
 
 abbrev pub invariant-loop-vertex : goal.invariant-loop-vertex

@@ -1,7 +1,7 @@
 use Rattle.std.proofs.Common.{arith, ◌≡◌, ◌<◌, List, ℕ, length, get_or, ap, Some}
 use Rattle.std.specs.Prelude.{slice_get}
 use Rattle.std.proofs.lemmas.Option.{slice_get-get_or}
-use Rattle.ps_measure.proofs.CountsPlaced.{put_none, put_skip, put_one, put_all, item_within, none_later}
+use Rattle.ps_measure.proofs.CountRows.CountsPlaced.{put_none, put_skip, put_one, put_all, item_within, none_later}
 use Rattle.ps_measure.proofs.column.Column.put_visited.Goals as goal
 use Rattle.ps_measure.proofs.column.Column.put_visited.Goals.{then-count-gt0+in_ok-put, else-count-gt0}
 

@@ -2,8 +2,8 @@ use Rattle.std.proofs.Common.{arith, ℕ, ◌<◌, ◌≡◌, ◌∙◌, ◌-◌
 use Rattle.std.specs.Prelude.{slice_get}
 use Rattle.std.proofs.lemmas.Option.{slice_get-get_or}
 use Rattle.ps_components.specs.ComponentLists.{ComponentsData}
-use Rattle.ps_measure.proofs.Passing.{grows_on}
-use Rattle.ps_measure.proofs.PassSteps.{settle_one, grows_within}
+use Rattle.ps_measure.proofs.RaisedCounts.Passing.{grows_on}
+use Rattle.ps_measure.proofs.RaisedCounts.PassSteps.{settle_one, grows_within}
 use Rattle.ps_measure.proofs.column.Column.settle.Goals as goal
 
 -- the vertex that the code reads at an index of `order` is the entry of that list at the index

@@ -3,7 +3,7 @@ use Rattle.std.specs.Prelude.{IfNone}
 use Rattle.std.proofs.lemmas.Option.{slice_get-get_or, slice_get_within}
 use Rattle.ps_measure.specs.Inner.Remaining.{low_graph, low_weight}
 use Rattle.ps_measure.specs.Inner.Columns.{AreRaised, IsCounting}
-use Rattle.ps_measure.proofs.PassSteps.{roots_within, root_step, root_met, settled}
+use Rattle.ps_measure.proofs.RaisedCounts.PassSteps.{roots_within, root_step, root_met, settled}
 use Rattle.ps_measure.proofs.column.Column.work_out.Goals as goal
 use Rattle.ps_measure.proofs.column.Column.work_out.Goals.{in-Some, in_default}
 

@@ -1,7 +1,7 @@
 use Rattle.ps_components.specs.ComponentLists.{AreComponents, AreMet}
 use Rattle.ps_measure.specs.Inner.Remaining.{low_graph, low_weight}
 use Rattle.ps_measure.specs.Inner.Columns.{IsColumn}
-use Rattle.ps_measure.proofs.PassSteps.{RaisedBelow}
+use Rattle.ps_measure.proofs.RaisedCounts.PassSteps.{RaisedBelow}
 use Rattle.ps_measure.proofs.column.Column.work_out.Given as goal
 
 abbrev pub invariant-loop-root : goal.invariant-loop-root

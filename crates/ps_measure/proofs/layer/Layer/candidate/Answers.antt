@@ -1,4 +1,4 @@
-use Rattle.ps_measure.proofs.Roots.{member_within}
+use Rattle.ps_measure.proofs.LinksOfEdges.Roots.{member_within}
 use Rattle.ps_measure.proofs.layer.Layer.candidate.Goals as goal
 
 pub returns-in-Some-clause-within : goal.returns-in-Some-clause-within

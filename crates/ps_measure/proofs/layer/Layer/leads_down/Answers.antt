@@ -1,5 +1,5 @@
 use Rattle.std.proofs.Common.{◌∙◌, refl, sym, arith}
-use Rattle.ps_measure.proofs.RemainingEdges.{leads_low, leads_nowhere, none_low_next, high_target}
+use Rattle.ps_measure.proofs.LinksOfEdges.RemainingEdges.{leads_low, leads_nowhere, none_low_next, high_target}
 use Rattle.ps_measure.proofs.layer.Layer.leads_down.Goals as goal
 use Rattle.ps_measure.proofs.layer.Layer.leads_down.Goals.{in-Some+else-is_low, in_default}
 

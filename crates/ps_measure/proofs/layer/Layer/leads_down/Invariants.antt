@@ -1,4 +1,4 @@
-use Rattle.ps_measure.proofs.RemainingEdges.{NoneLow}
+use Rattle.ps_measure.proofs.LinksOfEdges.RemainingEdges.{NoneLow}
 use Rattle.ps_measure.proofs.layer.Layer.leads_down.Given as goal
 
 abbrev pub invariant-loop-place : goal.invariant-loop-place

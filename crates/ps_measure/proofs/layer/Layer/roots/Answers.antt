@@ -2,7 +2,7 @@ use Rattle.std.proofs.Common.{arith, ap, sym, ◌∙◌}
 use Rattle.std.proofs.lemmas.Bool.{both_ways}
 use Rattle.ps_measure.specs.Inner.Groups.{LayerData}
 use Rattle.ps_measure.specs.Inner.Remaining.{low_weight}
-use Rattle.ps_measure.proofs.Roots.{roots_more, roots_skip, roots_all}
+use Rattle.ps_measure.proofs.LinksOfEdges.Roots.{roots_more, roots_skip, roots_all}
 use Rattle.ps_measure.proofs.layer.Layer.roots.Goals as goal
 use Rattle.ps_measure.proofs.layer.Layer.roots.Goals.{then-weight-eq1+then-leads_down+in_ok-push, else-weight-eq1}
 use Rattle.ps_measure.proofs.layer.Layer.roots.Goals.{else-weight-eq1-via-then-weight-eq1+else-leads_down}

@@ -1,5 +1,5 @@
 use Rattle.ps_measure.specs.Inner.Groups.{candidate_in}
-use Rattle.ps_measure.proofs.Roots.{RootsAmong}
+use Rattle.ps_measure.proofs.LinksOfEdges.Roots.{RootsAmong}
 use Rattle.ps_measure.proofs.layer.Layer.roots.Given as goal
 
 abbrev pub invariant-loop-number : goal.invariant-loop-number

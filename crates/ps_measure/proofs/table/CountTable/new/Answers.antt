@@ -1,4 +1,4 @@
-use Rattle.ps_measure.proofs.CountCells.{none_headed, none_zero}
+use Rattle.ps_measure.proofs.CountRows.CountCells.{none_headed, none_zero}
 use Rattle.ps_measure.proofs.table.CountTable.new.Goals as goal
 
 pub invariant_of-result : goal.invariant_of-result

@@ -3,8 +3,8 @@ use Rattle.std.proofs.lemmas.Grind.{common_steps}
 use Rattle.std.proofs.lemmas.List.{reverse-append}
 use Rattle.std.proofs.lemmas.Option.{get_or_from_slice_get}
 use Rattle.ps_measure.specs.Tables.{rows_in}
-use Rattle.ps_measure.proofs.CountCells.{rows_each, row_at, next_below}
-use Rattle.ps_measure.proofs.NonzeroCells.{nonzero_step, nonzero_none}
+use Rattle.ps_measure.proofs.CountRows.CountCells.{rows_each, row_at, next_below}
+use Rattle.ps_measure.proofs.CountRows.NonzeroCells.{nonzero_step, nonzero_none}
 use Rattle.ps_measure.proofs.table.CountTable.nonzero_into.Goals as goal
 
 pub at-next-requires : goal.at-next-requires

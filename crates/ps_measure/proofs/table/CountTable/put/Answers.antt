@@ -4,7 +4,7 @@ use Rattle.std.proofs.lemmas.List.{length_push}
 use Rattle.ps_measure.specs.declared.table.CountCell.{CountCell}
 use Rattle.ps_measure.specs.Ranks.{count_of, width_of}
 use Rattle.ps_measure.specs.Tables.{AreHeaded, HasPut, rows_in}
-use Rattle.ps_measure.proofs.CountCells.{rows_each, width_at, put_headed, put_done, IsLastPlace, last_place}
+use Rattle.ps_measure.proofs.CountRows.CountCells.{rows_each, width_at, put_headed, put_done, IsLastPlace, last_place}
 use Rattle.ps_measure.proofs.table.CountTable.put.Goals as goal
 
 pub at-next-requires : goal.at-next-requires

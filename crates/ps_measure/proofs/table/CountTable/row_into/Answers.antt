@@ -1,7 +1,7 @@
 use Rattle.std.proofs.Common.{arith, ◌≡◌, ◌<◌, ◌∙◌, List, ℕ, length, ap, sym, replicate, rules}
 use Rattle.std.specs.Prelude.{slice_get}
 use Rattle.std.proofs.lemmas.Grind.{common_steps}
-use Rattle.ps_measure.proofs.CountCells.{rows_each, row_done}
+use Rattle.ps_measure.proofs.CountRows.CountCells.{rows_each, row_done}
 use Rattle.ps_measure.proofs.table.CountTable.row_into.Goals as goal
 
 pub at-requires : goal.at-requires

@@ -12,9 +12,9 @@ use Rattle.ps_game.specs.Plays.{Holds, other_player}
 use Rattle.ps_game.specs.Ranking.{ListsPriorities}
 use Rattle.ps_game.proofs.PriorityLists.{priorities_there}
 use Rattle.ps_measure.specs.Ranks.{AreLeastFor, AreRanks, IsLostCycle, count_of}
-use Rattle.ps_measure.proofs.Held.{not_held}
-use Rattle.ps_measure.proofs.Raising.{Column, column_or_cycle}
-use Rattle.ps_measure.proofs.Rows.{least_same}
+use Rattle.ps_measure.proofs.RaisedCounts.Held.{not_held}
+use Rattle.ps_measure.proofs.RaisedCounts.Raising.{Column, column_or_cycle}
+use Rattle.ps_measure.proofs.CountRows.Rows.{least_same}
 
 module _ (game : ParityGame) (player : ℕ) (set : ℕ → Bool) (table : ℕ → Option ℕ) where
   abbrev SomeCycle : Type 0

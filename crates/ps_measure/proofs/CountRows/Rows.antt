@@ -14,9 +14,11 @@ use Rattle.ps_measure.specs.Tables.{AreZero, HasColumn}
 use Rattle.ps_measure.specs.Inner.Filling.{AreRanked, IsFilled}
 use Rattle.ps_measure.specs.Inner.Remaining.{LowData, low_graph, low_weight}
 use Rattle.ps_measure.specs.Inner.Columns.{AreRoots}
-use Rattle.ps_measure.proofs.Summing.{sum_below-le, sum_below-same, sum_below-bound, sum_below-zero, sum_below-next}
-use Rattle.ps_measure.proofs.Summing.{counted-bound, count_below-bound, positive_none, positive_bound, raised_below}
-use Rattle.ps_measure.proofs.Summing.{raised_none, raised_same}
+use Rattle.ps_measure.proofs.RaisedCounts.Summing.{sum_below-le, sum_below-same, sum_below-bound, sum_below-zero}
+use Rattle.ps_measure.proofs.RaisedCounts.Summing.{sum_below-next}
+use Rattle.ps_measure.proofs.RaisedCounts.Summing.{counted-bound, count_below-bound, positive_none, positive_bound}
+use Rattle.ps_measure.proofs.RaisedCounts.Summing.{raised_below}
+use Rattle.ps_measure.proofs.RaisedCounts.Summing.{raised_none, raised_same}
 
 abbrev pub Row : Type 0
 Row = List ℕ

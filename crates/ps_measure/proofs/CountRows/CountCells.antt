@@ -16,7 +16,7 @@ use Rattle.ps_measure.specs.Ranks.{count_of, width_of, width_in}
 use Rattle.ps_measure.specs.Tables.{next_cell, count_here, count_from, row_from, rows_in, AreChained, AreHeaded}
 use Rattle.ps_measure.specs.Tables.{AreZero}
 use Rattle.ps_measure.specs.Tables.{HasPut}
-use Rattle.ps_measure.proofs.Writing.{written, zeros_at}
+use Rattle.ps_measure.proofs.CountRows.Writing.{written, zeros_at}
 
 pub from_none : (cells : List CountCell) (fuel k : ℕ) → count_from cells fuel zero k ≡ 0
 unfolding count_from

@@ -8,7 +8,7 @@ use Rattle.ps_components.proofs.Places.{slice_get-append_left, slice_get-push, s
 use Rattle.ps_measure.specs.Inner.Columns.{AreRoots}
 use Rattle.ps_measure.specs.Inner.Groups.{IsGroup, candidates_in, candidate_in}
 use Rattle.ps_measure.specs.Inner.Remaining.{StarData, star_graph, LowData, low_graph, low_weight}
-use Rattle.ps_measure.proofs.RemainingEdges.{heavy_inside, heavy_level}
+use Rattle.ps_measure.proofs.LinksOfEdges.RemainingEdges.{heavy_inside, heavy_level}
 
 -- the list has exactly the roots that are among the first n candidates
 pub record RootsAmong (low : LowData) (members : ℕ → ℕ) (roots : List ℕ) (n : ℕ) : Type 0 where

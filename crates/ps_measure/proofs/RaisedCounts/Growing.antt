@@ -9,7 +9,7 @@ use Rattle.ps_components.specs.Graphs.{Digraph, Link, Way, last, next}
 use Rattle.ps_components.specs.ComponentLists.{ComponentsData, AreComponents, IsIn}
 use Rattle.ps_measure.specs.Sums.{sum_below}
 use Rattle.ps_measure.specs.Inner.Columns.{AreCounts, weight_from, weights_from}
-use Rattle.ps_measure.proofs.Summing.{sum_below-le, sum_below-more, sum_below-zero}
+use Rattle.ps_measure.proofs.RaisedCounts.Summing.{sum_below-le, sum_below-more, sum_below-zero}
 
 -- counts do not decrease along links, and therefore do not decrease along paths
 grow : {g : Digraph} (weight d : ℕ → ℕ) → AreCounts g weight d → {w v : ℕ} → Way (Link g) w v → d w ≤ d v

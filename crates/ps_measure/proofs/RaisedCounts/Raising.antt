@@ -19,8 +19,8 @@ use Rattle.ps_game.specs.Plays.{greatest, other_player}
 use Rattle.ps_game.specs.Ranking.{RemainsWithin, KeepRuleWithin}
 use Rattle.ps_measure.specs.Ranks.{AreLeastFor, IsLostCycle, count_with}
 use Rattle.ps_measure.specs.Sums.{sum_below, count_below, counted}
-use Rattle.ps_measure.proofs.RemainingEdges.{may_stay, stays_so, so_stays}
-use Rattle.ps_measure.proofs.Summing.{sum_below-bound, sum_below-more}
+use Rattle.ps_measure.proofs.LinksOfEdges.RemainingEdges.{may_stay, stays_so, so_stays}
+use Rattle.ps_measure.proofs.RaisedCounts.Summing.{sum_below-bound, sum_below-more}
 
 -- ## Numbers below a bound
 

@@ -15,11 +15,11 @@ use Rattle.ps_measure.specs.Inner.Remaining.{LowData, low_graph, low_weight}
 use Rattle.ps_measure.specs.Inner.Columns.{AreRoots, AreRaised, IsColumn, IsCounting, IsPassed, inside, across}
 use Rattle.ps_measure.specs.Inner.Columns.{GrowsBelow}
 use Rattle.ps_measure.specs.Inner.Columns.{ArePassedFrom, IsLost, AreLeast, value_of}
-use Rattle.ps_measure.proofs.Summing.{sum_below-bound}
-use Rattle.ps_measure.proofs.Rows.{weight_light}
-use Rattle.ps_measure.proofs.Writing.{written}
-use Rattle.ps_measure.proofs.Passing.{number_within, raise_column, raise_fits, passed_by_raise, passed_on}
-use Rattle.ps_measure.proofs.Passing.{passed_from_here, root_column, raised_before, least_counts}
+use Rattle.ps_measure.proofs.RaisedCounts.Summing.{sum_below-bound}
+use Rattle.ps_measure.proofs.CountRows.Rows.{weight_light}
+use Rattle.ps_measure.proofs.CountRows.Writing.{written}
+use Rattle.ps_measure.proofs.RaisedCounts.Passing.{number_within, raise_column, raise_fits, passed_by_raise, passed_on}
+use Rattle.ps_measure.proofs.RaisedCounts.Passing.{passed_from_here, root_column, raised_before, least_counts}
 
 -- if one value before index `number` is raised, no value decreases, and the values from this index on do not change
 -- (`GrowsBelow`)

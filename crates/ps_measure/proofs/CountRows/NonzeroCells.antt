@@ -10,8 +10,8 @@ use Rattle.ps_measure.specs.declared.table.CountCell.{CountCell}
 use Rattle.ps_game.specs.declared.nonzero.NonzeroCount.{NonzeroCount}
 use Rattle.ps_game.specs.Nonzero.{nonzero_from}
 use Rattle.ps_measure.specs.Tables.{count_here, count_from, row_from, AreChained}
-use Rattle.ps_measure.proofs.CountCells.{from_none, no_fuel, from_cell, cell_at, there}
-use Rattle.ps_measure.proofs.CountCells.{place_below, here_and_behind}
+use Rattle.ps_measure.proofs.CountRows.CountCells.{from_none, no_fuel, from_cell, cell_at, there}
+use Rattle.ps_measure.proofs.CountRows.CountCells.{place_below, here_and_behind}
 
 -- ## The nonzero values of a function
 

@@ -11,8 +11,8 @@ use Rattle.ps_measure.specs.Sums.{sum_below}
 use Rattle.ps_measure.specs.Inner.Columns.{AreCounts, AreRoots, weights_from, IsColumn, AreRaised, IsPassed, inside}
 use Rattle.ps_measure.specs.Inner.Columns.{across}
 use Rattle.ps_measure.specs.Inner.Columns.{GrowsBelow, ArePassedFrom, value_at, value_of, AreLeast}
-use Rattle.ps_measure.proofs.Growing.{one_count, weights_from-more, weights_from-least, weights_from-bound}
-use Rattle.ps_measure.proofs.Writing.{written}
+use Rattle.ps_measure.proofs.RaisedCounts.Growing.{one_count, weights_from-more, weights_from-least, weights_from-bound}
+use Rattle.ps_measure.proofs.CountRows.Writing.{written}
 
 -- ## Growing values
 

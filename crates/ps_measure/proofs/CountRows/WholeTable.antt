@@ -12,8 +12,8 @@ use Rattle.ps_measure.specs.Inner.Remaining.{RemainingData, StarData, remaining_
 use Rattle.ps_measure.specs.Inner.Remaining.{low_graph, low_weight}
 use Rattle.ps_measure.specs.Inner.Filling.{AreRanked, IsFilled, IsLowRefusal, AreLevels}
 use Rattle.ps_measure.specs.Ranks.{AreRanks, IsRefusal, total_of, raised_of, most_raises}
-use Rattle.ps_measure.proofs.LeastInGame.{least_for, lost_cycle}
-use Rattle.ps_measure.proofs.Rows.{Row, ranked_more, raised-le-total, raised-le-most}
+use Rattle.ps_measure.proofs.RaisedCounts.LeastInGame.{least_for, lost_cycle}
+use Rattle.ps_measure.proofs.CountRows.Rows.{Row, ranked_more, raised-le-total, raised-le-most}
 
 -- the graph, region and priority (`LowData`) for computing the counts of the priority at an index of the list
 pub record IsAtPlace (r : RemainingData) (low : LowData) (priorities : List ℕ) (place : ℕ) : Type 0 where

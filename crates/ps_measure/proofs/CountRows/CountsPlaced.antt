@@ -11,7 +11,8 @@ use Rattle.ps_measure.specs.Inner.Columns.{value_of}
 use Rattle.ps_measure.specs.Ranks.{count_of, width_of}
 use Rattle.ps_measure.specs.Sums.{sum_below, counted}
 use Rattle.ps_measure.specs.Tables.{HasPut, HasColumn}
-use Rattle.ps_measure.proofs.Summing.{sum_below-same, positive_none, positive_some, raised_below, raised_none}
+use Rattle.ps_measure.proofs.RaisedCounts.Summing.{sum_below-same, positive_none, positive_some, raised_below}
+use Rattle.ps_measure.proofs.RaisedCounts.Summing.{raised_none}
 
 -- if one term grows from 0 to 1 and the others do not change, the sum grows by 1
 one_more : (f g : ℕ → ℕ) (n u : ℕ) → u < n → f u ≡ 0 → g u ≡ 1 → ((v : ℕ) → v ≢ u → g v ≡ f v) →

@@ -18,8 +18,8 @@ use Rattle.ps_measure.specs.Inner.Remaining.{low_weight}
 use Rattle.ps_measure.specs.Inner.Columns.{AreCounts, AreLeast}
 use Rattle.ps_measure.specs.Inner.Filling.{IsLowCycle, AreLevels}
 use Rattle.ps_measure.specs.Ranks.{count_with, AreLeastFor, IsLostCycle}
-use Rattle.ps_measure.proofs.Summing.{sum_below-le}
-use Rattle.ps_measure.proofs.RemainingEdges.{Remains, link_remains, remains_link, low_link, heavy_level}
+use Rattle.ps_measure.proofs.RaisedCounts.Summing.{sum_below-le}
+use Rattle.ps_measure.proofs.LinksOfEdges.RemainingEdges.{Remains, link_remains, remains_link, low_link, heavy_level}
 
 greatest-bound : (xs : List ℕ) (p : ℕ) → ((k : ℕ) → k < length xs → get_or xs k 0 ≤ p) → greatest xs ≤ p
 greatest-bound [] p each = omega arith
