@@ -1,4 +1,4 @@
-use Rattle.ps_zielonka.proofs.Divided.{game_divided}
+use Rattle.ps_zielonka.proofs.DividedSubgames.Divided.{game_divided}
 use Rattle.ps_zielonka.proofs.laws.each_game_is_divided.Goals as goal
 
 pub returns : goal.returns

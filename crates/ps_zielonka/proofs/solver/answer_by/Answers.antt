@@ -1,5 +1,5 @@
 use Rattle.std.proofs.Common.{rules}
-use Rattle.ps_zielonka.proofs.Ending.{played_first, played_second}
+use Rattle.ps_zielonka.proofs.PendingCalls.Ending.{played_first, played_second}
 use Rattle.ps_zielonka.proofs.solver.answer_by.Goals as goal
 
 pub returns : goal.returns

@@ -1,5 +1,5 @@
 use Rattle.std.proofs.Common.{◌≡◌, get_or, ◌∙◌, arith, rules}
-use Rattle.ps_zielonka.proofs.Boards.{moved_more, kept_more}
+use Rattle.ps_zielonka.proofs.PlacedVertices.Boards.{moved_more, kept_more}
 use Rattle.ps_zielonka.proofs.board.Board.is_kept.Goals as goal
 
 pub loop-place-preserved : goal.loop-place-preserved

@@ -2,7 +2,7 @@ use Rattle.std.proofs.Common.{◌≡◌, ◌<◌, length, get_or, sym, ap, ◌�
 use Rattle.std.proofs.lemmas.Bool.{eqb-true, eq-eqb, false≢true}
 use Rattle.std.proofs.lemmas.List.{get_or_read}
 use Rattle.ps_zielonka.specs.declared.board.Board.{Board}
-use Rattle.ps_zielonka.proofs.Boards.{reopened_free, reopened_lost, reopened_end}
+use Rattle.ps_zielonka.proofs.PlacedVertices.Boards.{reopened_free, reopened_lost, reopened_end}
 use Rattle.ps_zielonka.proofs.board.Board.reopen.Goals as goal
 use Rattle.ps_zielonka.proofs.board.Board.reopen.Goals.{then-eq, else-eq+in_ok-place}
 

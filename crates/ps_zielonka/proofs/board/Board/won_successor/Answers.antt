@@ -1,6 +1,6 @@
 use Rattle.std.proofs.Common.{◌<◌, length, arith}
 use Rattle.ps_game.specs.Games.{successors_of}
-use Rattle.ps_game.proofs.SubgameFacts.{number_of_edge, edge_at}
+use Rattle.ps_game.proofs.PathsAndLoops.SubgameFacts.{number_of_edge, edge_at}
 use Rattle.ps_zielonka.proofs.board.Board.won_successor.Goals as goal
 
 pub level-requires : goal.level-requires

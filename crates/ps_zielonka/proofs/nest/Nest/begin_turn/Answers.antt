@@ -8,9 +8,9 @@ use Rattle.ps_zielonka.specs.Inner.Nests.{IsNest}
 use Rattle.ps_zielonka.specs.Inner.Levels.{code_of}
 use Rattle.ps_zielonka.specs.declared.level.TheConstants.{UNPLACED}
 use Rattle.ps_zielonka.specs.declared.level.Level.TheVariants.{Attracted}
-use Rattle.ps_zielonka.proofs.Begun.{Begun}
-use Rattle.ps_zielonka.proofs.Begins.{frame_of, begun_nest, begun_falls}
-use Rattle.ps_zielonka.proofs.Deep.{depth_begun}
+use Rattle.ps_zielonka.proofs.PendingCalls.Begun.{Begun}
+use Rattle.ps_zielonka.proofs.PendingCalls.Begins.{frame_of, begun_nest, begun_falls}
+use Rattle.ps_zielonka.proofs.PendingCalls.Deep.{depth_begun}
 use Rattle.ps_zielonka.proofs.nest.Nest.begin_turn.Goals as goal
 
 pub returns : goal.returns

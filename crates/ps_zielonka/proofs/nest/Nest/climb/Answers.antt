@@ -2,9 +2,9 @@ use Rattle.std.proofs.Common.{◌≡◌, ◌+◌, ◌*◌, length, refl, rules, 
 use Rattle.std.proofs.lemmas.Result.{on_ok_weaker}
 use Rattle.std.proofs.lemmas.List.{length_push}
 use Rattle.ps_zielonka.specs.Inner.Stacks.{IsStep}
-use Rattle.ps_zielonka.proofs.Measure.{falls_kept}
-use Rattle.ps_zielonka.proofs.Answered.{kept_nest, moved_nest}
-use Rattle.ps_zielonka.proofs.Deep.{depth_climbs, depth_kept}
+use Rattle.ps_zielonka.proofs.PendingCalls.Measure.{falls_kept}
+use Rattle.ps_zielonka.proofs.PendingCalls.Answered.{kept_nest, moved_nest}
+use Rattle.ps_zielonka.proofs.PendingCalls.Deep.{depth_climbs, depth_kept}
 use Rattle.ps_zielonka.proofs.nest.Nest.climb.Goals as goal
 
 pub go_on-requires-clause-nest : goal.go_on-requires-clause-nest

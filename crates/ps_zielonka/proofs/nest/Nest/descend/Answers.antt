@@ -1,7 +1,7 @@
 use Rattle.std.proofs.Common.{arith, rules}
-use Rattle.ps_zielonka.proofs.Done.{done_nest}
-use Rattle.ps_zielonka.proofs.Measure.{falls_done}
-use Rattle.ps_zielonka.proofs.Deep.{depth_done}
+use Rattle.ps_zielonka.proofs.PendingCalls.Done.{done_nest}
+use Rattle.ps_zielonka.proofs.PendingCalls.Measure.{falls_done}
+use Rattle.ps_zielonka.proofs.PendingCalls.Deep.{depth_done}
 use Rattle.ps_zielonka.proofs.nest.Nest.descend.Goals as goal
 
 pub returns-else-cursor-len : goal.returns-else-cursor-len

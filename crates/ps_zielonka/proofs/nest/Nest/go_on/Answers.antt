@@ -2,9 +2,9 @@ use Rattle.std.proofs.Common.{◌≡◌, ◌+◌, ◌*◌, length, refl, ap}
 use Rattle.ps_attractor.specs.declared.aim.Aim.{Aim}
 use Rattle.ps_zielonka.specs.declared.level.TheConstants.{UNPLACED}
 use Rattle.ps_zielonka.specs.Inner.Levels.{code_of}
-use Rattle.ps_zielonka.proofs.Climbs.{on_aim}
-use Rattle.ps_zielonka.proofs.GoesOn.{Reached, going_on, fits_reopened, on_nest, on_falls}
-use Rattle.ps_zielonka.proofs.Frames.{last_waits}
+use Rattle.ps_zielonka.proofs.PendingCalls.Climbs.{on_aim}
+use Rattle.ps_zielonka.proofs.PendingCalls.GoesOn.{Reached, going_on, fits_reopened, on_nest, on_falls}
+use Rattle.ps_zielonka.proofs.PendingCalls.Frames.{last_waits}
 use Rattle.ps_zielonka.proofs.nest.Nest.go_on.Goals as goal
 
 pub attract-requires-clause-fits : goal.attract-requires-clause-fits

@@ -2,8 +2,8 @@ use Rattle.std.proofs.Common.{◌≡◌, ◌∙◌, ap, arith, length, replicate
 use Rattle.std.proofs.lemmas.List.{get_or-replicate, length-replicate}
 use Rattle.ps_game.specs.Games.{vertex_count}
 use Rattle.ps_zielonka.specs.declared.level.TheConstants.{UNPLACED}
-use Rattle.ps_zielonka.proofs.Deep.{depth_start}
-use Rattle.ps_zielonka.proofs.Frames.{nest_start}
+use Rattle.ps_zielonka.proofs.PendingCalls.Deep.{depth_start}
+use Rattle.ps_zielonka.proofs.PendingCalls.Frames.{nest_start}
 use Rattle.ps_zielonka.proofs.nest.Nest.new.Goals as goal
 
 pub returns : goal.returns

@@ -1,5 +1,5 @@
 use Rattle.std.proofs.Common.{rules}
-use Rattle.ps_zielonka.proofs.Deep.{depth_solved}
+use Rattle.ps_zielonka.proofs.PendingCalls.Deep.{depth_solved}
 use Rattle.ps_zielonka.proofs.nest.Nest.solve.Goals as goal
 
 pub returns-clause-done : goal.returns-clause-done

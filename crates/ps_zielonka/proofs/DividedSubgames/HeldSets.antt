@@ -7,7 +7,7 @@ use Rattle.std.proofs.lemmas.Bool.{cases_eq, cases_Bool, false≢true}
 use Rattle.ps_game.specs.Games.{ParityGame, owner_of, priority_of, HasEdge}
 use Rattle.ps_game.specs.Subgames.{IsWithin, LeadsInto, IsRound, HoldsWithin}
 use Rattle.ps_game.specs.Attractors.{LeadsDown, Falls}
-use Rattle.ps_zielonka.proofs.Walks.{no_descent, all_or_none, some_or_none}
+use Rattle.ps_zielonka.proofs.DividedSubgames.Walks.{no_descent, all_or_none, some_or_none}
 
 pub some_more : (P Q : ℕ → Type 0) (move : Option ℕ) → ((w : ℕ) → P w → Q w) → IsSomeAnd move P → IsSomeAnd move Q
 some_more P Q move h k = search rules

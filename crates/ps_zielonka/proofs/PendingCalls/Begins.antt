@@ -14,17 +14,19 @@ use Rattle.ps_zielonka.specs.Inner.Turns.{IsWithout, IsTurned}
 use Rattle.ps_zielonka.specs.Inner.Nests.{from, size_from, winner_of, frame_at, steps_left, IsSegment, Waits, Searches}
 use Rattle.ps_zielonka.specs.Inner.Nests.{IsSoundBoard, IsNest}
 use Rattle.ps_zielonka.specs.Depths.{IsClosedToTops}
-use Rattle.ps_zielonka.proofs.Depths.{left_out}
-use Rattle.ps_zielonka.proofs.Forms.{progress_start}
-use Rattle.ps_zielonka.proofs.Turning.{IsSubgame-left}
-use Rattle.ps_zielonka.proofs.Sets.{from_at, to_from, size_from-same, size_from-lt}
-use Rattle.ps_zielonka.proofs.Below.{agrees_at, progress_below, subgame_below, sound_on, waits_below}
-use Rattle.ps_zielonka.proofs.Measure.{falls_begun}
-use Rattle.ps_zielonka.proofs.Frames.{frame_last, frame_before, frames_size}
-use Rattle.ps_zielonka.proofs.Grown.{later_placed}
-use Rattle.ps_zielonka.proofs.Begun.{Begun, undecided, greatest, tops, pulled, low, differ, grown_all, agrees, was_open}
-use Rattle.ps_zielonka.proofs.Begun.{is_open, still_or_placed, placed_from, to_placed, tops_placed, placed_tops, most}
-use Rattle.ps_zielonka.proofs.Begun.{greatest_top, first_top, tops_parity, tops_above}
+use Rattle.ps_zielonka.proofs.PendingCalls.Depths.{left_out}
+use Rattle.ps_zielonka.proofs.DividedSubgames.Forms.{progress_start}
+use Rattle.ps_zielonka.proofs.DividedSubgames.Turning.{IsSubgame-left}
+use Rattle.ps_zielonka.proofs.PlacedVertices.Sets.{from_at, to_from, size_from-same, size_from-lt}
+use Rattle.ps_zielonka.proofs.PendingCalls.Below.{agrees_at, progress_below, subgame_below, sound_on, waits_below}
+use Rattle.ps_zielonka.proofs.PendingCalls.Measure.{falls_begun}
+use Rattle.ps_zielonka.proofs.PendingCalls.Frames.{frame_last, frame_before, frames_size}
+use Rattle.ps_zielonka.proofs.PlacedVertices.Grown.{later_placed}
+use Rattle.ps_zielonka.proofs.PendingCalls.Begun.{Begun, undecided, greatest, tops, pulled, low, differ, grown_all}
+use Rattle.ps_zielonka.proofs.PendingCalls.Begun.{agrees, was_open}
+use Rattle.ps_zielonka.proofs.PendingCalls.Begun.{is_open, still_or_placed, placed_from, to_placed, tops_placed}
+use Rattle.ps_zielonka.proofs.PendingCalls.Begun.{placed_tops, most}
+use Rattle.ps_zielonka.proofs.PendingCalls.Begun.{greatest_top, first_top, tops_parity, tops_above}
 
 abbrev pub frame_of : Begun → Frame
 frame_of b = record { cursor = b.cursor; player = b.aim.player; turn = length b.old.trail; top = length b.mid.trail }

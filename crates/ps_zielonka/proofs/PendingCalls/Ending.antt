@@ -7,15 +7,15 @@ use Rattle.std.proofs.lemmas.List.{get_or_past}
 use Rattle.ps_game.specs.Games.{ParityGame, vertex_count}
 use Rattle.ps_game.specs.Plays.{Holds}
 use Rattle.ps_game.specs.Regions.{has, move_at}
-use Rattle.ps_game.proofs.OnPaths.{Holds-HoldsWithin}
+use Rattle.ps_game.proofs.PathsAndLoops.OnPaths.{Holds-HoldsWithin}
 use Rattle.ps_zielonka.specs.Inner.Turns.{Solved}
 use Rattle.ps_zielonka.specs.Answers.{others, IsWonRegionTo, AreWinningMovesTo, MovesAt, MovesWithin}
 use Rattle.ps_attractor.specs.Tables.{TablesData}
 use Rattle.ps_zielonka.specs.Inner.Nests.{from}
 use Rattle.ps_zielonka.specs.Inner.Stacks.{IsSolvedBy}
-use Rattle.ps_zielonka.proofs.Sets.{from_at, to_from}
-use Rattle.ps_zielonka.proofs.HeldSets.{not_in, HoldsWithin-same}
-use Rattle.ps_zielonka.proofs.Turning.{won_by, IsWon-won_by}
+use Rattle.ps_zielonka.proofs.PlacedVertices.Sets.{from_at, to_from}
+use Rattle.ps_zielonka.proofs.DividedSubgames.HeldSets.{not_in, HoldsWithin-same}
+use Rattle.ps_zielonka.proofs.DividedSubgames.Turning.{won_by, IsWon-won_by}
 
 -- if a player holds a set, the player also holds each set that has the same vertices of the game
 Holds-same : {game : ParityGame} {player : ℕ} {set : ℕ → Bool} (other : ℕ → Bool) {table : ℕ → Option ℕ} →

@@ -12,9 +12,9 @@ use Rattle.ps_zielonka.specs.Inner.Turns.{Progress, IsTurned}
 use Rattle.ps_zielonka.specs.Inner.Nests.{from, size_from, winner_of, IsCursor, IsSegment, StandsBetween, Waits}
 use Rattle.ps_zielonka.specs.Inner.Nests.{IsSoundBoard}
 use Rattle.ps_zielonka.specs.declared.level.TheConstants.{UNPLACED}
-use Rattle.ps_zielonka.proofs.HeldSets.{some_more}
-use Rattle.ps_zielonka.proofs.Turning.{Progress-same}
-use Rattle.ps_zielonka.proofs.Sets.{AgreesAt, from_at, to_from, from-same, size_from-same}
+use Rattle.ps_zielonka.proofs.DividedSubgames.HeldSets.{some_more}
+use Rattle.ps_zielonka.proofs.DividedSubgames.Turning.{Progress-same}
+use Rattle.ps_zielonka.proofs.PlacedVertices.Sets.{AgreesAt, from_at, to_from, from-same, size_from-same}
 
 -- the level, the move and the winner of v are unchanged
 pub record IsStill (old new : TablesData) (winner winner_now : List ℕ) (v : ℕ) : Type 0 where

@@ -10,12 +10,14 @@ use Rattle.ps_attractor.specs.Tables.{TablesData, FitsGame, level_of, moves_of}
 use Rattle.ps_attractor.specs.Aims.{StandsFrom, IsPosed, IsSetOfPlaced, IsAttracted, IsGrown, rank_of}
 use Rattle.ps_zielonka.specs.declared.frame.Frame.{Frame}
 use Rattle.ps_zielonka.specs.Inner.Nests.{StandsBetween, IsNest, IsLostAt, IsReopened, IsGiven, steps_left}
-use Rattle.ps_zielonka.proofs.Measure.{falls_on}
-use Rattle.ps_zielonka.proofs.Sets.{size_from-same}
-use Rattle.ps_zielonka.proofs.Below.{agrees_at, sound_on}
-use Rattle.ps_zielonka.proofs.Climbs.{on_aim, Going, was_open, stands_open, going_still, going_open, going_agrees}
-use Rattle.ps_zielonka.proofs.Climbs.{going_searches, going_fewer}
-use Rattle.ps_zielonka.proofs.Frames.{last_waits, last_solved, last_low, segment_below, below_wait, below_rise}
+use Rattle.ps_zielonka.proofs.PendingCalls.Measure.{falls_on}
+use Rattle.ps_zielonka.proofs.PlacedVertices.Sets.{size_from-same}
+use Rattle.ps_zielonka.proofs.PendingCalls.Below.{agrees_at, sound_on}
+use Rattle.ps_zielonka.proofs.PendingCalls.Climbs.{on_aim, Going, was_open, stands_open, going_still, going_open}
+use Rattle.ps_zielonka.proofs.PendingCalls.Climbs.{going_agrees}
+use Rattle.ps_zielonka.proofs.PendingCalls.Climbs.{going_searches, going_fewer}
+use Rattle.ps_zielonka.proofs.PendingCalls.Frames.{last_waits, last_solved, last_low, segment_below, below_wait}
+use Rattle.ps_zielonka.proofs.PendingCalls.Frames.{below_rise}
 
 -- ## The last call continues
 

@@ -6,10 +6,11 @@ use Rattle.ps_game.specs.Games.{ParityGame, IsGame, owner_of, HasEdge}
 use Rattle.ps_game.specs.Subgames.{IsWithin, IsSubgame, LeadsInto}
 use Rattle.ps_attractor.specs.Aims.{IsAttracted}
 use Rattle.ps_zielonka.specs.Inner.Turns.{nothing, IsWithout, IsWon, Progress, Solved, IsTurned}
-use Rattle.ps_zielonka.proofs.HeldSets.{some_more, HoldsWithin-none, HoldsWithin-same}
-use Rattle.ps_zielonka.proofs.Turning.{won_by, IsWon-won_by, without, IsWithout-without, in_part_or_rest}
-use Rattle.ps_zielonka.proofs.Turning.{Progress-same, Progress-attracted, lost_held}
-use Rattle.ps_zielonka.proofs.WholeTurn.{Solved-kept}
+use Rattle.ps_zielonka.proofs.DividedSubgames.HeldSets.{some_more, HoldsWithin-none, HoldsWithin-same}
+use Rattle.ps_zielonka.proofs.DividedSubgames.Turning.{won_by, IsWon-won_by, without, IsWithout-without}
+use Rattle.ps_zielonka.proofs.DividedSubgames.Turning.{in_part_or_rest}
+use Rattle.ps_zielonka.proofs.DividedSubgames.Turning.{Progress-same, Progress-attracted, lost_held}
+use Rattle.ps_zielonka.proofs.DividedSubgames.WholeTurn.{Solved-kept}
 
 -- if no vertex of a subgame is decided yet, the decisions so far (`Progress`) are correct
 pub progress_start : (game : ParityGame) (subgame open_part : ℕ → Bool) (win : ℕ → ℕ) (table : ℕ → Option ℕ) →

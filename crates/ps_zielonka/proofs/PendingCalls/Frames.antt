@@ -6,7 +6,7 @@ use Rattle.std.proofs.lemmas.Bool.{cases_lt, false≢true}
 use Rattle.std.proofs.lemmas.List.{get_or_append_left, get_or_push, length_push, get_or-replicate, get_or_past}
 use Rattle.std.proofs.lemmas.List.{length-replicate}
 use Rattle.ps_game.specs.Games.{ParityGame, IsGame, vertex_count, successors_of}
-use Rattle.ps_game.proofs.SubgameFacts.{first_edge}
+use Rattle.ps_game.proofs.PathsAndLoops.SubgameFacts.{first_edge}
 use Rattle.ps_attractor.specs.Tables.{TablesData, level_of, moves_of}
 use Rattle.ps_attractor.specs.Aims.{StandsFrom}
 use Rattle.ps_attractor.proofs.Placing.{stands_longer}
@@ -14,9 +14,9 @@ use Rattle.ps_zielonka.specs.declared.level.TheConstants.{UNPLACED}
 use Rattle.ps_zielonka.specs.declared.frame.Frame.{Frame}
 use Rattle.ps_zielonka.specs.Inner.Turns.{Solved}
 use Rattle.ps_zielonka.specs.Inner.Nests.{from, size_from, winner_of, frame_at, IsSegment, IsOrder, Waits, IsNest}
-use Rattle.ps_zielonka.proofs.Sets.{from_at, to_from}
-use Rattle.ps_zielonka.proofs.Below.{Agrees, waits_below}
-use Rattle.ps_zielonka.proofs.Forms.{progress_start}
+use Rattle.ps_zielonka.proofs.PlacedVertices.Sets.{from_at, to_from}
+use Rattle.ps_zielonka.proofs.PendingCalls.Below.{Agrees, waits_below}
+use Rattle.ps_zielonka.proofs.DividedSubgames.Forms.{progress_start}
 
 abbrev no_frame : Frame
 no_frame = record { cursor = 0; player = 0; turn = 0; top = 0 }

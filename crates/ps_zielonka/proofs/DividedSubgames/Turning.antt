@@ -8,8 +8,9 @@ use Rattle.ps_game.specs.Games.{ParityGame, IsGame, owner_of, HasEdge}
 use Rattle.ps_game.specs.Subgames.{IsWithin, IsSubgame, HoldsWithin}
 use Rattle.ps_attractor.specs.Aims.{StaysOut, IsAttracted}
 use Rattle.ps_zielonka.specs.Inner.Turns.{nothing, IsWithout, IsWon, Progress, Solved, IsTurned}
-use Rattle.ps_zielonka.proofs.HeldSets.{not_in, HoldsWithin-same, HoldsWithin-larger, HoldsWithin-beside}
-use Rattle.ps_zielonka.proofs.HeldSets.{HoldsWithin-attracted}
+use Rattle.ps_zielonka.proofs.DividedSubgames.HeldSets.{not_in, HoldsWithin-same, HoldsWithin-larger}
+use Rattle.ps_zielonka.proofs.DividedSubgames.HeldSets.{HoldsWithin-beside}
+use Rattle.ps_zielonka.proofs.DividedSubgames.HeldSets.{HoldsWithin-attracted}
 
 -- if `rest` is `whole` without `part`, each vertex of `whole` is in `part` or in `rest`
 pub in_part_or_rest : {whole part rest : ℕ → Bool} → IsWithout whole part rest → (v : ℕ) → IsTrue (whole v) →

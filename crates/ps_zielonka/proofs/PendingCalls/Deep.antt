@@ -11,10 +11,10 @@ use Rattle.ps_zielonka.specs.declared.frame.Frame.{Frame}
 use Rattle.ps_zielonka.specs.Depths.{is_vertex, HasPriorities, IsDepth}
 use Rattle.ps_zielonka.specs.Inner.Depths.{IsFresh, IsSecondCall, IsDepthSoFar}
 use Rattle.ps_zielonka.specs.Inner.Nests.{from, frame_at, Waits, IsNest}
-use Rattle.ps_zielonka.proofs.Depths.{one_priority, HasPriorities-larger, HasPriorities-turned}
-use Rattle.ps_zielonka.proofs.Sets.{from_at}
-use Rattle.ps_zielonka.proofs.Begun.{Begun}
-use Rattle.ps_zielonka.proofs.Begins.{begun_left}
+use Rattle.ps_zielonka.proofs.PendingCalls.Depths.{one_priority, HasPriorities-larger, HasPriorities-turned}
+use Rattle.ps_zielonka.proofs.PlacedVertices.Sets.{from_at}
+use Rattle.ps_zielonka.proofs.PendingCalls.Begun.{Begun}
+use Rattle.ps_zielonka.proofs.PendingCalls.Begins.{begun_left}
 
 -- the subgame of the first call has at least j more priorities than the subgame of the call of depth j
 chain : {game : ParityGame} (tables : TablesData) (winner order : List ℕ) (frames : List Frame) (j : ℕ) {m : ℕ} →

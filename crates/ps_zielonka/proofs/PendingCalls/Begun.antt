@@ -10,9 +10,9 @@ use Rattle.ps_attractor.specs.Tables.{TablesData, FitsGame, level_of, moves_of}
 use Rattle.ps_attractor.specs.Aims.{StandsFrom, IsPosed, IsSetOfPlaced, IsAttracted, IsPlaced, IsGrown, rank_of}
 use Rattle.ps_zielonka.specs.declared.level.TheConstants.{UNPLACED}
 use Rattle.ps_zielonka.specs.Inner.Nests.{from, Searches, IsSoundBoard, ArePlaced, IsGiven}
-use Rattle.ps_zielonka.proofs.Sets.{AgreesAt, from_at, to_from}
-use Rattle.ps_zielonka.proofs.Below.{Agrees, agrees_at}
-use Rattle.ps_zielonka.proofs.Grown.{IsGrown-both}
+use Rattle.ps_zielonka.proofs.PlacedVertices.Sets.{AgreesAt, from_at, to_from}
+use Rattle.ps_zielonka.proofs.PendingCalls.Below.{Agrees, agrees_at}
+use Rattle.ps_zielonka.proofs.PlacedVertices.Grown.{IsGrown-both}
 
 -- ## A turn that begins
 

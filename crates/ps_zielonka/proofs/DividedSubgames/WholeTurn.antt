@@ -7,8 +7,9 @@ use Rattle.ps_game.specs.Games.{ParityGame, IsGame, owner_of, HasEdge}
 use Rattle.ps_game.specs.Subgames.{IsWithin, LeadsInto, HoldsWithin}
 use Rattle.ps_game.specs.Attractors.{LeadsDown, Falls}
 use Rattle.ps_zielonka.specs.Inner.Turns.{nothing, IsWithout, IsWon, Progress, Solved, IsTurned}
-use Rattle.ps_zielonka.proofs.HeldSets.{not_in, some_more, HoldsWithin-all}
-use Rattle.ps_zielonka.proofs.Turning.{in_part_or_rest, Progress-taken, lost_held, without, IsWithout-without}
+use Rattle.ps_zielonka.proofs.DividedSubgames.HeldSets.{not_in, some_more, HoldsWithin-all}
+use Rattle.ps_zielonka.proofs.DividedSubgames.Turning.{in_part_or_rest, Progress-taken, lost_held, without}
+use Rattle.ps_zielonka.proofs.DividedSubgames.Turning.{IsWithout-without}
 
 kept_of : (rest lost : ℕ → Bool) (v : ℕ) → IsTrue (without rest lost v) → IsTrue (rest v) × ¬ IsTrue (lost v)
 kept_of rest lost v inside = let split = IsWithout-without rest lost in (split.within v inside, split.outside v inside)

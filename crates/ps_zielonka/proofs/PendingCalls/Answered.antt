@@ -10,12 +10,13 @@ use Rattle.ps_attractor.specs.Tables.{TablesData, FitsGame, level_of, moves_of}
 use Rattle.ps_zielonka.specs.declared.frame.Frame.{Frame}
 use Rattle.ps_zielonka.specs.Inner.Turns.{Solved}
 use Rattle.ps_zielonka.specs.Inner.Nests.{from, winner_of, StandsBetween, Waits, IsNest, IsMoved, IsKeptAt}
-use Rattle.ps_zielonka.proofs.Turning.{in_part_or_rest, Progress-same}
-use Rattle.ps_zielonka.proofs.Sets.{from_at, to_from}
-use Rattle.ps_zielonka.proofs.Below.{Agrees, IsTurned-on, sound_on}
-use Rattle.ps_zielonka.proofs.Forms.{frame_kept}
-use Rattle.ps_zielonka.proofs.Frames.{frame_last, frame_before, frames_size, last_waits, last_solved, segment_moved}
-use Rattle.ps_zielonka.proofs.Frames.{below_wait, below_rise}
+use Rattle.ps_zielonka.proofs.DividedSubgames.Turning.{in_part_or_rest, Progress-same}
+use Rattle.ps_zielonka.proofs.PlacedVertices.Sets.{from_at, to_from}
+use Rattle.ps_zielonka.proofs.PendingCalls.Below.{Agrees, IsTurned-on, sound_on}
+use Rattle.ps_zielonka.proofs.DividedSubgames.Forms.{frame_kept}
+use Rattle.ps_zielonka.proofs.PendingCalls.Frames.{frame_last, frame_before, frames_size, last_waits, last_solved}
+use Rattle.ps_zielonka.proofs.PendingCalls.Frames.{segment_moved}
+use Rattle.ps_zielonka.proofs.PendingCalls.Frames.{below_wait, below_rise}
 
 -- ## The last call is solved: no top is lost
 

@@ -7,8 +7,8 @@ use Rattle.ps_zielonka.specs.declared.level.TheConstants.{UNPLACED}
 use Rattle.ps_zielonka.specs.declared.frame.Frame.{Frame}
 use Rattle.ps_zielonka.specs.Inner.Nests.{Searches, IsSoundBoard, IsNest}
 use Rattle.ps_zielonka.specs.Inner.Stacks.{IsSolvedBy}
-use Rattle.ps_zielonka.proofs.Turning.{Solved-done}
-use Rattle.ps_zielonka.proofs.Sets.{from_at, to_from}
+use Rattle.ps_zielonka.proofs.DividedSubgames.Turning.{Solved-done}
+use Rattle.ps_zielonka.proofs.PlacedVertices.Sets.{from_at, to_from}
 
 -- if no vertex from index `cursor` on in the list of vertices by descending priority is `UNPLACED`, the call has no
 -- undecided vertex

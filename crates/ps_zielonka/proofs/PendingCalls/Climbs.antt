@@ -15,10 +15,10 @@ use Rattle.ps_zielonka.specs.declared.frame.Frame.{Frame}
 use Rattle.ps_zielonka.specs.Inner.Turns.{nothing, IsWithout, IsWon, Progress, Solved}
 use Rattle.ps_zielonka.specs.Inner.Nests.{from, size_from, winner_of, StandsBetween, Waits, Searches, IsGiven, IsLostAt}
 use Rattle.ps_zielonka.specs.Inner.Nests.{IsReopened}
-use Rattle.ps_zielonka.proofs.Turning.{won_by, IsWon-won_by, without, IsWithout-without, IsSubgame-left}
-use Rattle.ps_zielonka.proofs.Sets.{from_at, to_from, size_from-lt, size_from-same}
-use Rattle.ps_zielonka.proofs.Below.{IsStill, Agrees, agrees_at, agrees_from}
-use Rattle.ps_zielonka.proofs.Forms.{frame_goes_on}
+use Rattle.ps_zielonka.proofs.DividedSubgames.Turning.{won_by, IsWon-won_by, without, IsWithout-without, IsSubgame-left}
+use Rattle.ps_zielonka.proofs.PlacedVertices.Sets.{from_at, to_from, size_from-lt, size_from-same}
+use Rattle.ps_zielonka.proofs.PendingCalls.Below.{IsStill, Agrees, agrees_at, agrees_from}
+use Rattle.ps_zielonka.proofs.DividedSubgames.Forms.{frame_goes_on}
 
 -- the parameters of the attractor by which, in a pending call of depth a / 2, the opponent attracts vertices to those
 -- that it won in the recursive call

@@ -7,16 +7,17 @@
 -- - `Attracted`: the set of the vertices from which the player can force every play to the target.
 -- - `attracted`: the attractor to a target exists.
 use Rattle.std.proofs.Common.{◌≡◌, ◌≢◌, ℕ, zero, suc, ◌+◌, ◌<◌, ◌≤◌, ◌⊎◌, inl, inr, Bool, true, false, cond, not, ◌&&◌}
-use Rattle.std.proofs.Common.{length, get_or, Option, None, Some, IsSomeAnd, nat_eq, refl, sym, subst, ◌∙◌, arith, rules}
+use Rattle.std.proofs.Common.{length, get_or, Option, None, Some, IsSomeAnd, nat_eq, refl, sym, subst, ◌∙◌, arith}
+use Rattle.std.proofs.Common.{rules}
 use Rattle.std.specs.Prelude.{IsTrue}
 use Rattle.std.proofs.lemmas.Bool.{cases_Bool, cases_eq, false≢true}
 use Rattle.std.proofs.lemmas.Bool.Decides.{nat_tests}
 use Rattle.ps_game.specs.Attractors.{Falls, LeadsDown}
 use Rattle.ps_game.specs.Games.{ParityGame, vertex_count, owner_of, successors_of, HasEdge}
 use Rattle.ps_game.specs.Subgames.{IsSubgame, IsWithin, LeadsInto}
-use Rattle.ps_game.proofs.SubgameFacts.{edge_at, number_of_edge}
-use Rattle.ps_zielonka.proofs.HeldSets.{some_more}
-use Rattle.ps_zielonka.proofs.Walks.{some_or_none}
+use Rattle.ps_game.proofs.PathsAndLoops.SubgameFacts.{edge_at, number_of_edge}
+use Rattle.ps_zielonka.proofs.DividedSubgames.HeldSets.{some_more}
+use Rattle.ps_zielonka.proofs.DividedSubgames.Walks.{some_or_none}
 
 -- ## Searches
 

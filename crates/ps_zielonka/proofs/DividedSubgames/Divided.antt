@@ -15,15 +15,18 @@ use Rattle.ps_game.specs.Attractors.{Falls, LeadsDown}
 use Rattle.ps_game.specs.Games.{ParityGame, IsGame, vertex_count, owner_of, priority_of}
 use Rattle.ps_game.specs.Regions.{has}
 use Rattle.ps_game.specs.Subgames.{HoldsWithin, IsSubgame, IsWithin, LeadsInto}
-use Rattle.ps_game.proofs.OnPaths.{Holds-HoldsWithin}
-use Rattle.ps_game.proofs.SubgameFacts.{whole_game}
+use Rattle.ps_game.proofs.PathsAndLoops.OnPaths.{Holds-HoldsWithin}
+use Rattle.ps_game.proofs.PathsAndLoops.SubgameFacts.{whole_game}
 use Rattle.ps_zielonka.specs.Divisions.{Division}
-use Rattle.ps_zielonka.proofs.Attracted.{Attracted, all_or_some, attracted, both_true, not_false, not_true, size, size_less}
-use Rattle.ps_zielonka.proofs.Attracted.{true_both}
-use Rattle.ps_zielonka.proofs.HeldSets.{HoldsWithin-all, HoldsWithin-attracted, HoldsWithin-beside, HoldsWithin-larger}
-use Rattle.ps_zielonka.proofs.HeldSets.{HoldsWithin-none, HoldsWithin-same}
-use Rattle.ps_zielonka.proofs.SetTables.{by_set, by_set-inside, by_set-outside, is_false, some_as}
-use Rattle.ps_zielonka.proofs.Tops.{IsGreatest, top_there}
+use Rattle.ps_zielonka.proofs.DividedSubgames.Attracted.{Attracted, all_or_some, attracted, both_true, not_false}
+use Rattle.ps_zielonka.proofs.DividedSubgames.Attracted.{not_true, size}
+use Rattle.ps_zielonka.proofs.DividedSubgames.Attracted.{size_less}
+use Rattle.ps_zielonka.proofs.DividedSubgames.Attracted.{true_both}
+use Rattle.ps_zielonka.proofs.DividedSubgames.HeldSets.{HoldsWithin-all, HoldsWithin-attracted, HoldsWithin-beside}
+use Rattle.ps_zielonka.proofs.DividedSubgames.HeldSets.{HoldsWithin-larger}
+use Rattle.ps_zielonka.proofs.DividedSubgames.HeldSets.{HoldsWithin-none, HoldsWithin-same}
+use Rattle.ps_zielonka.proofs.DividedSubgames.SetTables.{by_set, by_set-inside, by_set-outside, is_false, some_as}
+use Rattle.ps_zielonka.proofs.DividedSubgames.Tops.{IsGreatest, top_there}
 
 -- the subgame is divided into a set `mine`, which the player holds, and a set `theirs`, which the other player holds
 record Divided (game : ParityGame) (subgame : ℕ → Bool) (player : ℕ) : Type 0 where
