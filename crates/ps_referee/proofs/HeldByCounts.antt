@@ -6,10 +6,10 @@ use Rattle.std.proofs.lemmas.Bool.{cases_eq}
 use Rattle.ps_game.specs.Games.{ParityGame, priority_of}
 use Rattle.ps_game.specs.Plays.{IsPath, IsLoop, Follows, WinsLoop, KeepsTo, Holds, loop_priority, other_player}
 use Rattle.ps_game.specs.Ranking.{RemainsWithin, KeepsRule}
-use Rattle.ps_game.proofs.LoopPriorities.{le-loop_priority, loop_priority_stands}
+use Rattle.ps_game.proofs.PathsAndLoops.LoopPriorities.{le-loop_priority, loop_priority_stands}
 use Rattle.ps_measure.specs.Ranks.{AreRanks, count_of}
-use Rattle.ps_certificate.proofs.SuccessorEdges.{place_of}
-use Rattle.ps_certificate.proofs.Holding.{falls_in_the_end}
+use Rattle.ps_certificate.proofs.FlawsAndValidity.SuccessorEdges.{place_of}
+use Rattle.ps_certificate.proofs.FlawsAndValidity.Holding.{falls_in_the_end}
 
 module _ {game : ParityGame} {player : ℕ} {set : ℕ → Bool} {table : ℕ → Option ℕ} {priorities : List ℕ}
     {rows : List (List ℕ)} (is_player : player < 2) (keeps : KeepsTo game player set table)

@@ -11,9 +11,9 @@ use Rattle.ps_game.specs.Regions.{has, move_at}
 use Rattle.ps_certificate.specs.declared.flaw.Flaw.{Flaw}
 use Rattle.ps_certificate.specs.declared.flaw.Flaw.TheVariants.{Move, Escape, Rank}
 use Rattle.ps_certificate.specs.Certificates.{EntryData, IsClosed, IsFirstFlaw, winner_of, opposing}
-use Rattle.ps_certificate.proofs.FirstFlaws.{closed_has_no_flaw}
+use Rattle.ps_certificate.proofs.FlawsAndValidity.FirstFlaws.{closed_has_no_flaw}
 use Rattle.ps_measure.specs.Ranks.{AreRanks}
-use Rattle.ps_measure.proofs.Held.{not_held}
+use Rattle.ps_measure.proofs.RaisedCounts.Held.{not_held}
 use Rattle.ps_referee.specs.declared.fault.JudgeFault.{JudgeFault}
 use Rattle.ps_referee.specs.declared.fault.JudgeFault.TheVariants.{Unclosed, BadCycle, OutOfMemory}
 use Rattle.ps_referee.specs.Solutions.{claimed, IsSolution, IsCertificateOf, IsCycleOf, IsRefusal, IsOutOfMemory}

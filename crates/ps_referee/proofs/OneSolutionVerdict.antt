@@ -9,8 +9,8 @@ use Rattle.ps_game.specs.Games.{ParityGame, vertex_count}
 use Rattle.ps_certificate.specs.Certificates.{CertificateData, no_entry, winner_of, choice_of, counts_of}
 use Rattle.ps_certificate.specs.Certificates.{opposing, Fits, IsValid}
 use Rattle.ps_certificate.specs.Least.{SaysTheSame, DiffersInCounts, HasLeastCounts}
-use Rattle.ps_certificate.proofs.OneReading.{one_list}
-use Rattle.ps_measure.proofs.Held.{not_held}
+use Rattle.ps_certificate.proofs.ReadCertificates.OneReading.{one_list}
+use Rattle.ps_measure.proofs.RaisedCounts.Held.{not_held}
 use Rattle.ps_referee.specs.Solutions.{IsCertificateOf, IsCycleOf}
 
 -- ## The certificate
