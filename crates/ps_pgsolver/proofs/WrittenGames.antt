@@ -23,7 +23,7 @@ use Rattle.ps_pgsolver.specs.GamesOf.{place_of, draft_of, named_game_of}
 use Rattle.ps_pgsolver.specs.Nodes.{NodeData, IsDistinct, ids_of, names_of}
 use Rattle.ps_pgsolver.specs.Reading.{IsGameAnswer, text_limit, meaning}
 use Rattle.ps_pgsolver.specs.Written.{IsWord, game_text}
-use Rattle.ps_pgsolver.proofs.GameLemmas.{same_named}
+use Rattle.ps_pgsolver.proofs.ReadGames.GameLemmas.{same_named}
 use Rattle.ps_pgsolver.proofs.WrittenParts.{IsKnown, AreReadable, written_answers}
 use Rattle.ps_pgsolver.proofs.WrittenSigns.{IsPlainVertex, id_at, node_made, nodes_made, written_tokens}
 

@@ -10,22 +10,24 @@ use Rattle.std.specs.List.{All, Contains}
 use Rattle.std.proofs.lemmas.List.Elements.{All-head, All-tail}
 use Rattle.ps_text.specs.Answers.{Stream, signs, first_of}
 use Rattle.ps_text.specs.Parts.{IsRead, PartAnswers, give, one, many, NoBad}
-use Rattle.ps_text.proofs.InPlace.{read_as}
-use Rattle.ps_text.proofs.Covered.{Avoids, covers_left, covers_right}
-use Rattle.ps_text.proofs.Joined.{read_then}
-use Rattle.ps_text.proofs.Repeated.{read_item, read_none}
-use Rattle.ps_text.proofs.Simple.{none_is_some, read_give, read_mapped, read_one, same_some}
-use Rattle.ps_text.proofs.Whole.{answers_ok}
+use Rattle.ps_text.proofs.Combinators.InPlace.{read_as}
+use Rattle.ps_text.proofs.Combinators.Covered.{Avoids, covers_left, covers_right}
+use Rattle.ps_text.proofs.Combinators.Joined.{read_then}
+use Rattle.ps_text.proofs.Combinators.Repeated.{read_item, read_none}
+use Rattle.ps_text.proofs.Combinators.Simple.{none_is_some, read_give, read_mapped, read_one, same_some}
+use Rattle.ps_text.proofs.ParsedAnswers.Whole.{answers_ok}
 use Rattle.ps_pgsolver.specs.GameTexts.{pg_causes, too_large, number_in, comma_in, semicolon_in, name_in, keyword_in}
 use Rattle.ps_pgsolver.specs.GameTexts.{BadNumber, BadOwner, IsUnknown, number, new_id}
 use Rattle.ps_pgsolver.specs.GameTexts.{owner, successor, first_successor, comma, semicolon, more_successor, successors}
 use Rattle.ps_pgsolver.specs.GameTexts.{name, node, entry, entries, keyword, value_line, setting, game}
 use Rattle.ps_pgsolver.specs.Nodes.{NodeData, ids_of}
 use Rattle.ps_pgsolver.specs.Signs.{Sign, Number, Word, Comma, Semicolon}
-use Rattle.ps_pgsolver.proofs.PartLaws.{IsKind, kind_of, joint_more, laws_more, joint_successors, laws_one_name}
-use Rattle.ps_pgsolver.proofs.PartLaws.{joint_name, joint_list, joint_owner, joint_priority, joint_id}
-use Rattle.ps_pgsolver.proofs.GameLaws.{IsWord, laws_entry, joint_entries, joint_value, takes_word, joint_line, line}
-use Rattle.ps_pgsolver.proofs.GameLaws.{laws_line, laws_no_line, joint_start, joint_parity, laws_game}
+use Rattle.ps_pgsolver.proofs.ReadGames.PartLaws.{IsKind, kind_of, joint_more, laws_more, joint_successors}
+use Rattle.ps_pgsolver.proofs.ReadGames.PartLaws.{laws_one_name}
+use Rattle.ps_pgsolver.proofs.ReadGames.PartLaws.{joint_name, joint_list, joint_owner, joint_priority, joint_id}
+use Rattle.ps_pgsolver.proofs.ReadGames.GameLaws.{IsWord, laws_entry, joint_entries, joint_value, takes_word}
+use Rattle.ps_pgsolver.proofs.ReadGames.GameLaws.{joint_line, line}
+use Rattle.ps_pgsolver.proofs.ReadGames.GameLaws.{laws_line, laws_no_line, joint_start, joint_parity, laws_game}
 use Rattle.ps_pgsolver.proofs.WrittenSigns.{comma_signs, list_signs, name_signs, node_signs, nodes_signs, written_signs}
 
 abbrev pub IsKnown : Option (List ℕ) → ℕ → Type 0

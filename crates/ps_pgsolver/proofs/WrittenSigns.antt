@@ -14,7 +14,7 @@ use Rattle.ps_game.specs.Games.{VertexData, ParityGame, HasNoQuote}
 use Rattle.ps_text.specs.Answers.{Piece, Stream, signs}
 use Rattle.ps_text.specs.Runs.{AllOf, StopsBefore}
 use Rattle.ps_text.specs.Tokens.{TokensFrom}
-use Rattle.ps_text.proofs.Decimals.{number_text}
+use Rattle.ps_text.proofs.BytesAndDigits.Decimals.{number_text}
 use Rattle.ps_text.specs.Bytes.{is_blank, is_digit, is_letter, is_unquoted}
 use Rattle.ps_pgsolver.specs.Ends.{ends_in}
 use Rattle.ps_pgsolver.specs.GameTokens.{IsToken, AreGameTokens}

@@ -354,7 +354,7 @@ fn semicolon_of(token: Token) -> Result<(), PgFault>
     }
 }
 
-#[tactic(auto, using(crate::proofs::NumberTokens::number_small, crate::proofs::NumberTokens::number_large))]
+#[tactic(auto, using(crate::proofs::TokensOfGames::NumberTokens::number_small, crate::proofs::TokensOfGames::NumberTokens::number_large))]
 fn number_of(token: Token) -> Result<u64, PgFault>
     requires { IsPlain token.kind }
     ensures { result ≡ number_answer (sign_of token.entry.kind) token.entry.start }

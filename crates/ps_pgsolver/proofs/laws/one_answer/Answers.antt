@@ -1,5 +1,5 @@
 -- The law `one_answer` is proved by the lemma `one_reading`.
-use Rattle.ps_pgsolver.proofs.OneGameReading.{one_reading}
+use Rattle.ps_pgsolver.proofs.ReadGames.OneGameReading.{one_reading}
 use Rattle.ps_pgsolver.proofs.laws.one_answer.Goals as goal
 
 pub returns : goal.returns

@@ -2,7 +2,7 @@ use Rattle.std.proofs.Common.{arith, ap, ◌∙◌}
 use Rattle.ps_text.specs.Answers.{Stream}
 use Rattle.ps_text.specs.Readers.{tail}
 use Rattle.ps_pgsolver.specs.Signs.{Sign}
-use Rattle.ps_pgsolver.proofs.NumberTokens.{number_small}
+use Rattle.ps_pgsolver.proofs.TokensOfGames.NumberTokens.{number_small}
 use Rattle.ps_pgsolver.proofs.reader.any_number_at.Goals as goal
 
 pub returns-in-Some-clause-answer : goal.returns-in-Some-clause-answer

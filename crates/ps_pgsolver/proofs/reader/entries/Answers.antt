@@ -1,10 +1,11 @@
 use Rattle.std.proofs.Common.{arith, Some, sym, ◌∙◌, subst}
 use Rattle.std.specs.Option.{option_copied}
 use Rattle.ps_pgsolver.specs.GameTexts.{entry, entries}
-use Rattle.ps_pgsolver.proofs.Choices.{number_entered, number_avoided, entry_shrinks}
-use Rattle.ps_pgsolver.proofs.GameExits.{Done, exit, stops_left, continues_start, continues_then, continues_many}
-use Rattle.ps_pgsolver.proofs.GameExits.{many_halts, many_done}
-use Rattle.ps_pgsolver.proofs.GameLaws.{joint_entries, laws_entry}
+use Rattle.ps_pgsolver.proofs.ReadGames.Choices.{number_entered, number_avoided, entry_shrinks}
+use Rattle.ps_pgsolver.proofs.ReadGames.GameExits.{Done, exit, stops_left, continues_start, continues_then}
+use Rattle.ps_pgsolver.proofs.ReadGames.GameExits.{continues_many}
+use Rattle.ps_pgsolver.proofs.ReadGames.GameExits.{many_halts, many_done}
+use Rattle.ps_pgsolver.proofs.ReadGames.GameLaws.{joint_entries, laws_entry}
 use Rattle.ps_pgsolver.proofs.reader.entries.Goals as goal
 
 pub returns-in_err-entry-clause-part : goal.returns-in_err-entry-clause-part

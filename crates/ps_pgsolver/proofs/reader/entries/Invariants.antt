@@ -3,7 +3,7 @@ use Rattle.ps_pgsolver.specs.Nodes.{KnowsAll}
 use Rattle.std.specs.Option.{option_copied}
 use Rattle.ps_text.specs.Parts.{many}
 use Rattle.ps_pgsolver.specs.GameTexts.{entries, entry}
-use Rattle.ps_pgsolver.proofs.GameExits.{Continues}
+use Rattle.ps_pgsolver.proofs.ReadGames.GameExits.{Continues}
 use Rattle.ps_pgsolver.proofs.reader.entries.Given as goal
 
 abbrev pub invariant-more : goal.invariant-more

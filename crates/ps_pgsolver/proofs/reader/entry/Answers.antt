@@ -3,8 +3,8 @@ use Rattle.std.specs.Option.{option_copied}
 use Rattle.ps_pgsolver.specs.GameTexts.{node, entry}
 use Rattle.ps_pgsolver.specs.Inner.Kept.{node_with}
 use Rattle.ps_pgsolver.specs.Nodes.{NodeData, KnowsNode, KnowsAll, ids_of}
-use Rattle.ps_pgsolver.proofs.NodeLemmas.{all_before, all_last}
-use Rattle.ps_pgsolver.proofs.GameExits.{exit, stops_mapped, done_mapped, done_value}
+use Rattle.ps_pgsolver.proofs.ReadGames.NodeLemmas.{all_before, all_last}
+use Rattle.ps_pgsolver.proofs.ReadGames.GameExits.{exit, stops_mapped, done_mapped, done_value}
 use Rattle.ps_pgsolver.proofs.reader.entry.Goals as goal
 
 pub returns-in_err-node-clause-part : goal.returns-in_err-node-clause-part

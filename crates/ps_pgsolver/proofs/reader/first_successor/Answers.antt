@@ -2,7 +2,7 @@ use Rattle.std.proofs.Common.{arith, ◌≡◌}
 use Rattle.std.specs.Option.{option_copied}
 use Rattle.ps_text.specs.Answers.{next_of, offset_of}
 use Rattle.ps_pgsolver.specs.Inner.Answered.{first_answer}
-use Rattle.ps_pgsolver.proofs.SingleSigns.{reads_first, later_first}
+use Rattle.ps_pgsolver.proofs.TokensOfGames.SingleSigns.{reads_first, later_first}
 use Rattle.ps_pgsolver.proofs.reader.first_successor.Goals as goal
 use Rattle.ps_pgsolver.proofs.reader.first_successor.Goals.{After-if_known}
 

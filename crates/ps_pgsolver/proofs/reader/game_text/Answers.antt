@@ -2,9 +2,9 @@ use Rattle.std.proofs.Common.{Some, subst, Ok}
 use Rattle.std.specs.Option.{option_copied}
 use Rattle.ps_pgsolver.specs.Inner.Answered.{TextAnswers}
 use Rattle.ps_pgsolver.specs.GameTexts.{game}
-use Rattle.ps_pgsolver.proofs.GameExits.{stops_left, stops_right, done_then}
-use Rattle.ps_pgsolver.proofs.GameLaws.{joint_parity, joint_start}
-use Rattle.ps_pgsolver.proofs.WholeGames.{answer_exit, ended, not_ended}
+use Rattle.ps_pgsolver.proofs.ReadGames.GameExits.{stops_left, stops_right, done_then}
+use Rattle.ps_pgsolver.proofs.ReadGames.GameLaws.{joint_parity, joint_start}
+use Rattle.ps_pgsolver.proofs.ReadGames.WholeGames.{answer_exit, ended, not_ended}
 use Rattle.ps_pgsolver.proofs.reader.game_text.Goals as goal
 
 pub returns-in_err-_parity-clause-answer : goal.returns-in_err-_parity-clause-answer

@@ -1,5 +1,5 @@
 use Rattle.std.proofs.Common.{arith, sym}
-use Rattle.ps_pgsolver.proofs.Choices.{name_none, name_done}
+use Rattle.ps_pgsolver.proofs.ReadGames.Choices.{name_none, name_done}
 use Rattle.ps_pgsolver.proofs.reader.name.Goals as goal
 
 pub returns-in_default-clause-part : goal.returns-in_default-clause-part

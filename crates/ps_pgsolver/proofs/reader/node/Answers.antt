@@ -3,10 +3,12 @@ use Rattle.std.specs.Option.{option_copied}
 use Rattle.ps_game.specs.Names.{name_bytes}
 use Rattle.ps_pgsolver.specs.GameTexts.{node, semicolon, successors}
 use Rattle.ps_pgsolver.specs.Nodes.{NodeData, ids_of}
-use Rattle.ps_pgsolver.proofs.GameExits.{Continues, Done, exit, stops_left, stops_mapped, done_mapped, continues_start}
-use Rattle.ps_pgsolver.proofs.GameExits.{continues_then}
-use Rattle.ps_pgsolver.proofs.PartLaws.{joint_id, joint_priority, joint_owner, joint_list, joint_name, from_priority}
-use Rattle.ps_pgsolver.proofs.PartLaws.{from_owner, from_successors, from_name, node_end}
+use Rattle.ps_pgsolver.proofs.ReadGames.GameExits.{Continues, Done, exit, stops_left, stops_mapped, done_mapped}
+use Rattle.ps_pgsolver.proofs.ReadGames.GameExits.{continues_start}
+use Rattle.ps_pgsolver.proofs.ReadGames.GameExits.{continues_then}
+use Rattle.ps_pgsolver.proofs.ReadGames.PartLaws.{joint_id, joint_priority, joint_owner, joint_list, joint_name}
+use Rattle.ps_pgsolver.proofs.ReadGames.PartLaws.{from_priority}
+use Rattle.ps_pgsolver.proofs.ReadGames.PartLaws.{from_owner, from_successors, from_name, node_end}
 use Rattle.ps_pgsolver.proofs.reader.node.Goals as goal
 use Rattle.ps_pgsolver.proofs.reader.node.Goals.{After-number, After-owner, After-successors, After-name}
 use Rattle.ps_pgsolver.proofs.reader.node.Goals.{After-semicolon}

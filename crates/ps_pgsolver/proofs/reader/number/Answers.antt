@@ -1,7 +1,7 @@
 use Rattle.std.proofs.Common.{ap, ◌∙◌}
 use Rattle.ps_text.specs.Answers.{next_of}
 use Rattle.ps_pgsolver.specs.Inner.Answered.{number_answer}
-use Rattle.ps_pgsolver.proofs.SingleSigns.{reads_number}
+use Rattle.ps_pgsolver.proofs.TokensOfGames.SingleSigns.{reads_number}
 use Rattle.ps_pgsolver.proofs.reader.number.Goals as goal
 
 pub returns : goal.returns

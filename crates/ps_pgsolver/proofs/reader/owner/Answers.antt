@@ -1,6 +1,6 @@
 use Rattle.std.proofs.Common.{arith}
-use Rattle.ps_pgsolver.proofs.GameExits.{exit}
-use Rattle.ps_pgsolver.proofs.SingleSigns.{reads_owner}
+use Rattle.ps_pgsolver.proofs.ReadGames.GameExits.{exit}
+use Rattle.ps_pgsolver.proofs.TokensOfGames.SingleSigns.{reads_owner}
 use Rattle.ps_pgsolver.proofs.reader.owner.Goals as goal
 
 pub returns-in_err-owner-clause-part : goal.returns-in_err-owner-clause-part

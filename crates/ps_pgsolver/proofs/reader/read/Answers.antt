@@ -1,6 +1,6 @@
 use Rattle.std.proofs.Common.{arith, Err, sym, ◌∙◌}
-use Rattle.ps_pgsolver.proofs.NodeLemmas.{all_known, all_tested}
-use Rattle.ps_pgsolver.proofs.GameAnswers.{first_exit, unknown_answer, answer, within_text}
+use Rattle.ps_pgsolver.proofs.ReadGames.NodeLemmas.{all_known, all_tested}
+use Rattle.ps_pgsolver.proofs.ReadGames.GameAnswers.{first_exit, unknown_answer, answer, within_text}
 use Rattle.ps_pgsolver.proofs.reader.read.Goals as goal
 
 pub returns-in_err-nodes-clause-answer : goal.returns-in_err-nodes-clause-answer

@@ -3,7 +3,7 @@ use Rattle.ps_text.specs.Answers.{offset_of}
 use Rattle.ps_pgsolver.specs.Inner.Answered.{semicolon_answer}
 use Rattle.ps_pgsolver.specs.Heads.{TakesIfNext}
 use Rattle.ps_pgsolver.specs.Signs.{Semicolon}
-use Rattle.ps_pgsolver.proofs.SingleSigns.{reads_semicolon}
+use Rattle.ps_pgsolver.proofs.TokensOfGames.SingleSigns.{reads_semicolon}
 use Rattle.ps_pgsolver.proofs.reader.semicolon.Goals as goal
 
 pub returns-then-take_semicolon : goal.returns-then-take_semicolon

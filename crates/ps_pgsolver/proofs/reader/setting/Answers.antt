@@ -1,6 +1,6 @@
 use Rattle.std.proofs.Common.{arith}
-use Rattle.ps_pgsolver.proofs.GameExits.{exit}
-use Rattle.ps_pgsolver.proofs.Choices.{setting_none, setting_done, setting_halts}
+use Rattle.ps_pgsolver.proofs.ReadGames.GameExits.{exit}
+use Rattle.ps_pgsolver.proofs.ReadGames.Choices.{setting_none, setting_done, setting_halts}
 use Rattle.ps_pgsolver.proofs.reader.setting.Goals as goal
 
 pub returns-else-is_at_word : goal.returns-else-is_at_word

@@ -1,8 +1,8 @@
 use Rattle.std.proofs.Common.{arith}
 use Rattle.std.specs.Option.{option_copied}
 use Rattle.ps_text.specs.Answers.{offset_of}
-use Rattle.ps_pgsolver.proofs.GameExits.{exit}
-use Rattle.ps_pgsolver.proofs.SingleSigns.{reads_successor, later_successor}
+use Rattle.ps_pgsolver.proofs.ReadGames.GameExits.{exit}
+use Rattle.ps_pgsolver.proofs.TokensOfGames.SingleSigns.{reads_successor, later_successor}
 use Rattle.ps_pgsolver.proofs.reader.successor.Goals as goal
 
 pub returns-in_err-id-clause-part : goal.returns-in_err-id-clause-part

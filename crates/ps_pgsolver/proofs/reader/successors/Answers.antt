@@ -6,11 +6,12 @@ use Rattle.ps_pgsolver.specs.GameTexts.{successor, successors, more_successor}
 use Rattle.ps_pgsolver.specs.Heads.{TakesIfNext}
 use Rattle.ps_pgsolver.specs.Nodes.{KnowsEach}
 use Rattle.ps_pgsolver.specs.Signs.{Comma}
-use Rattle.ps_pgsolver.proofs.Choices.{comma_entered, comma_avoided, more_done, more_halts, more_shrinks}
-use Rattle.ps_pgsolver.proofs.GameExits.{Continues, exit, stops_left, continues_start, continues_then, continues_many}
-use Rattle.ps_pgsolver.proofs.GameExits.{Done, done_value, many_halts, many_done}
-use Rattle.ps_pgsolver.proofs.NodeLemmas.{all_before, all_last}
-use Rattle.ps_pgsolver.proofs.PartLaws.{joint_successors, laws_more}
+use Rattle.ps_pgsolver.proofs.ReadGames.Choices.{comma_entered, comma_avoided, more_done, more_halts, more_shrinks}
+use Rattle.ps_pgsolver.proofs.ReadGames.GameExits.{Continues, exit, stops_left, continues_start, continues_then}
+use Rattle.ps_pgsolver.proofs.ReadGames.GameExits.{continues_many}
+use Rattle.ps_pgsolver.proofs.ReadGames.GameExits.{Done, done_value, many_halts, many_done}
+use Rattle.ps_pgsolver.proofs.ReadGames.NodeLemmas.{all_before, all_last}
+use Rattle.ps_pgsolver.proofs.ReadGames.PartLaws.{joint_successors, laws_more}
 use Rattle.ps_pgsolver.proofs.reader.successors.Goals as goal
 
 pub returns-in_err-first_successor-clause-part : goal.returns-in_err-first_successor-clause-part

@@ -2,7 +2,7 @@ use Rattle.std.proofs.Common.{List, ℕ, Some, Ok, subst}
 use Rattle.ps_text.specs.Parts.{PartAnswers}
 use Rattle.ps_pgsolver.specs.GameTexts.{pg_causes, game}
 use Rattle.ps_pgsolver.specs.Lexer.{stream_of}
-use Rattle.ps_pgsolver.proofs.GameAnswers.{none_unknown}
+use Rattle.ps_pgsolver.proofs.ReadGames.GameAnswers.{none_unknown}
 use Rattle.ps_pgsolver.proofs.reader.unknown_successor.Goals as goal
 
 pub unreachable-requires : goal.unreachable-requires

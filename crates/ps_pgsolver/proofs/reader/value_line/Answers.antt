@@ -1,8 +1,8 @@
 use Rattle.std.proofs.Common.{rules}
-use Rattle.ps_text.proofs.MeetsLemmas.{then_meets}
+use Rattle.ps_text.proofs.ParsedAnswers.MeetsLemmas.{then_meets}
 use Rattle.ps_pgsolver.specs.GameTexts.{value_line}
-use Rattle.ps_pgsolver.proofs.GameExits.{exit, stops_left}
-use Rattle.ps_pgsolver.proofs.GameLaws.{joint_value}
+use Rattle.ps_pgsolver.proofs.ReadGames.GameExits.{exit, stops_left}
+use Rattle.ps_pgsolver.proofs.ReadGames.GameLaws.{joint_value}
 use Rattle.ps_pgsolver.proofs.reader.value_line.Goals as goal
 
 pub returns-in_err-number : goal.returns-in_err-number

@@ -1,5 +1,5 @@
 use Rattle.std.proofs.Common.{arith, ◌≡◌, sym, ap, ◌∙◌, Some, eqb, false, rules, tests}
-use Rattle.ps_pgsolver.proofs.TokenLemmas.{at_digit, at_letter, at_quote, at_punctuation, first_size-none}
+use Rattle.ps_pgsolver.proofs.TokensOfGames.TokenLemmas.{at_digit, at_letter, at_quote, at_punctuation, first_size-none}
 use Rattle.ps_pgsolver.proofs.token.token_at.Goals as goal
 
 pub returns-in_default-clause-size : goal.returns-in_default-clause-size

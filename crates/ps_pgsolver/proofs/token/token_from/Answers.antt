@@ -1,5 +1,5 @@
 use Rattle.std.proofs.Common.{rules}
-use Rattle.ps_pgsolver.proofs.TokenLemmas.{reads_split, stream_from-blanks}
+use Rattle.ps_pgsolver.proofs.TokensOfGames.TokenLemmas.{reads_split, stream_from-blanks}
 use Rattle.ps_pgsolver.proofs.token.token_from.Goals as goal
 
 pub returns-clause-blanks : goal.returns-clause-blanks

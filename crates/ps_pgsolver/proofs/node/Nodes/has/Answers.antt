@@ -1,5 +1,5 @@
 use Rattle.std.proofs.Common.{arith}
-use Rattle.ps_pgsolver.proofs.KeptLemmas.{ids_are}
+use Rattle.ps_pgsolver.proofs.ReadGames.KeptLemmas.{ids_are}
 use Rattle.ps_pgsolver.proofs.node.Nodes.has.Goals as goal
 
 pub returns : goal.returns

@@ -1,4 +1,4 @@
-use Rattle.ps_pgsolver.proofs.KeptLemmas.{ids_are}
+use Rattle.ps_pgsolver.proofs.ReadGames.KeptLemmas.{ids_are}
 use Rattle.ps_pgsolver.proofs.node.Nodes.ids.Goals as goal
 
 pub returns-clause-ids : goal.returns-clause-ids

@@ -5,9 +5,9 @@ use Rattle.ps_game.specs.Games.{ParityGame, vertex_count}
 use Rattle.ps_game.specs.Names.{name_bytes}
 use Rattle.ps_pgsolver.specs.GamesOf.{draft_of, game_of}
 use Rattle.ps_pgsolver.specs.Nodes.{AreNodes, ids_of}
-use Rattle.ps_pgsolver.proofs.GameLemmas.{draft_bare, draft_known, named_count}
-use Rattle.ps_pgsolver.proofs.KeptLemmas.{ids_are, names_are, each_is_id, draft_is, few_names, plain_kept}
-use Rattle.ps_pgsolver.proofs.NodeLemmas.{names_plain}
+use Rattle.ps_pgsolver.proofs.ReadGames.GameLemmas.{draft_bare, draft_known, named_count}
+use Rattle.ps_pgsolver.proofs.ReadGames.KeptLemmas.{ids_are, names_are, each_is_id, draft_is, few_names, plain_kept}
+use Rattle.ps_pgsolver.proofs.ReadGames.NodeLemmas.{names_plain}
 use Rattle.ps_pgsolver.proofs.node.Nodes.into_game.Goals as goal
 use Rattle.ps_pgsolver.proofs.node.Nodes.into_game.Goals.{After-resolve, In_ok-game}
 

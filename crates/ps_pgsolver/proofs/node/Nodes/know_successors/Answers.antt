@@ -1,5 +1,5 @@
 use Rattle.std.proofs.Common.{◌∙◌}
-use Rattle.ps_pgsolver.proofs.KeptLemmas.{known_are}
+use Rattle.ps_pgsolver.proofs.ReadGames.KeptLemmas.{known_are}
 use Rattle.ps_pgsolver.proofs.node.Nodes.know_successors.Goals as goal
 
 pub returns : goal.returns

@@ -1,5 +1,5 @@
 use Rattle.std.proofs.Common.{rules}
-use Rattle.ps_pgsolver.proofs.KeptLemmas.{AreKept-none, nodes_kept-none}
+use Rattle.ps_pgsolver.proofs.ReadGames.KeptLemmas.{AreKept-none, nodes_kept-none}
 use Rattle.ps_pgsolver.proofs.node.Nodes.new.Goals as goal
 
 pub invariant_of-result : goal.invariant_of-result

@@ -1,7 +1,7 @@
 use Rattle.std.proofs.Common.{◌≡◌, ◌++◌, ◌∷◌, [], map, length, length-append, arith, rules}
 use Rattle.ps_game.specs.Games.{VertexData}
 use Rattle.ps_game.specs.Names.{name_bytes, with_none}
-use Rattle.ps_pgsolver.proofs.KeptLemmas.{ids_are, names_pushed, pushed_is, AreKept-push}
+use Rattle.ps_pgsolver.proofs.ReadGames.KeptLemmas.{ids_are, names_pushed, pushed_is, AreKept-push}
 use Rattle.ps_pgsolver.proofs.node.Nodes.push.Goals as goal
 use Rattle.ps_pgsolver.proofs.node.Nodes.push.Goals.{After-keep_name}
 

@@ -1,5 +1,5 @@
 use Rattle.std.proofs.Common.{arith}
-use Rattle.ps_pgsolver.proofs.TokenLemmas.{offset_ahead}
+use Rattle.ps_pgsolver.proofs.TokensOfGames.TokenLemmas.{offset_ahead}
 use Rattle.ps_pgsolver.proofs.token.Tokens.start.Goals as goal
 
 pub returns : goal.returns

@@ -1,8 +1,8 @@
 use Rattle.std.proofs.Common.{refl, sym, ◌∙◌, arith}
 use Rattle.ps_pgsolver.specs.Signs.{Comma}
 use Rattle.ps_pgsolver.specs.declared.token.Kind.TheVariants as kinds
-use Rattle.ps_pgsolver.proofs.NextSigns.{next_sign, at_comma}
-use Rattle.ps_pgsolver.proofs.TakenTokens.{leaves, begins_comma}
+use Rattle.ps_pgsolver.proofs.TokensOfGames.NextSigns.{next_sign, at_comma}
+use Rattle.ps_pgsolver.proofs.TokensOfGames.TakenTokens.{leaves, begins_comma}
 use Rattle.ps_pgsolver.proofs.token.Tokens.take_comma.Goals as goal
 
 pub returns-clause-taken : goal.returns-clause-taken

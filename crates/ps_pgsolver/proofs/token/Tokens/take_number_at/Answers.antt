@@ -5,7 +5,7 @@ use Rattle.std.proofs.lemmas.Bool.{cases_lt}
 use Rattle.ps_text.specs.Bytes.{is_digit}
 use Rattle.ps_pgsolver.specs.Signs.{Number}
 use Rattle.ps_pgsolver.specs.declared.token.Kind.TheVariants as kinds
-use Rattle.ps_pgsolver.proofs.TakenTokens.{leaves, begins_number, none_short, some_digit, starts_at}
+use Rattle.ps_pgsolver.proofs.TokensOfGames.TakenTokens.{leaves, begins_number, none_short, some_digit, starts_at}
 use Rattle.ps_pgsolver.proofs.token.Tokens.take_number_at.Goals as goal
 use Rattle.ps_pgsolver.proofs.token.Tokens.take_number_at.Goals.{then-number-eq0-via-then-number-eq0}
 use Rattle.ps_pgsolver.proofs.token.Tokens.take_number_at.Goals.{then-number-eq0-via-else-number-eq0+then-ends_in_class}

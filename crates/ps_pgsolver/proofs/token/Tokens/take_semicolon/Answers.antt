@@ -1,7 +1,7 @@
 use Rattle.std.proofs.Common.{refl, sym, ◌∙◌}
 use Rattle.ps_pgsolver.specs.Signs.{Semicolon}
 use Rattle.ps_pgsolver.specs.declared.token.Kind.TheVariants as kinds
-use Rattle.ps_pgsolver.proofs.TakenTokens.{leaves, begins_semicolon}
+use Rattle.ps_pgsolver.proofs.TokensOfGames.TakenTokens.{leaves, begins_semicolon}
 use Rattle.ps_pgsolver.proofs.token.Tokens.take_semicolon.Goals as goal
 
 pub returns : goal.returns

@@ -2,7 +2,7 @@
 use Rattle.std.proofs.Common.{rules, ◌≡◌, ℕ, List, [], ◌∷◌, Option, Result, Ok, Err, IsErrAnd, refl, sym, subst}
 use Rattle.std.proofs.lemmas.Result.{err_from_is_err_and}
 use Rattle.ps_text.specs.Answers.{Piece, Stream, signs, first_of, next_of, offset_of}
-use Rattle.ps_text.proofs.Whole.{answers_ok, answers_fault, answers_trailing}
+use Rattle.ps_text.proofs.ParsedAnswers.Whole.{answers_ok, answers_fault, answers_trailing}
 use Rattle.ps_pgsolver.specs.Inner.Answered.{TextAnswers, FaultAnswers, found_of, end_answer}
 use Rattle.ps_pgsolver.specs.GameTexts.{game}
 use Rattle.ps_pgsolver.specs.Nodes.{NodeData}
@@ -10,8 +10,8 @@ use Rattle.ps_pgsolver.specs.Signs.{Sign}
 use Rattle.ps_pgsolver.specs.declared.fault.PgCause.TheVariants as causes
 use Rattle.ps_pgsolver.specs.Causes.{PgFault}
 use Rattle.ps_text.specs.declared.faults.Fault.TheVariants as faults
-use Rattle.ps_pgsolver.proofs.GameExits.{Done, Halts}
-use Rattle.ps_pgsolver.proofs.GameLaws.{laws_game}
+use Rattle.ps_pgsolver.proofs.ReadGames.GameExits.{Done, Halts}
+use Rattle.ps_pgsolver.proofs.ReadGames.GameLaws.{laws_game}
 
 halts_answers : (known : Option (List ℕ)) (stream : Stream Sign) (e : PgFault) → Halts (game known) stream e →
     FaultAnswers known stream (found_of e)

@@ -17,8 +17,8 @@ use Rattle.ps_pgsolver.specs.declared.fault.PgCause.{PgCause}
 use Rattle.ps_pgsolver.specs.Nodes.{NodeData, KnowsAll, ids_of}
 use Rattle.ps_pgsolver.specs.Reading.{Answer, IsGameAnswer, HasTokens, text_limit, too_long, refused, unknown, meaning}
 use Rattle.ps_text.specs.declared.faults.Fault.TheVariants as faults
-use Rattle.ps_pgsolver.proofs.GameTokens.{tokens_found, only_tokens}
-use Rattle.ps_pgsolver.proofs.Sound.{knows_all, same_nodes}
+use Rattle.ps_pgsolver.proofs.TokensOfGames.GameTokens.{tokens_found, only_tokens}
+use Rattle.ps_pgsolver.proofs.ReadGames.Sound.{knows_all, same_nodes}
 
 tokens : (text : List ℕ) → length text ≤ text_limit → HasTokens text (stream_of text)
 tokens text short = record { short = short; tokens = tokens_found text }

@@ -5,9 +5,10 @@ use Rattle.std.proofs.Common.{sym, ap, subst, inl, ◌∙◌, rules}
 use Rattle.ps_text.specs.Answers.{Stream, next_of}
 use Rattle.ps_text.specs.Parts.{one, NoBad}
 use Rattle.ps_text.specs.Readers.{tail}
-use Rattle.ps_text.proofs.Simple.{none_is_some, same_some}
-use Rattle.ps_text.proofs.Covered.{Enters, Avoids, enters_then, enters_one, enters_mapped}
-use Rattle.ps_text.proofs.MeetsLemmas.{left_entered, right_otherwise, meets_shrinks, meets_give, meets_next}
+use Rattle.ps_text.proofs.Combinators.Simple.{none_is_some, same_some}
+use Rattle.ps_text.proofs.Combinators.Covered.{Enters, Avoids, enters_then, enters_one, enters_mapped}
+use Rattle.ps_text.proofs.ParsedAnswers.MeetsLemmas.{left_entered, right_otherwise, meets_shrinks, meets_give}
+use Rattle.ps_text.proofs.ParsedAnswers.MeetsLemmas.{meets_next}
 use Rattle.ps_pgsolver.specs.Inner.Answered.{found_of}
 use Rattle.ps_pgsolver.specs.GameTexts.{pg_causes, setting, keyword, keyword_in, value_line, name, name_in, number_in}
 use Rattle.ps_pgsolver.specs.GameTexts.{comma, comma_in, BadId, more_successor, successor, new_id, node, entry}
@@ -16,10 +17,10 @@ use Rattle.ps_pgsolver.specs.Nodes.{NodeData}
 use Rattle.ps_pgsolver.specs.Signs.{Sign, Number, Word, Name, Comma}
 use Rattle.ps_pgsolver.specs.declared.fault.PgCause.{PgCause}
 use Rattle.ps_pgsolver.specs.Causes.{PgFault}
-use Rattle.ps_pgsolver.proofs.GameExits.{Done, Halts, stops_right, stops_mapped, done_then, done_mapped}
-use Rattle.ps_pgsolver.proofs.PartLaws.{IsKind, kind_of, laws_one_name, laws_no_name, joint_more, joint_id}
-use Rattle.ps_pgsolver.proofs.PartLaws.{another, laws_more}
-use Rattle.ps_pgsolver.proofs.GameLaws.{laws_line, laws_no_line, joint_line, line, takes_word, laws_entry}
+use Rattle.ps_pgsolver.proofs.ReadGames.GameExits.{Done, Halts, stops_right, stops_mapped, done_then, done_mapped}
+use Rattle.ps_pgsolver.proofs.ReadGames.PartLaws.{IsKind, kind_of, laws_one_name, laws_no_name, joint_more, joint_id}
+use Rattle.ps_pgsolver.proofs.ReadGames.PartLaws.{another, laws_more}
+use Rattle.ps_pgsolver.proofs.ReadGames.GameLaws.{laws_line, laws_no_line, joint_line, line, takes_word, laws_entry}
 
 keyword_done : (word : List ℕ) (old : Stream Sign) {new : Stream Sign} →
     next_of old ≡ Some (Word word) → new ≡ tail old → Done (keyword word) old tt new

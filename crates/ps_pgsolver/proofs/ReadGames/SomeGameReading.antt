@@ -6,10 +6,12 @@ use Rattle.std.proofs.lemmas.Bool.{cases_lt}
 use Rattle.ps_text.specs.Answers.{Stream, Found}
 use Rattle.ps_text.specs.Parts.{Part, PartAnswers, NoBad}
 use Rattle.ps_text.specs.Outcomes.{HasOutcomes}
-use Rattle.ps_text.proofs.Outcomes.{Judged, good, bad_only, has_give, has_one, has_mapped, has_then, has_either}
-use Rattle.ps_text.proofs.Outcomes.{has_many, some_answer}
-use Rattle.ps_text.proofs.Decisions.{Decided, decide_not, decide_both, decide_below, decide_in, judge_cause}
-use Rattle.ps_text.proofs.Decisions.{judge_one, judge_as}
+use Rattle.ps_text.proofs.ParsedAnswers.Outcomes.{Judged, good, bad_only, has_give, has_one, has_mapped, has_then}
+use Rattle.ps_text.proofs.ParsedAnswers.Outcomes.{has_either}
+use Rattle.ps_text.proofs.ParsedAnswers.Outcomes.{has_many, some_answer}
+use Rattle.ps_text.proofs.ParsedAnswers.Decisions.{Decided, decide_not, decide_both, decide_below, decide_in}
+use Rattle.ps_text.proofs.ParsedAnswers.Decisions.{judge_cause}
+use Rattle.ps_text.proofs.ParsedAnswers.Decisions.{judge_one, judge_as}
 use Rattle.ps_game.specs.Games.{NamedGameData}
 use Rattle.ps_pgsolver.specs.Causes.{cause_number}
 use Rattle.ps_pgsolver.specs.GamesOf.{named_game_of}
@@ -23,12 +25,13 @@ use Rattle.ps_pgsolver.specs.Reading.{Answer, HasTokens, text_limit, too_long, r
 use Rattle.ps_pgsolver.specs.Signs.{Sign, Number, Word, Name, Comma, Semicolon, OpenName, Wrong}
 use Rattle.ps_pgsolver.specs.declared.fault.PgCause.{PgCause}
 use Rattle.ps_pgsolver.specs.declared.fault.PgCause.TheVariants as causes
-use Rattle.ps_pgsolver.proofs.GameTokens.{tokens_found}
-use Rattle.ps_pgsolver.proofs.PartLaws.{laws_one_name, laws_no_name, laws_more, joint_more, joint_successors}
-use Rattle.ps_pgsolver.proofs.PartLaws.{joint_name, joint_list, joint_owner, joint_priority, joint_id}
-use Rattle.ps_pgsolver.proofs.GameLaws.{laws_entry, laws_line, laws_no_line, laws_game, takes_word, joint_entries}
-use Rattle.ps_pgsolver.proofs.GameLaws.{joint_value, joint_line, joint_start, joint_parity}
-use Rattle.ps_pgsolver.proofs.Sound.{same_nodes}
+use Rattle.ps_pgsolver.proofs.TokensOfGames.GameTokens.{tokens_found}
+use Rattle.ps_pgsolver.proofs.ReadGames.PartLaws.{laws_one_name, laws_no_name, laws_more, joint_more, joint_successors}
+use Rattle.ps_pgsolver.proofs.ReadGames.PartLaws.{joint_name, joint_list, joint_owner, joint_priority, joint_id}
+use Rattle.ps_pgsolver.proofs.ReadGames.GameLaws.{laws_entry, laws_line, laws_no_line, laws_game, takes_word}
+use Rattle.ps_pgsolver.proofs.ReadGames.GameLaws.{joint_entries}
+use Rattle.ps_pgsolver.proofs.ReadGames.GameLaws.{joint_value, joint_line, joint_start, joint_parity}
+use Rattle.ps_pgsolver.proofs.ReadGames.Sound.{same_nodes}
 
 abbrev Judges : (Sign → PgCause → Type 0) → Type 0
 Judges Bad = (t : Sign) → Judged cause_number (Bad t)

@@ -5,13 +5,13 @@
 --   one another
 use Rattle.std.proofs.Common.{◌≡◌, ℕ, List, [], ◌∷◌, ◌++◌, Option, None, Some, refl, sym, ◌∙◌, arith, rules}
 use Rattle.ps_text.specs.Parts.{Part, one, give, then_by, many, mapped, NoBad}
-use Rattle.ps_text.proofs.Laws.{Laws, Joint, Nothing, Or, Within, Apart, weaker}
-use Rattle.ps_text.proofs.Joined.{joint}
-use Rattle.ps_text.proofs.Simple.{Taken, BadSign, none_is_some, laws_one, laws_give, laws_mapped, laws_then}
-use Rattle.ps_text.proofs.Following.{laws_next}
-use Rattle.ps_text.proofs.Covered.{laws_either}
-use Rattle.ps_text.proofs.Repeated.{laws_many}
-use Rattle.ps_text.proofs.Whole.{Own}
+use Rattle.ps_text.proofs.Combinators.Laws.{Laws, Joint, Nothing, Or, Within, Apart, weaker}
+use Rattle.ps_text.proofs.Combinators.Joined.{joint}
+use Rattle.ps_text.proofs.Combinators.Simple.{Taken, BadSign, none_is_some, laws_one, laws_give, laws_mapped, laws_then}
+use Rattle.ps_text.proofs.Combinators.Following.{laws_next}
+use Rattle.ps_text.proofs.Combinators.Covered.{laws_either}
+use Rattle.ps_text.proofs.Combinators.Repeated.{laws_many}
+use Rattle.ps_text.proofs.ParsedAnswers.Whole.{Own}
 use Rattle.ps_pgsolver.specs.GameTexts.{pg_causes, number_in, comma_in, semicolon_in, name_in, BadNumber, BadId}
 use Rattle.ps_pgsolver.specs.GameTexts.{BadOwner, BadSuccessor, BadFirst, number, new_id, owner, successor}
 use Rattle.ps_pgsolver.specs.GameTexts.{first_successor, comma, semicolon, more_successor, successors, name, node}

@@ -5,19 +5,20 @@ use Rattle.std.proofs.lemmas.Slice.Eq.{bytes_eq-Decides}
 use Rattle.std.proofs.lemmas.Bool.{cases_Bool}
 use Rattle.std.specs.Prelude.{codes}
 use Rattle.ps_text.specs.Parts.{Part, give, then_by, many, NoBad}
-use Rattle.ps_text.proofs.Laws.{Laws, Joint, Nothing, Or, Apart, weaker}
-use Rattle.ps_text.proofs.Joined.{joint}
-use Rattle.ps_text.proofs.Simple.{none_is_some, laws_give, laws_mapped, laws_then}
-use Rattle.ps_text.proofs.Following.{laws_next}
-use Rattle.ps_text.proofs.Covered.{laws_either}
-use Rattle.ps_text.proofs.Repeated.{laws_many}
+use Rattle.ps_text.proofs.Combinators.Laws.{Laws, Joint, Nothing, Or, Apart, weaker}
+use Rattle.ps_text.proofs.Combinators.Joined.{joint}
+use Rattle.ps_text.proofs.Combinators.Simple.{none_is_some, laws_give, laws_mapped, laws_then}
+use Rattle.ps_text.proofs.Combinators.Following.{laws_next}
+use Rattle.ps_text.proofs.Combinators.Covered.{laws_either}
+use Rattle.ps_text.proofs.Combinators.Repeated.{laws_many}
 use Rattle.ps_pgsolver.specs.GameTexts.{keyword_in, number, semicolon, node, entry, entries, keyword, value_line}
 use Rattle.ps_pgsolver.specs.GameTexts.{setting, game}
 use Rattle.ps_pgsolver.specs.Nodes.{NodeData, ids_of}
 use Rattle.ps_pgsolver.specs.Signs.{Sign, Word}
 use Rattle.ps_pgsolver.specs.declared.fault.PgCause.{PgCause}
-use Rattle.ps_pgsolver.proofs.PartLaws.{kind_of, IsKind, Anything, Odd, nothing_apart, same, laws_sign, laws_number}
-use Rattle.ps_pgsolver.proofs.PartLaws.{laws_semicolon, laws_node}
+use Rattle.ps_pgsolver.proofs.ReadGames.PartLaws.{kind_of, IsKind, Anything, Odd, nothing_apart, same, laws_sign}
+use Rattle.ps_pgsolver.proofs.ReadGames.PartLaws.{laws_number}
+use Rattle.ps_pgsolver.proofs.ReadGames.PartLaws.{laws_semicolon, laws_node}
 
 -- ## The whole text
 

@@ -14,8 +14,8 @@ use Rattle.ps_pgsolver.specs.Signs.{Sign, Number}
 use Rattle.ps_pgsolver.specs.declared.fault.PgCause.{PgCause}
 use Rattle.ps_pgsolver.specs.declared.fault.PgCause.TheVariants as causes
 use Rattle.ps_ids.proofs.Members.{Contains-any, any-from_Contains}
-use Rattle.ps_pgsolver.proofs.GameLaws.{laws_game}
-use Rattle.ps_text.proofs.Simple.{none_is_some, same_some}
+use Rattle.ps_pgsolver.proofs.ReadGames.GameLaws.{laws_game}
+use Rattle.ps_text.proofs.Combinators.Simple.{none_is_some, same_some}
 
 abbrev pub Quiet : {V : Type 0} → Part Sign V PgCause → List Sign → Type 0
 Quiet part text =

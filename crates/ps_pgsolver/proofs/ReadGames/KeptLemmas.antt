@@ -11,12 +11,12 @@ use Rattle.std.proofs.lemmas.List.Folds.{list_all-map}
 use Rattle.ps_game.specs.Drafts.{with_places}
 use Rattle.ps_game.specs.Games.{VertexData, ParityGame, HasNoQuote}
 use Rattle.ps_game.specs.Names.{name_bytes, with_none}
-use Rattle.ps_game.proofs.NamesKept.{with_none-all}
+use Rattle.ps_game.proofs.StoredGames.NamesKept.{with_none-all}
 use Rattle.ps_pgsolver.specs.GamesOf.{draft_of, vertex_of_node}
 use Rattle.ps_pgsolver.specs.Inner.Kept.{AreKept, nodes_kept, node_kept, vertex_kept, names_with}
 use Rattle.ps_pgsolver.specs.Nodes.{NodeData, IsReadNode, AreNodes, KnowsEach, KnowsAll, knows_each, knows_all, ids_of}
 use Rattle.ps_pgsolver.specs.Nodes.{names_of}
-use Rattle.ps_pgsolver.proofs.NodeLemmas.{AreNodes-push}
+use Rattle.ps_pgsolver.proofs.ReadGames.NodeLemmas.{AreNodes-push}
 
 kept_ids : (ids : List ℕ) (vertices : ParityGame) (names : List (Option (List ℕ))) → length ids ≡ length vertices →
     length names ≡ length ids → ids_of (nodes_kept ids vertices names) ≡ ids

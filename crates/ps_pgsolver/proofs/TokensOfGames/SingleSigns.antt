@@ -6,7 +6,7 @@ use Rattle.std.specs.List.{Contains}
 use Rattle.ps_text.specs.Answers.{Stream, next_of, offset_of}
 use Rattle.ps_text.specs.Parts.{NoBad}
 use Rattle.ps_text.specs.Readers.{tail}
-use Rattle.ps_pgsolver.proofs.OneSign.{Fits, taken, bad, refused, one_reads}
+use Rattle.ps_pgsolver.proofs.TokensOfGames.OneSign.{Fits, taken, bad, refused, one_reads}
 use Rattle.ps_ids.proofs.Members.{any-from_Contains, Contains-any}
 use Rattle.ps_pgsolver.specs.Inner.Answered.{ReadsAs, ReadsKnown, is_known, number_answer, id_answer}
 use Rattle.ps_pgsolver.specs.Inner.Answered.{owner_answer}

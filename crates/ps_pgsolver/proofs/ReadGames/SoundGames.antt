@@ -10,10 +10,10 @@ use Rattle.std.proofs.lemmas.List.Elements.{All-push, All-map}
 use Rattle.std.specs.List.{All}
 use Rattle.ps_text.specs.Answers.{IsClean}
 use Rattle.ps_text.specs.Parts.{IsWrong, by_part, many}
-use Rattle.ps_text.proofs.Simple.{none_is_some, same_some}
+use Rattle.ps_text.proofs.Combinators.Simple.{none_is_some, same_some}
 use Rattle.ps_game.specs.Drafts.{NoneBare}
 use Rattle.ps_game.specs.Games.{NamedGameData, IsGame, vertex_count, VertexData}
-use Rattle.ps_game.proofs.Finished.{IsGame-without_repeats}
+use Rattle.ps_game.proofs.StoredGames.Finished.{IsGame-without_repeats}
 use Rattle.ps_pgsolver.specs.GameTexts.{pg_causes, number_in, BadOwner, more_successor}
 use Rattle.ps_pgsolver.specs.GameTexts.{successors, owner, node, entry, entries, game}
 use Rattle.ps_pgsolver.specs.GamesOf.{draft_of, game_of, named_game_of, vertex_of_node}
@@ -22,8 +22,9 @@ use Rattle.ps_pgsolver.specs.Reading.{Answer, too_long, refused, unknown, meanin
 use Rattle.ps_pgsolver.specs.Signs.{Sign, Number}
 use Rattle.ps_pgsolver.specs.declared.fault.PgCause.{PgCause}
 use Rattle.ps_pgsolver.specs.declared.fault.PgCause.TheVariants as causes
-use Rattle.ps_pgsolver.proofs.GameLemmas.{draft_at, draft_known, named_count}
-use Rattle.ps_pgsolver.proofs.Sound.{Sound, knows_all, sound_any, sound_one, sound_then, sound_mapped, sound_many}
+use Rattle.ps_pgsolver.proofs.ReadGames.GameLemmas.{draft_at, draft_known, named_count}
+use Rattle.ps_pgsolver.proofs.ReadGames.Sound.{Sound, knows_all, sound_any, sound_one, sound_then, sound_mapped}
+use Rattle.ps_pgsolver.proofs.ReadGames.Sound.{sound_many}
 
 pub record IsSoundNode (n : NodeData) : Type 0 where
   pub owner : n.owner < 2

@@ -7,8 +7,8 @@ use Rattle.ps_text.specs.Readers.{tail, Meets}
 use Rattle.ps_text.specs.Faults.{found_of}
 use Rattle.ps_text.specs.declared.faults.Fault.{Fault}
 use Rattle.ps_text.specs.declared.faults.Fault.TheVariants as faults
-use Rattle.ps_text.proofs.Simple.{same_some, none_is_some}
-use Rattle.ps_text.proofs.MeetsLemmas.{meets_next, meets_bad_next, meets_refusal}
+use Rattle.ps_text.proofs.Combinators.Simple.{same_some, none_is_some}
+use Rattle.ps_text.proofs.ParsedAnswers.MeetsLemmas.{meets_next, meets_bad_next, meets_refusal}
 use Rattle.ps_pgsolver.specs.Signs.{Sign}
 
 -- the result of a parsing function for a token at an offset agrees with what the grammar says

@@ -10,9 +10,10 @@ use Rattle.std.proofs.Common.{◌≡◌, Result, Ok, Err, IsErrAnd, refl, subst}
 use Rattle.ps_text.specs.Answers.{Stream, signs, next_of}
 use Rattle.ps_text.specs.Parts.{Part, IsRead, then_by, many, mapped}
 use Rattle.ps_text.specs.Readers.{IsSuffix, Stops}
-use Rattle.ps_text.proofs.Laws.{Joint, Laws, Apart}
-use Rattle.ps_text.proofs.Covered.{Enters, Avoids}
-use Rattle.ps_text.proofs.MeetsLemmas.{many_then, many_fails, many_ends, then_meets, then_fails, exits, meets_mapped}
+use Rattle.ps_text.proofs.Combinators.Laws.{Joint, Laws, Apart}
+use Rattle.ps_text.proofs.Combinators.Covered.{Enters, Avoids}
+use Rattle.ps_text.proofs.ParsedAnswers.MeetsLemmas.{many_then, many_fails, many_ends, then_meets, then_fails, exits}
+use Rattle.ps_text.proofs.ParsedAnswers.MeetsLemmas.{meets_mapped}
 use Rattle.ps_pgsolver.specs.Inner.Answered.{ReadsAs, found_of}
 use Rattle.ps_pgsolver.specs.GameTexts.{pg_causes}
 use Rattle.ps_pgsolver.specs.Signs.{Sign}

@@ -8,13 +8,13 @@ use Rattle.std.proofs.Math.Seq.{take-append_seam}
 use Rattle.std.proofs.lemmas.List.Folds.{length-prefix_len}
 use Rattle.std.proofs.lemmas.List.Sums.{prefix_len_stops}
 use Rattle.std.proofs.lemmas.Bool.{ltb-true, ltb-false, eqb-true, eqb-false}
-use Rattle.ps_text.proofs.Splits.{same_split}
+use Rattle.ps_text.proofs.Combinators.Splits.{same_split}
 use Rattle.ps_text.specs.Answers.{Stream}
 use Rattle.ps_text.specs.Digits.{decimal_value}
 use Rattle.ps_text.specs.Runs.{AllOf, StopsBefore}
 use Rattle.ps_text.specs.Tokens.{NextToken, TokensFrom, TokensDiffer}
-use Rattle.ps_text.proofs.ByteRuns.{run_len, run_all, run_ends}
-use Rattle.ps_text.proofs.OneTokenisation.{has_one_tokenisation}
+use Rattle.ps_text.proofs.BytesAndDigits.ByteRuns.{run_len, run_all, run_ends}
+use Rattle.ps_text.proofs.ParsedAnswers.OneTokenisation.{has_one_tokenisation}
 use Rattle.ps_text.specs.Bytes.{is_blank, is_digit, is_letter, is_unquoted}
 use Rattle.ps_pgsolver.specs.Ends.{ends_in}
 use Rattle.ps_pgsolver.specs.Signs.{Sign, Number, Word, Name, Comma, Semicolon, OpenName, Wrong}
@@ -22,9 +22,10 @@ use Rattle.ps_pgsolver.specs.Lexer.{lex, first_sign, first_size, number_sign, wo
 use Rattle.ps_pgsolver.specs.Lexer.{punctuation_sign, is_closed, stream_of}
 use Rattle.ps_pgsolver.specs.GameTokens.{IsByteRun, number_behind_word, word_behind_number, stray, IsToken}
 use Rattle.ps_pgsolver.specs.GameTokens.{AreGameTokens}
-use Rattle.ps_pgsolver.proofs.TokenLemmas.{at_digit, at_letter, at_quote, at_punctuation, lex-blanks, lex-first}
-use Rattle.ps_pgsolver.proofs.TokenLemmas.{lex-end}
-use Rattle.ps_pgsolver.proofs.TokenLemmas.{prefix_len-behind, first_size-positive}
+use Rattle.ps_pgsolver.proofs.TokensOfGames.TokenLemmas.{at_digit, at_letter, at_quote, at_punctuation, lex-blanks}
+use Rattle.ps_pgsolver.proofs.TokensOfGames.TokenLemmas.{lex-first}
+use Rattle.ps_pgsolver.proofs.TokensOfGames.TokenLemmas.{lex-end}
+use Rattle.ps_pgsolver.proofs.TokensOfGames.TokenLemmas.{prefix_len-behind, first_size-positive}
 
 -- ## Runs
 

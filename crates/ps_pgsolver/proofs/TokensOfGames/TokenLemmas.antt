@@ -6,7 +6,7 @@ use Rattle.std.proofs.lemmas.List.{append-nil, drop-drop, length-take-le, length
 use Rattle.std.proofs.lemmas.Bool.{cases_Bool, cases_lt}
 use Rattle.std.proofs.Math.Seq.{take-add}
 use Rattle.std.specs.List.{prefix_len}
-use Rattle.ps_text.proofs.ByteRuns.{run_len, run_ends}
+use Rattle.ps_text.proofs.BytesAndDigits.ByteRuns.{run_len, run_ends}
 use Rattle.ps_text.specs.Bytes.{is_blank, is_digit, is_letter}
 use Rattle.ps_pgsolver.specs.Ends.{ends_in}
 use Rattle.ps_text.specs.Answers.{Stream, offset_of}

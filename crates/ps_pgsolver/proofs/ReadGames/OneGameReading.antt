@@ -3,7 +3,7 @@ use Rattle.std.proofs.Common.{◌≡◌, ℕ, ◌<◌, ◌≤◌, eqb, List, len
 use Rattle.std.proofs.Common.{◌∙◌, arith, rules, if◌then◌else◌}
 use Rattle.ps_text.specs.Answers.{Stream, Found, AreNumbered}
 use Rattle.ps_text.specs.Parts.{PartAnswers, IsWrong}
-use Rattle.ps_text.proofs.OneAnswer.{has_one_answer}
+use Rattle.ps_text.proofs.ParsedAnswers.OneAnswer.{has_one_answer}
 use Rattle.ps_game.specs.Games.{NamedGameData}
 use Rattle.ps_pgsolver.specs.Causes.{cause_number}
 use Rattle.ps_pgsolver.specs.GamesOf.{named_game_of}
@@ -14,8 +14,8 @@ use Rattle.ps_pgsolver.specs.Reading.{Answer, text_limit, too_long, refused, unk
 use Rattle.ps_pgsolver.specs.Signs.{Sign}
 use Rattle.ps_pgsolver.specs.declared.fault.PgCause.{PgCause}
 use Rattle.ps_pgsolver.specs.declared.fault.PgCause.TheVariants as causes
-use Rattle.ps_pgsolver.proofs.GameTokens.{only_tokens}
-use Rattle.ps_pgsolver.proofs.GameLaws.{laws_game}
+use Rattle.ps_pgsolver.proofs.TokensOfGames.GameTokens.{only_tokens}
+use Rattle.ps_pgsolver.proofs.ReadGames.GameLaws.{laws_game}
 
 abbrev of_number : ℕ → PgCause
 of_number n = if eqb n 30 then causes.Syntax else

@@ -17,8 +17,8 @@ use Rattle.ps_pgsolver.specs.Lexer.{first_sign, first_size, stream_from}
 use Rattle.ps_pgsolver.specs.Signs.{Sign, Number, Comma, Semicolon}
 use Rattle.ps_pgsolver.specs.declared.token.Kind.{Kind}
 use Rattle.ps_pgsolver.specs.declared.token.Kind.TheVariants as kinds
-use Rattle.ps_pgsolver.proofs.NextSigns.{at_number, next_sign}
-use Rattle.ps_pgsolver.proofs.TokenLemmas.{at_digit, at_punctuation, offset_ahead, reads_split}
+use Rattle.ps_pgsolver.proofs.TokensOfGames.NextSigns.{at_number, next_sign}
+use Rattle.ps_pgsolver.proofs.TokensOfGames.TokenLemmas.{at_digit, at_punctuation, offset_ahead, reads_split}
 
 -- `sign` is the first token of the text `rest`, which follows the bytes `before`, and `size` is the token's length in
 -- bytes

@@ -12,7 +12,7 @@ use Rattle.ps_pgsolver.specs.Heads.{is_number, is_comma, name_of}
 use Rattle.ps_pgsolver.specs.Lexer.{lex, first_sign, number_sign, word_sign, name_sign, punctuation_sign, is_closed}
 use Rattle.ps_pgsolver.specs.Lexer.{stream_from}
 use Rattle.ps_pgsolver.specs.Signs.{Sign, Number, Comma, Semicolon, Wrong}
-use Rattle.ps_pgsolver.proofs.TokenLemmas.{stream_from-blanks, prefix_len-behind, lex-first, lex-end}
+use Rattle.ps_pgsolver.proofs.TokensOfGames.TokenLemmas.{stream_from-blanks, prefix_len-behind, lex-first, lex-end}
 
 -- the token with which a text begins, if the text is not empty
 abbrev pub head_sign : List ℕ → List ℕ → Option Sign
