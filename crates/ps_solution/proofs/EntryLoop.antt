@@ -6,19 +6,22 @@ use Rattle.ps_text.specs.Answers.{Stream, Found, next_of}
 use Rattle.ps_text.specs.Parts.{one, NoBad, many, mapped}
 use Rattle.ps_text.specs.Readers.{tail, Reads, Stops, Carries}
 use Rattle.ps_text.specs.Faults.{found_of}
-use Rattle.ps_text.proofs.Covered.{Enters, enters_then, enters_one, enters_mapped}
-use Rattle.ps_text.proofs.Exits.{reads_then, reads_next, reads_give, reads_mapped, stops_first, stops_behind}
-use Rattle.ps_text.proofs.Exits.{stops_mapped, exits, then_meets, carries_start, carries_then, carries_reads}
-use Rattle.ps_text.proofs.Exits.{carries_stops}
-use Rattle.ps_text.proofs.Branches.{left_entered, right_otherwise, reads_as, stops_as_well, reads_shrinks, many_ends}
-use Rattle.ps_text.proofs.Branches.{many_fails, carries_many}
+use Rattle.ps_text.proofs.Combinators.Covered.{Enters, enters_then, enters_one, enters_mapped}
+use Rattle.ps_text.proofs.ParsedAnswers.Exits.{reads_then, reads_next, reads_give, reads_mapped, stops_first}
+use Rattle.ps_text.proofs.ParsedAnswers.Exits.{stops_behind}
+use Rattle.ps_text.proofs.ParsedAnswers.Exits.{stops_mapped, exits, then_meets, carries_start, carries_then}
+use Rattle.ps_text.proofs.ParsedAnswers.Exits.{carries_reads}
+use Rattle.ps_text.proofs.ParsedAnswers.Exits.{carries_stops}
+use Rattle.ps_text.proofs.ParsedAnswers.Branches.{left_entered, right_otherwise, reads_as, stops_as_well, reads_shrinks}
+use Rattle.ps_text.proofs.ParsedAnswers.Branches.{many_ends}
+use Rattle.ps_text.proofs.ParsedAnswers.Branches.{many_fails, carries_many}
 use Rattle.ps_certificate.specs.Faults.{CertFault}
 use Rattle.ps_certificate.specs.declared.fault.CertCause.{CertCause}
 use Rattle.ps_pgsolver.specs.GameTexts.{keyword_in}
 use Rattle.ps_pgsolver.specs.Heads.{is_number}
 use Rattle.ps_pgsolver.specs.Signs.{Sign, Number, Word}
-use Rattle.ps_pgsolver.proofs.Choices.{number_is, number_avoided}
-use Rattle.ps_pgsolver.proofs.GameLaws.{takes_word}
+use Rattle.ps_pgsolver.proofs.ReadGames.Choices.{number_is, number_avoided}
+use Rattle.ps_pgsolver.proofs.ReadGames.GameLaws.{takes_word}
 use Rattle.ps_solution.specs.Solved.{SolvedData, none_solved, with_entry}
 use Rattle.ps_solution.specs.Texts.{Field, solution_causes, value_in, BadValue, IsBadVertex, IsUnknown, number, vertex}
 use Rattle.ps_solution.specs.Texts.{winner, successor, semicolon, keyword, value_line, heading, choice, entry, entries}

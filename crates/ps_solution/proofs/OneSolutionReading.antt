@@ -2,13 +2,13 @@
 use Rattle.std.proofs.Common.{◌≡◌, ℕ, eqb, List, length, Result, Ok, Err, sym, ap, subst, ◌∙◌, rules, if◌then◌else◌}
 use Rattle.ps_text.specs.Answers.{Stream, Found, AreNumbered}
 use Rattle.ps_text.specs.Parts.{PartAnswers, IsWrong}
-use Rattle.ps_text.proofs.OneAnswer.{has_one_answer}
+use Rattle.ps_text.proofs.ParsedAnswers.OneAnswer.{has_one_answer}
 use Rattle.ps_certificate.specs.Faults.{cause_number}
 use Rattle.ps_certificate.specs.declared.fault.CertCause.{CertCause}
 use Rattle.ps_certificate.specs.declared.fault.CertCause.TheVariants.{Syntax, OtherGame}
 use Rattle.ps_pgsolver.specs.Lexer.{stream_of}
 use Rattle.ps_pgsolver.specs.Signs.{Sign}
-use Rattle.ps_pgsolver.proofs.GameTokens.{only_tokens}
+use Rattle.ps_pgsolver.proofs.TokensOfGames.GameTokens.{only_tokens}
 use Rattle.ps_solution.specs.Reading.{ReadsSolution, refused, incomplete, meaning}
 use Rattle.ps_solution.specs.Solved.{SolvedData, SolutionData, IsFilled, solution_of}
 use Rattle.ps_solution.specs.Texts.{solution_causes, solution}

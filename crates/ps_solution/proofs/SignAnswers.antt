@@ -16,7 +16,7 @@ use Rattle.ps_certificate.specs.declared.fault.CertCause.TheVariants.{Syntax, Ot
 use Rattle.ps_pgsolver.specs.GameTexts.{too_large, semicolon_in}
 use Rattle.ps_pgsolver.specs.Nodes.{is_member}
 use Rattle.ps_pgsolver.specs.Signs.{Sign, Number, Semicolon}
-use Rattle.ps_pgsolver.proofs.OneSign.{Fits, taken, bad, refused, one_reads}
+use Rattle.ps_pgsolver.proofs.TokensOfGames.OneSign.{Fits, taken, bad, refused, one_reads}
 use Rattle.ps_solution.specs.Solved.{SolvedData}
 use Rattle.ps_solution.specs.Texts.{value_in, BadValue, AnyValue, IsBadVertex, IsNoPlayer, IsUnknown, number, vertex}
 use Rattle.ps_solution.specs.Texts.{winner}

@@ -3,18 +3,18 @@
 use Rattle.std.proofs.Common.{◌≡◌, ℕ, List, length, Option, None, Some, refl, ap, arith, rules}
 use Rattle.std.specs.Prelude.{codes}
 use Rattle.ps_text.specs.Parts.{one, give, then_by, many, mapped, NoBad}
-use Rattle.ps_text.proofs.Laws.{Laws, Joint, Nothing, Or, Within, Apart, weaker}
-use Rattle.ps_text.proofs.Joined.{joint}
-use Rattle.ps_text.proofs.Simple.{Taken, BadSign, none_is_some, laws_one, laws_give, laws_mapped, laws_then}
-use Rattle.ps_text.proofs.Following.{laws_next}
-use Rattle.ps_text.proofs.Covered.{laws_either}
-use Rattle.ps_text.proofs.Repeated.{laws_many}
-use Rattle.ps_text.proofs.Whole.{Own}
+use Rattle.ps_text.proofs.Combinators.Laws.{Laws, Joint, Nothing, Or, Within, Apart, weaker}
+use Rattle.ps_text.proofs.Combinators.Joined.{joint}
+use Rattle.ps_text.proofs.Combinators.Simple.{Taken, BadSign, none_is_some, laws_one, laws_give, laws_mapped, laws_then}
+use Rattle.ps_text.proofs.Combinators.Following.{laws_next}
+use Rattle.ps_text.proofs.Combinators.Covered.{laws_either}
+use Rattle.ps_text.proofs.Combinators.Repeated.{laws_many}
+use Rattle.ps_text.proofs.ParsedAnswers.Whole.{Own}
 use Rattle.ps_certificate.specs.declared.fault.CertCause.{CertCause}
 use Rattle.ps_pgsolver.specs.GameTexts.{semicolon_in, keyword_in}
 use Rattle.ps_pgsolver.specs.Signs.{Sign, Number, Word, Semicolon}
-use Rattle.ps_pgsolver.proofs.GameLaws.{takes_word, same_word}
-use Rattle.ps_pgsolver.proofs.PartLaws.{kind_of, IsKind, Anything, nothing_apart, kinds_apart, same}
+use Rattle.ps_pgsolver.proofs.ReadGames.GameLaws.{takes_word, same_word}
+use Rattle.ps_pgsolver.proofs.ReadGames.PartLaws.{kind_of, IsKind, Anything, nothing_apart, kinds_apart, same}
 use Rattle.ps_solution.specs.Solved.{SolvedData, none_solved, with_entry}
 use Rattle.ps_solution.specs.Texts.{Field, solution_causes, value_in, BadValue, AnyValue, IsBadVertex, IsNoPlayer}
 use Rattle.ps_solution.specs.Texts.{IsUnknown}

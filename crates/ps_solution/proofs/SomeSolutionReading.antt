@@ -4,10 +4,12 @@ use Rattle.std.proofs.Common.{Result, Ok, Err, true, refl, arith}
 use Rattle.ps_text.specs.Answers.{Stream, Found}
 use Rattle.ps_text.specs.Parts.{PartAnswers, NoBad, one}
 use Rattle.ps_text.specs.Outcomes.{HasOutcomes}
-use Rattle.ps_text.proofs.Outcomes.{Judged, good, has_give, has_one, has_mapped, has_then, has_either, has_many}
-use Rattle.ps_text.proofs.Outcomes.{some_answer}
-use Rattle.ps_text.proofs.Decisions.{Decided, decide_not, decide_below, decide_in, decide_one, decide_true}
-use Rattle.ps_text.proofs.Decisions.{judge_cause, judge_one, judge_also, judge_none}
+use Rattle.ps_text.proofs.ParsedAnswers.Outcomes.{Judged, good, has_give, has_one, has_mapped, has_then, has_either}
+use Rattle.ps_text.proofs.ParsedAnswers.Outcomes.{has_many}
+use Rattle.ps_text.proofs.ParsedAnswers.Outcomes.{some_answer}
+use Rattle.ps_text.proofs.ParsedAnswers.Decisions.{Decided, decide_not, decide_below, decide_in, decide_one}
+use Rattle.ps_text.proofs.ParsedAnswers.Decisions.{decide_true}
+use Rattle.ps_text.proofs.ParsedAnswers.Decisions.{judge_cause, judge_one, judge_also, judge_none}
 use Rattle.ps_ids.specs.Ids.{place_of}
 use Rattle.ps_game.specs.Regions.{has}
 use Rattle.ps_certificate.specs.Faults.{cause_number}
@@ -16,8 +18,8 @@ use Rattle.ps_certificate.specs.declared.fault.CertCause.TheVariants.{Syntax, Ot
 use Rattle.ps_pgsolver.specs.GameTexts.{too_large, semicolon_in, keyword_in}
 use Rattle.ps_pgsolver.specs.Lexer.{stream_of}
 use Rattle.ps_pgsolver.specs.Signs.{Sign, Number, Word, Semicolon}
-use Rattle.ps_pgsolver.proofs.GameLaws.{takes_word}
-use Rattle.ps_pgsolver.proofs.GameTokens.{tokens_found}
+use Rattle.ps_pgsolver.proofs.ReadGames.GameLaws.{takes_word}
+use Rattle.ps_pgsolver.proofs.TokensOfGames.GameTokens.{tokens_found}
 use Rattle.ps_solution.specs.Reading.{ReadsSolution, refused, incomplete, meaning}
 use Rattle.ps_solution.specs.Solved.{SolvedData, SolutionData, IsFilled, solution_of}
 use Rattle.ps_solution.specs.Texts.{Field, solution_causes, value_in, BadValue, AnyValue, IsBadVertex, IsNoPlayer}

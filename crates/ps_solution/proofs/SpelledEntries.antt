@@ -22,7 +22,7 @@ use Rattle.ps_certificate.specs.declared.fault.CertCause.TheVariants.{Syntax, Ot
 use Rattle.ps_pgsolver.specs.GameTexts.{too_large, semicolon_in, keyword_in}
 use Rattle.ps_pgsolver.specs.GameTokens.{AreGameTokens}
 use Rattle.ps_pgsolver.specs.Signs.{Sign, Number, Word, Semicolon}
-use Rattle.ps_pgsolver.proofs.GameLaws.{same_word}
+use Rattle.ps_pgsolver.proofs.ReadGames.GameLaws.{same_word}
 use Rattle.ps_solution.specs.Entries.{SolutionEntry, HasEntries, IsHeading, choice_signs, entry_signs}
 use Rattle.ps_solution.specs.Reading.{ReadsSolution, refused, incomplete, meaning}
 use Rattle.ps_solution.specs.Solved.{SolvedData, SolutionData, IsFilled, none_solved, solution_of, with_entry}

@@ -5,12 +5,12 @@ use Rattle.ps_text.specs.Answers.{Piece, Stream, signs, first_of, next_of, offse
 use Rattle.ps_text.specs.Readers.{Reads, Stops}
 use Rattle.ps_text.specs.Faults.{found_of}
 use Rattle.ps_text.specs.declared.faults.Fault.TheVariants.{Text, OutOfMemory}
-use Rattle.ps_text.proofs.Whole.{answers_ok, answers_fault, answers_trailing}
+use Rattle.ps_text.proofs.ParsedAnswers.Whole.{answers_ok, answers_fault, answers_trailing}
 use Rattle.ps_certificate.specs.Faults.{CertFault}
 use Rattle.ps_certificate.specs.declared.fault.CertCause.TheVariants.{Syntax, OtherGame}
 use Rattle.ps_pgsolver.specs.Lexer.{stream_of}
 use Rattle.ps_pgsolver.specs.Signs.{Sign}
-use Rattle.ps_pgsolver.proofs.GameTokens.{tokens_found}
+use Rattle.ps_pgsolver.proofs.TokensOfGames.GameTokens.{tokens_found}
 use Rattle.ps_solution.specs.Reading.{IsSolutionAnswer, refused, incomplete, meaning}
 use Rattle.ps_solution.specs.Solved.{SolvedData, SolutionData, IsFilled, solution_of}
 use Rattle.ps_solution.specs.Texts.{solution_causes, solution}
