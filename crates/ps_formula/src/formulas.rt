@@ -68,7 +68,7 @@ impl Formulas {
         ensures table { IsTable self.new }
     {
         let index = self.nodes.place_of(node)?;
-        let _ = self.nodes.len();
+        self.nodes.keys_are_few();
         Ok(index as u32)
     }
 

@@ -61,7 +61,7 @@ impl NormalFormulas {
         ensures table { IsNormalTable self.new }
     {
         let index = self.nodes.place_of(node)?;
-        let _ = self.nodes.len();
+        self.nodes.keys_are_few();
         Ok(index as u32)
     }
 
