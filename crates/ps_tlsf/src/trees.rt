@@ -2,7 +2,7 @@
 
 ghost use Rattle.std.specs.Prelude.{◌≡◌, ◌∷◌, ◌<◌, ℕ, List, IfOk, OnOk, length};
 ghost use Rattle.ps_formula.specs.Formulas as formulas;
-ghost use Rattle.ps_formula.specs.Formulas.{Formula, IsOver, formula_at, formula_of, formulas_of, nth};
+ghost use Rattle.ps_formula.specs.Formulas.{Formula, IsOver, IsTable, formula_at, formula_of, formulas_of, nth};
 ghost use Rattle.ps_tlsf.specs.Trees.{applied, joined, prefixed, value_of};
 ghost use Rattle.ps_tlsf.specs.Inner.Building.{AreIn, IsBuilt, IsPushed, stack_of};
 
@@ -15,8 +15,15 @@ fn add_node(table: &mut Formulas, node: Node) -> Result<u32, AllocError>
     requires { IsOver (length table.old) node }
     ensures { IfOk result (IsBuilt table.old (formula_of (formulas_of table.old) node) table.new) }
 {
-    let _ = table.as_slice();
+    operands_are_earlier(table);
     table.add(node)
+}
+
+/// The operands of each node come before it: the prover learns it here.
+fn operands_are_earlier(table: &Formulas)
+    ensures { IsTable table.now }
+{
+    table.as_slice();
 }
 
 /// The node of an operator before its operand.

@@ -55,7 +55,7 @@ fn conjoin(out: &mut Vec<Op>, formulas: &[Written], section: Section) -> Result<
 }
 
 /// The same, and `G`.
-#[tactic(auto, using(crate::proofs::Joining::two))]
+#[tactic(auto, using(crate::proofs::SectionFormulas::Joining::two))]
 fn always(out: &mut Vec<Op>, formulas: &[Written], section: Section) -> Result<(), AllocError>
     ensures { OnOk result (out.new.items ≡ out.old.items ++ always_ops section (map written_data formulas.now)) }
 {
@@ -65,7 +65,7 @@ fn always(out: &mut Vec<Op>, formulas: &[Written], section: Section) -> Result<(
 }
 
 /// Appends `G R && A`.
-#[tactic(auto, using(crate::proofs::Joining::three))]
+#[tactic(auto, using(crate::proofs::SectionFormulas::Joining::three))]
 fn premise(out: &mut Vec<Op>, formulas: &[Written]) -> Result<(), AllocError>
     ensures { OnOk result (out.new.items ≡ out.old.items ++ premise_ops (map written_data formulas.now)) }
 {
@@ -76,7 +76,7 @@ fn premise(out: &mut Vec<Op>, formulas: &[Written]) -> Result<(), AllocError>
 }
 
 /// Appends `G T && U`.
-#[tactic(auto, using(crate::proofs::Joining::three))]
+#[tactic(auto, using(crate::proofs::SectionFormulas::Joining::three))]
 fn conclusion(out: &mut Vec<Op>, formulas: &[Written]) -> Result<(), AllocError>
     ensures { OnOk result (out.new.items ≡ out.old.items ++ conclusion_ops (map written_data formulas.now)) }
 {
@@ -87,7 +87,7 @@ fn conclusion(out: &mut Vec<Op>, formulas: &[Written]) -> Result<(), AllocError>
 }
 
 /// Appends `P && T W !R`.
-#[tactic(auto, using(crate::proofs::Joining::six))]
+#[tactic(auto, using(crate::proofs::SectionFormulas::Joining::six))]
 fn strict_part(out: &mut Vec<Op>, formulas: &[Written]) -> Result<(), AllocError>
     ensures { OnOk result (out.new.items ≡ out.old.items ++ strict_ops (map written_data formulas.now)) }
 {
@@ -101,7 +101,7 @@ fn strict_part(out: &mut Vec<Op>, formulas: &[Written]) -> Result<(), AllocError
 }
 
 /// Appends the implications and the conjunction of these parts.
-#[tactic(auto, using(crate::proofs::Joining::three))]
+#[tactic(auto, using(crate::proofs::SectionFormulas::Joining::three))]
 fn join(out: &mut Vec<Op>) -> Result<(), AllocError>
     ensures { OnOk result (out.new.items ≡ out.old.items ++
         (Op.Infix Infix.Implies ∷ Op.Infix Infix.And ∷ Op.Infix Infix.Implies ∷ [])) }
@@ -113,7 +113,7 @@ fn join(out: &mut Vec<Op>) -> Result<(), AllocError>
 }
 
 /// The formula without `Strict`.
-#[tactic(auto, using(crate::proofs::Joining::five))]
+#[tactic(auto, using(crate::proofs::SectionFormulas::Joining::five))]
 fn usual(out: &mut Vec<Op>, formulas: &[Written]) -> Result<(), AllocError>
     ensures { OnOk result (out.new.items ≡ out.old.items ++ whole_ops false (map written_data formulas.now)) }
 {
@@ -125,7 +125,7 @@ fn usual(out: &mut Vec<Op>, formulas: &[Written]) -> Result<(), AllocError>
 }
 
 /// The formula with `Strict`.
-#[tactic(auto, using(crate::proofs::Joining::five))]
+#[tactic(auto, using(crate::proofs::SectionFormulas::Joining::five))]
 fn strict(out: &mut Vec<Op>, formulas: &[Written]) -> Result<(), AllocError>
     ensures { OnOk result (out.new.items ≡ out.old.items ++ whole_ops true (map written_data formulas.now)) }
 {

@@ -1,4 +1,4 @@
-use Rattle.ps_tlsf.proofs.DerivedRuns.{formulas_derived}
+use Rattle.ps_tlsf.proofs.ReadFormulas.DerivedRuns.{formulas_derived}
 use Rattle.ps_tlsf.proofs.laws.formulas_are_derived.Goals as goal
 
 pub returns : goal.returns

@@ -1,4 +1,4 @@
-use Rattle.ps_tlsf.proofs.WholeAnswers.{differ_of_answer, few_of_answer}
+use Rattle.ps_tlsf.proofs.OutlinedTexts.WholeAnswers.{differ_of_answer, few_of_answer}
 use Rattle.ps_tlsf.proofs.laws.names_differ.Goals as goal
 
 pub returns : goal.returns

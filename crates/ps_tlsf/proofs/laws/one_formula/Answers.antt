@@ -1,4 +1,4 @@
-use Rattle.ps_tlsf.proofs.Completeness.{one_formula}
+use Rattle.ps_tlsf.proofs.ReadFormulas.Completeness.{one_formula}
 use Rattle.ps_tlsf.proofs.laws.one_formula.Goals as goal
 
 pub returns : goal.returns

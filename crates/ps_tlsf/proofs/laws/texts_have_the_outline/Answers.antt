@@ -1,4 +1,4 @@
-use Rattle.ps_tlsf.proofs.OutlineTexts.{texts_outlined}
+use Rattle.ps_tlsf.proofs.OutlinedTexts.OutlineTexts.{texts_outlined}
 use Rattle.ps_tlsf.proofs.laws.texts_have_the_outline.Goals as goal
 
 pub returns : goal.returns

@@ -1,7 +1,7 @@
 use Rattle.std.proofs.Common.{arith, sym, ◌∙◌}
 use Rattle.ps_tlsf.specs.Inner.StateViews.{state_data}
 use Rattle.ps_tlsf.specs.Inner.Views.{token_data}
-use Rattle.ps_tlsf.proofs.Running.{runs, err_is, fault_read, early_end, right_end}
+use Rattle.ps_tlsf.proofs.OutlinedTexts.Running.{runs, err_is, fault_read, early_end, right_end}
 use Rattle.ps_tlsf.proofs.reader.state_behind.Goals as goal
 
 pub tokens-preserved : goal.tokens-preserved

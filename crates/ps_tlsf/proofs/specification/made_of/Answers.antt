@@ -5,7 +5,7 @@ use Rattle.ps_tlsf.specs.Wholes.{whole_ops}
 use Rattle.ps_tlsf.specs.Inner.StateViews.{written_data}
 use Rattle.ps_tlsf.specs.declared.stack.Op.{Op}
 use Rattle.ps_tlsf.specs.declared.steps.Written.{Written}
-use Rattle.ps_tlsf.proofs.Placing.{placed_kept, roots_there}
+use Rattle.ps_tlsf.proofs.SectionFormulas.Placing.{placed_kept, roots_there}
 use Rattle.ps_tlsf.proofs.specification.made_of.Goals as goal
 
 pub returns : goal.returns

@@ -1,5 +1,5 @@
 use Rattle.std.proofs.Common.{sym}
-use Rattle.ps_tlsf.proofs.Placing.{placed_none, placed_more, placed_all}
+use Rattle.ps_tlsf.proofs.SectionFormulas.Placing.{placed_none, placed_more, placed_all}
 use Rattle.ps_tlsf.proofs.specification.place.Goals as goal
 
 pub loop-formula-init : goal.loop-formula-init

@@ -1,6 +1,6 @@
 use Rattle.std.proofs.Common.{arith}
-use Rattle.ps_tlsf.proofs.Scanning.{comment_skip, comment_ends, comment_closes, comment_opens, comment_on}
-use Rattle.ps_tlsf.proofs.Scanning.{comment_past}
+use Rattle.ps_tlsf.proofs.OutlinedTexts.Scanning.{comment_skip, comment_ends, comment_closes, comment_opens, comment_on}
+use Rattle.ps_tlsf.proofs.OutlinedTexts.Scanning.{comment_past}
 use Rattle.ps_tlsf.proofs.tokens.comment_at.Goals as goal
 use Rattle.ps_tlsf.proofs.tokens.comment_at.Goals.{then-skip, else-skip+then-is_pair+else-depth-eq0}
 use Rattle.ps_tlsf.proofs.tokens.comment_at.Goals.{else-skip+else-is_pair+then-is_pair-2}

@@ -1,6 +1,6 @@
 use Rattle.std.proofs.Common.{◌≡◌, ◌≤◌, drop, false}
 use Rattle.ps_tlsf.specs.Lexicon.{comment_len}
-use Rattle.ps_tlsf.proofs.Scanning.{plus}
+use Rattle.ps_tlsf.proofs.OutlinedTexts.Scanning.{plus}
 use Rattle.ps_tlsf.proofs.tokens.comment_at.Given as goal
 
 abbrev pub invariant-loop-at : goal.invariant-loop-at

@@ -1,6 +1,6 @@
 use Rattle.std.proofs.Common.{arith, length-drop}
 use Rattle.std.proofs.lemmas.List.{take_all, drop_all}
-use Rattle.ps_tlsf.proofs.Scanning.{lex_step, lex_found, lex_nothing}
+use Rattle.ps_tlsf.proofs.OutlinedTexts.Scanning.{lex_step, lex_found, lex_nothing}
 use Rattle.ps_tlsf.proofs.tokens.first_lexeme.Goals as goal
 
 pub blanks-preserved : goal.blanks-preserved

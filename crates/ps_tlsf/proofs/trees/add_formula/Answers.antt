@@ -2,8 +2,9 @@ use Rattle.std.proofs.Common.{arith, length, refl, ◌≡◌, ◌≤◌}
 use Rattle.std.specs.Prelude.{true}
 use Rattle.ps_formula.specs.Formulas.{constant}
 use Rattle.ps_tlsf.specs.Trees.{value_of}
-use Rattle.ps_tlsf.proofs.Building.{keeps_all, keeps_both, pushed_keeps, pushed_valid, pushed_is, pushed_more}
-use Rattle.ps_tlsf.proofs.Building.{last_none, last_some, id_valid, if_built}
+use Rattle.ps_tlsf.proofs.SectionFormulas.Building.{keeps_all, keeps_both, pushed_keeps, pushed_valid, pushed_is}
+use Rattle.ps_tlsf.proofs.SectionFormulas.Building.{pushed_more}
+use Rattle.ps_tlsf.proofs.SectionFormulas.Building.{last_none, last_some, id_valid, if_built}
 use Rattle.ps_tlsf.proofs.trees.add_formula.Goals as goal
 
 pub loop-op-init : goal.loop-op-init

@@ -1,4 +1,4 @@
-use Rattle.ps_tlsf.proofs.Building.{is_pushed}
+use Rattle.ps_tlsf.proofs.SectionFormulas.Building.{is_pushed}
 use Rattle.ps_tlsf.proofs.trees.push.Goals as goal
 
 pub returns : goal.returns

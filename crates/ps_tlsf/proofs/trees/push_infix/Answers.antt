@@ -1,5 +1,5 @@
 use Rattle.std.proofs.Common.{length}
-use Rattle.ps_tlsf.proofs.Building.{two_valid}
+use Rattle.ps_tlsf.proofs.SectionFormulas.Building.{two_valid}
 use Rattle.ps_tlsf.proofs.trees.push_infix.Goals as goal
 
 pub push-requires-in-Some-pop-clause-over : goal.push-requires-in-Some-pop-clause-over

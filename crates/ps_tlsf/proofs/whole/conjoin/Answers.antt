@@ -1,5 +1,5 @@
 use Rattle.std.proofs.Common.{arith}
-use Rattle.ps_tlsf.proofs.Conjoining.{conjoins, passes_over, ends_with_true, ends}
+use Rattle.ps_tlsf.proofs.SectionFormulas.Conjoining.{conjoins, passes_over, ends_with_true, ends}
 use Rattle.ps_tlsf.proofs.whole.conjoin.Goals as goal
 
 pub loop-formula-preserved : goal.loop-formula-preserved

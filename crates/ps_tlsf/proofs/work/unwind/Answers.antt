@@ -1,5 +1,5 @@
 use Rattle.std.proofs.Common.{arith}
-use Rattle.ps_tlsf.proofs.Unwinding.{unwinds, unwinds_no_more}
+use Rattle.ps_tlsf.proofs.ReadFormulas.Unwinding.{unwinds, unwinds_no_more}
 use Rattle.ps_tlsf.proofs.work.unwind.Goals as goal
 
 pub frames-preserved : goal.frames-preserved

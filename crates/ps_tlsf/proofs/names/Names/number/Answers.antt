@@ -4,7 +4,7 @@ use Rattle.std.specs.Str.{bytes_eq}
 use Rattle.ps_tlsf.specs.Names.{Name}
 use Rattle.ps_tlsf.specs.NameViews.{name_data}
 use Rattle.ps_tlsf.specs.declared.names.Proposition.{Proposition}
-use Rattle.ps_tlsf.proofs.NameLemmas.{position_map}
+use Rattle.ps_tlsf.proofs.OutlinedTexts.NameLemmas.{position_map}
 use Rattle.ps_tlsf.proofs.names.Names.number.Goals as goal
 
 pub returns-clause-value : goal.returns-clause-value

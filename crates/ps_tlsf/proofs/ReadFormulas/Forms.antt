@@ -14,8 +14,8 @@ use Rattle.ps_tlsf.specs.declared.stack.Sweep.{Sweep}
 use Rattle.ps_tlsf.specs.declared.stack.Sweep.TheVariants as sweeps
 use Rattle.ps_tlsf.specs.declared.words.Infix.{Infix}
 use Rattle.ps_tlsf.specs.declared.words.Prefix.{Prefix}
-use Rattle.ps_tlsf.proofs.Building.{built-append}
-use Rattle.ps_tlsf.proofs.Unwinding.{unwinds, unwinds_no_more}
+use Rattle.ps_tlsf.proofs.SectionFormulas.Building.{built-append}
+use Rattle.ps_tlsf.proofs.ReadFormulas.Unwinding.{unwinds, unwinds_no_more}
 
 pub record Forms (list : List Op) (trees : List Formula) : Type 0 where
   pub each : (before : List Formula) → built before list ≡ trees ++ before

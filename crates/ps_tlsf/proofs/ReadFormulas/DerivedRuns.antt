@@ -24,21 +24,24 @@ use Rattle.ps_tlsf.specs.declared.stack.Sweep.TheVariants as sweeps
 use Rattle.ps_tlsf.specs.declared.words.Section.{Section}
 use Rattle.ps_tlsf.specs.declared.words.Sign.{Sign}
 use Rattle.ps_tlsf.specs.declared.words.Sign.TheVariants as signs
-use Rattle.ps_tlsf.proofs.Building.{all_pushed}
-use Rattle.ps_tlsf.proofs.DerivedReads.{closing_step, finished_work, phase_after, same_span, unwound_row, with_written}
-use Rattle.ps_tlsf.proofs.DerivedReads.{written_of}
-use Rattle.ps_tlsf.proofs.DerivedTexts.{Told, InFormula, Within, beside_told, err_ok, first_stepped, formulas_kept}
-use Rattle.ps_tlsf.proofs.DerivedTexts.{grown}
-use Rattle.ps_tlsf.proofs.DerivedTexts.{outside_free, same_ok, unless_told}
-use Rattle.ps_tlsf.proofs.FormulaRuns.{first_step, started}
-use Rattle.ps_tlsf.proofs.FormulaSteps.{Beside, Numbers, behind_beside, operand_beside, step_formula}
-use Rattle.ps_tlsf.proofs.GoodSteps.{InPhase, IsGood, fresh_good, goes_outside, no_state, number_small, outside}
-use Rattle.ps_tlsf.proofs.GoodSteps.{outside_any, step_good, holds_at}
-use Rattle.ps_tlsf.proofs.Readings.{Derived, reading_derived}
-use Rattle.ps_tlsf.proofs.Running.{run_is, run_nothing}
-use Rattle.ps_tlsf.proofs.TreeMachine.{Swept, swept}
-use Rattle.ps_tlsf.proofs.TreeViews.{limits, spot_of, swept_unwound}
-use Rattle.ps_tlsf.proofs.WholeAnswers.{state_of_answer}
+use Rattle.ps_tlsf.proofs.SectionFormulas.Building.{all_pushed}
+use Rattle.ps_tlsf.proofs.ReadFormulas.DerivedReads.{closing_step, finished_work, phase_after, same_span, unwound_row}
+use Rattle.ps_tlsf.proofs.ReadFormulas.DerivedReads.{with_written}
+use Rattle.ps_tlsf.proofs.ReadFormulas.DerivedReads.{written_of}
+use Rattle.ps_tlsf.proofs.ReadFormulas.DerivedTexts.{Told, InFormula, Within, beside_told, err_ok, first_stepped}
+use Rattle.ps_tlsf.proofs.ReadFormulas.DerivedTexts.{formulas_kept}
+use Rattle.ps_tlsf.proofs.ReadFormulas.DerivedTexts.{grown}
+use Rattle.ps_tlsf.proofs.ReadFormulas.DerivedTexts.{outside_free, same_ok, unless_told}
+use Rattle.ps_tlsf.proofs.ReadFormulas.FormulaRuns.{first_step, started}
+use Rattle.ps_tlsf.proofs.ReadFormulas.FormulaSteps.{Beside, Numbers, behind_beside, operand_beside, step_formula}
+use Rattle.ps_tlsf.proofs.OutlinedTexts.GoodSteps.{InPhase, IsGood, fresh_good, goes_outside, no_state, number_small}
+use Rattle.ps_tlsf.proofs.OutlinedTexts.GoodSteps.{outside}
+use Rattle.ps_tlsf.proofs.OutlinedTexts.GoodSteps.{outside_any, step_good, holds_at}
+use Rattle.ps_tlsf.proofs.ReadFormulas.Readings.{Derived, reading_derived}
+use Rattle.ps_tlsf.proofs.OutlinedTexts.Running.{run_is, run_nothing}
+use Rattle.ps_tlsf.proofs.ReadFormulas.TreeMachine.{Swept, swept}
+use Rattle.ps_tlsf.proofs.ReadFormulas.TreeViews.{limits, spot_of, swept_unwound}
+use Rattle.ps_tlsf.proofs.OutlinedTexts.WholeAnswers.{state_of_answer}
 
 -- ## The end of a formula
 

@@ -24,13 +24,16 @@ use Rattle.ps_tlsf.specs.declared.stack.Sweep.TheVariants as sweeps
 use Rattle.ps_tlsf.specs.declared.words.Infix.{Infix}
 use Rattle.ps_tlsf.specs.declared.words.Sign.{Sign}
 use Rattle.ps_tlsf.specs.declared.words.Sign.TheVariants as signs
-use Rattle.ps_tlsf.proofs.Productions.{Bounded, left}
-use Rattle.ps_tlsf.proofs.Contexts.{Behind, Closed, Context, in_infix, in_paren, in_prefix, nothing}
-use Rattle.ps_tlsf.proofs.Contexts.{context_deep, operand_closed, swept_closed}
-use Rattle.ps_tlsf.proofs.TreeMachine.{Limits, Spot, Swept, before_operand, begins, behind_next, behind_operand, counts}
-use Rattle.ps_tlsf.proofs.TreeMachine.{frame_in, frame_with, infix_next, leaf, named, nests, next, operand_next}
-use Rattle.ps_tlsf.proofs.TreeMachine.{paren_next, swept, used-append, used-counted, used-passed, walk, walk_is}
-use Rattle.ps_tlsf.proofs.TreeMachine.{walk_nothing}
+use Rattle.ps_tlsf.proofs.ReadFormulas.Productions.{Bounded, left}
+use Rattle.ps_tlsf.proofs.ReadFormulas.Contexts.{Behind, Closed, Context, in_infix, in_paren, in_prefix, nothing}
+use Rattle.ps_tlsf.proofs.ReadFormulas.Contexts.{context_deep, operand_closed, swept_closed}
+use Rattle.ps_tlsf.proofs.ReadFormulas.TreeMachine.{Limits, Spot, Swept, before_operand, begins, behind_next}
+use Rattle.ps_tlsf.proofs.ReadFormulas.TreeMachine.{behind_operand, counts}
+use Rattle.ps_tlsf.proofs.ReadFormulas.TreeMachine.{frame_in, frame_with, infix_next, leaf, named, nests, next}
+use Rattle.ps_tlsf.proofs.ReadFormulas.TreeMachine.{operand_next}
+use Rattle.ps_tlsf.proofs.ReadFormulas.TreeMachine.{paren_next, swept, used-append, used-counted, used-passed, walk}
+use Rattle.ps_tlsf.proofs.ReadFormulas.TreeMachine.{walk_is}
+use Rattle.ps_tlsf.proofs.ReadFormulas.TreeMachine.{walk_nothing}
 
 over : (a b : ℕ) → nat_le a b ≡ false → b < a
 over a b h = grind (arith, nat_tests)

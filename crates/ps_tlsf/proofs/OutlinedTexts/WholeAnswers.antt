@@ -12,9 +12,9 @@ use Rattle.ps_tlsf.specs.Specifications.{Specification, specification_of}
 use Rattle.ps_tlsf.specs.Steps.{State, fresh, run}
 use Rattle.ps_tlsf.specs.declared.fault.TlsfCause.{TlsfCause}
 use Rattle.ps_tlsf.specs.declared.fault.TlsfCause.TheVariants as causes
-use Rattle.ps_tlsf.proofs.GoodSteps.{IsGood, fresh_good, run_good}
-use Rattle.ps_tlsf.proofs.NamesDiffer.{Differ, fresh_once, run_once}
-use Rattle.ps_tlsf.proofs.WholeFormulas.{whole_value}
+use Rattle.ps_tlsf.proofs.OutlinedTexts.GoodSteps.{IsGood, fresh_good, run_good}
+use Rattle.ps_tlsf.proofs.OutlinedTexts.NamesDiffer.{Differ, fresh_once, run_once}
+use Rattle.ps_tlsf.proofs.SectionFormulas.WholeFormulas.{whole_value}
 
 abbrev IsWhole : Specification → Type 0
 IsWhole s = s.whole ≡ whole_of s.is_strict s.formulas

@@ -25,8 +25,8 @@ use Rattle.ps_tlsf.specs.declared.words.Section.{Section}
 use Rattle.ps_tlsf.specs.declared.words.Side.TheVariants.{Inputs}
 use Rattle.ps_tlsf.specs.declared.words.Sign.{Sign}
 use Rattle.ps_tlsf.specs.declared.words.Sign.TheVariants as signs
-use Rattle.ps_tlsf.proofs.GoodSteps.{Holds}
-use Rattle.ps_tlsf.proofs.Running.{run_is, run_nothing}
+use Rattle.ps_tlsf.proofs.OutlinedTexts.GoodSteps.{Holds}
+use Rattle.ps_tlsf.proofs.OutlinedTexts.Running.{run_is, run_nothing}
 
 abbrev pub Differ : List Name → Type 0
 Differ names = AllPairs ◌≢◌ (names_in names)

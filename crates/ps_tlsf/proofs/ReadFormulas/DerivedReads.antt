@@ -24,13 +24,14 @@ use Rattle.ps_tlsf.specs.declared.stack.Sweep.TheVariants as sweeps
 use Rattle.ps_tlsf.specs.declared.words.Section.{Section}
 use Rattle.ps_tlsf.specs.declared.words.Sign.{Sign}
 use Rattle.ps_tlsf.specs.declared.words.Sign.TheVariants as signs
-use Rattle.ps_tlsf.proofs.Completeness.{derived_read}
-use Rattle.ps_tlsf.proofs.FormulaRuns.{Went, first_run, started, walk_begins, went}
-use Rattle.ps_tlsf.proofs.FormulaSteps.{Numbers, step_formula}
-use Rattle.ps_tlsf.proofs.GoodSteps.{InPhase, IsGood, fresh_good, number_small, run_good}
-use Rattle.ps_tlsf.proofs.Running.{run_nothing, runs}
-use Rattle.ps_tlsf.proofs.TreeMachine.{Spot, Swept, before_operand, behind_operand, swept, walk, walk_nothing}
-use Rattle.ps_tlsf.proofs.TreeViews.{limits, spot_of, swept_unwound, trees_of}
+use Rattle.ps_tlsf.proofs.ReadFormulas.Completeness.{derived_read}
+use Rattle.ps_tlsf.proofs.ReadFormulas.FormulaRuns.{Went, first_run, started, walk_begins, went}
+use Rattle.ps_tlsf.proofs.ReadFormulas.FormulaSteps.{Numbers, step_formula}
+use Rattle.ps_tlsf.proofs.OutlinedTexts.GoodSteps.{InPhase, IsGood, fresh_good, number_small, run_good}
+use Rattle.ps_tlsf.proofs.OutlinedTexts.Running.{run_nothing, runs}
+use Rattle.ps_tlsf.proofs.ReadFormulas.TreeMachine.{Spot, Swept, before_operand, behind_operand, swept, walk}
+use Rattle.ps_tlsf.proofs.ReadFormulas.TreeMachine.{walk_nothing}
+use Rattle.ps_tlsf.proofs.ReadFormulas.TreeViews.{limits, spot_of, swept_unwound, trees_of}
 
 -- ## The end of a formula
 

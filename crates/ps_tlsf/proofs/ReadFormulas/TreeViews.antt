@@ -25,11 +25,11 @@ use Rattle.ps_tlsf.specs.declared.stack.Sweep.TheVariants as sweeps
 use Rattle.ps_tlsf.specs.declared.words.Infix.{Infix}
 use Rattle.ps_tlsf.specs.declared.words.Sign.{Sign}
 use Rattle.ps_tlsf.specs.declared.words.Sign.TheVariants as signs
-use Rattle.ps_tlsf.proofs.Building.{built-append}
-use Rattle.ps_tlsf.proofs.TreeMachine.{Limits, Spot, Swept, begins, behind_next, behind_operand, counts}
-use Rattle.ps_tlsf.proofs.TreeMachine.{infix_next, leaf, named, nests, operand_next, paren_next, swept}
-use Rattle.ps_tlsf.proofs.TreeMachine.{sweeps_no_more, sweeps_one}
-use Rattle.ps_tlsf.proofs.Unwinding.{unwinds, unwinds_no_more}
+use Rattle.ps_tlsf.proofs.SectionFormulas.Building.{built-append}
+use Rattle.ps_tlsf.proofs.ReadFormulas.TreeMachine.{Limits, Spot, Swept, begins, behind_next, behind_operand, counts}
+use Rattle.ps_tlsf.proofs.ReadFormulas.TreeMachine.{infix_next, leaf, named, nests, operand_next, paren_next, swept}
+use Rattle.ps_tlsf.proofs.ReadFormulas.TreeMachine.{sweeps_no_more, sweeps_one}
+use Rattle.ps_tlsf.proofs.ReadFormulas.Unwinding.{unwinds, unwinds_no_more}
 
 abbrev pub limits : Limits
 limits = record { used = use_limit; depth = nesting_limit }

@@ -30,8 +30,8 @@ use Rattle.ps_tlsf.specs.declared.words.Prefix.TheVariants as prefixes
 use Rattle.ps_tlsf.specs.declared.words.Section.{Section}
 use Rattle.ps_tlsf.specs.declared.words.Sign.{Sign}
 use Rattle.ps_tlsf.specs.declared.words.Sign.TheVariants as signs
-use Rattle.ps_tlsf.proofs.Derivatives.{behind}
-use Rattle.ps_tlsf.proofs.DerivedTexts.{err_ok, same_ok}
+use Rattle.ps_tlsf.proofs.OutlinedTexts.Derivatives.{behind}
+use Rattle.ps_tlsf.proofs.ReadFormulas.DerivedTexts.{err_ok, same_ok}
 
 abbrev items_on : Expression → Expression
 items_on value = join (join value (star info_item)) behind_items

@@ -14,7 +14,7 @@ use Rattle.ps_tlsf.specs.Inner.Placing.{ArePlaced, root_of}
 use Rattle.ps_tlsf.specs.Inner.StateViews.{written_data}
 use Rattle.ps_tlsf.specs.declared.specification.SectionFormula.{SectionFormula}
 use Rattle.ps_tlsf.specs.declared.steps.Written.{Written}
-use Rattle.ps_tlsf.proofs.Building.{all_pushed, keeps_all, keeps_both, kept_in}
+use Rattle.ps_tlsf.proofs.SectionFormulas.Building.{all_pushed, keeps_all, keeps_both, kept_in}
 
 abbrev pub formulas_at : List Written → List meanings.SectionFormula
 formulas_at ws = map section_formula (map written_data ws)

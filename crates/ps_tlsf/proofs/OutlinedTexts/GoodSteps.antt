@@ -42,10 +42,11 @@ use Rattle.ps_tlsf.specs.declared.words.Section.{Section}
 use Rattle.ps_tlsf.specs.declared.words.Side.TheVariants.{Inputs}
 use Rattle.ps_tlsf.specs.declared.words.Sign.{Sign}
 use Rattle.ps_tlsf.specs.declared.words.Sign.TheVariants as signs
-use Rattle.ps_tlsf.proofs.Building.{all_pushed}
-use Rattle.ps_tlsf.proofs.Forms.{Forms, Shape, Shaped, forms_none, forms_op, infix_count, infixes, unwound_shape}
-use Rattle.ps_tlsf.proofs.NameLemmas.{has_room}
-use Rattle.ps_tlsf.proofs.Running.{run_is, run_nothing}
+use Rattle.ps_tlsf.proofs.SectionFormulas.Building.{all_pushed}
+use Rattle.ps_tlsf.proofs.ReadFormulas.Forms.{Forms, Shape, Shaped, forms_none, forms_op, infix_count, infixes}
+use Rattle.ps_tlsf.proofs.ReadFormulas.Forms.{unwound_shape}
+use Rattle.ps_tlsf.proofs.OutlinedTexts.NameLemmas.{has_room}
+use Rattle.ps_tlsf.proofs.OutlinedTexts.Running.{run_is, run_nothing}
 use Rattle.std.proofs.lemmas.Bool.{false≢true}
 use Rattle.std.proofs.lemmas.Option.{none-some}
 

@@ -19,12 +19,13 @@ use Rattle.ps_tlsf.specs.declared.phases.Phase.TheVariants as phases
 use Rattle.ps_tlsf.specs.declared.words.Section.{Section}
 use Rattle.ps_tlsf.specs.declared.words.Sign.{Sign}
 use Rattle.ps_tlsf.specs.declared.words.Sign.TheVariants as signs
-use Rattle.ps_tlsf.proofs.FormulaSteps.{Beside, Ends, Numbers, behind_beside, operand_beside, phase_of, step_formula}
-use Rattle.ps_tlsf.proofs.GoodSteps.{Holds}
-use Rattle.ps_tlsf.proofs.Running.{run_is, runs}
-use Rattle.ps_tlsf.proofs.TreeMachine.{Spot, behind_next, next, operand_next}
-use Rattle.ps_tlsf.proofs.TreeMachine.{walk, walk_is, walk_nothing}
-use Rattle.ps_tlsf.proofs.TreeViews.{limits, seen, spot_of}
+use Rattle.ps_tlsf.proofs.ReadFormulas.FormulaSteps.{Beside, Ends, Numbers, behind_beside, operand_beside, phase_of}
+use Rattle.ps_tlsf.proofs.ReadFormulas.FormulaSteps.{step_formula}
+use Rattle.ps_tlsf.proofs.OutlinedTexts.GoodSteps.{Holds}
+use Rattle.ps_tlsf.proofs.OutlinedTexts.Running.{run_is, runs}
+use Rattle.ps_tlsf.proofs.ReadFormulas.TreeMachine.{Spot, behind_next, next, operand_next}
+use Rattle.ps_tlsf.proofs.ReadFormulas.TreeMachine.{walk, walk_is, walk_nothing}
+use Rattle.ps_tlsf.proofs.ReadFormulas.TreeViews.{limits, seen, spot_of}
 
 -- ## A token
 

@@ -27,9 +27,10 @@ use Rattle.ps_tlsf.specs.declared.words.Infix.{Infix}
 use Rattle.ps_tlsf.specs.declared.words.Section.{Section}
 use Rattle.ps_tlsf.specs.declared.words.Sign.{Sign}
 use Rattle.ps_tlsf.specs.declared.words.Sign.TheVariants as signs
-use Rattle.ps_tlsf.proofs.GoodSteps.{Holds}
-use Rattle.ps_tlsf.proofs.TreeMachine.{behind_next, next}
-use Rattle.ps_tlsf.proofs.TreeViews.{behind_of, infix_seen, limits, operand_seen, paren_seen, seen, spot_of}
+use Rattle.ps_tlsf.proofs.OutlinedTexts.GoodSteps.{Holds}
+use Rattle.ps_tlsf.proofs.ReadFormulas.TreeMachine.{behind_next, next}
+use Rattle.ps_tlsf.proofs.ReadFormulas.TreeViews.{behind_of, infix_seen, limits, operand_seen, paren_seen, seen}
+use Rattle.ps_tlsf.proofs.ReadFormulas.TreeViews.{spot_of}
 
 -- ## Where the work begins and where its last operand ends
 

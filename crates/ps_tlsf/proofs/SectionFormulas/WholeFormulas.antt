@@ -19,7 +19,7 @@ use Rattle.ps_tlsf.specs.declared.words.Infix.TheVariants.{And, Implies, WeakUnt
 use Rattle.ps_tlsf.specs.declared.words.Prefix.TheVariants.{Globally, Not}
 use Rattle.ps_tlsf.specs.declared.words.Section.{Section}
 use Rattle.ps_tlsf.specs.declared.words.Section.TheVariants as sections
-use Rattle.ps_tlsf.proofs.GoodSteps.{IsFormed}
+use Rattle.ps_tlsf.proofs.OutlinedTexts.GoodSteps.{IsFormed}
 
 built_both : (before : List Formula) (a b : List Op) → built before (a ++ b) ≡ built (built before a) b
 built_both before [] b = refl

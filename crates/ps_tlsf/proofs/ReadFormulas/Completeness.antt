@@ -25,14 +25,18 @@ use Rattle.ps_tlsf.specs.declared.words.Infix.TheVariants as infixes
 use Rattle.ps_tlsf.specs.declared.words.Prefix.{Prefix}
 use Rattle.ps_tlsf.specs.declared.words.Sign.{Sign}
 use Rattle.ps_tlsf.specs.declared.words.Sign.TheVariants as signs
-use Rattle.ps_tlsf.proofs.Productions.{follows, left, left_takes, left_under, makes, right, right_takes, right_under}
-use Rattle.ps_tlsf.proofs.Productions.{above_conjunction, above_disjunction, above_formula, stays, takes}
-use Rattle.ps_tlsf.proofs.Productions.{takes_disjunction, takes_implication, takes_it, under}
-use Rattle.ps_tlsf.proofs.TreeMachine.{Limits, Spot, Swept, before_operand, behind_next, behind_operand, below_limit}
-use Rattle.ps_tlsf.proofs.TreeMachine.{begins, counts, frame_in, frame_with, infix_next, leaf, named, nests, next}
-use Rattle.ps_tlsf.proofs.TreeMachine.{operand_next, paren_next, sweeps_no_more, sweeps_one, swept, used-append}
-use Rattle.ps_tlsf.proofs.TreeMachine.{used-counted}
-use Rattle.ps_tlsf.proofs.TreeMachine.{used-passed, walk, walk_nothing, walk_then, walks}
+use Rattle.ps_tlsf.proofs.ReadFormulas.Productions.{follows, left, left_takes, left_under, makes, right, right_takes}
+use Rattle.ps_tlsf.proofs.ReadFormulas.Productions.{right_under}
+use Rattle.ps_tlsf.proofs.ReadFormulas.Productions.{above_conjunction, above_disjunction, above_formula, stays, takes}
+use Rattle.ps_tlsf.proofs.ReadFormulas.Productions.{takes_disjunction, takes_implication, takes_it, under}
+use Rattle.ps_tlsf.proofs.ReadFormulas.TreeMachine.{Limits, Spot, Swept, before_operand, behind_next, behind_operand}
+use Rattle.ps_tlsf.proofs.ReadFormulas.TreeMachine.{below_limit}
+use Rattle.ps_tlsf.proofs.ReadFormulas.TreeMachine.{begins, counts, frame_in, frame_with, infix_next, leaf, named}
+use Rattle.ps_tlsf.proofs.ReadFormulas.TreeMachine.{nests, next}
+use Rattle.ps_tlsf.proofs.ReadFormulas.TreeMachine.{operand_next, paren_next, sweeps_no_more, sweeps_one, swept}
+use Rattle.ps_tlsf.proofs.ReadFormulas.TreeMachine.{used-append}
+use Rattle.ps_tlsf.proofs.ReadFormulas.TreeMachine.{used-counted}
+use Rattle.ps_tlsf.proofs.ReadFormulas.TreeMachine.{used-passed, walk, walk_nothing, walk_then, walks}
 
 module _ (l : Limits) (names : List Name) where
   -- from any place where an operand may begin, an operand is read

@@ -22,11 +22,12 @@ use Rattle.ps_tlsf.specs.declared.phases.Block.TheVariants as blocks
 use Rattle.ps_tlsf.specs.declared.phases.Phase.{Phase}
 use Rattle.ps_tlsf.specs.declared.phases.Phase.TheVariants as phases
 use Rattle.ps_tlsf.specs.declared.words.Sign.{Sign}
-use Rattle.ps_tlsf.proofs.Derivatives.{behind, behind_matches, has_empty, matches_behind, matches_nothing, no_match}
-use Rattle.ps_tlsf.proofs.GoodSteps.{no_state}
-use Rattle.ps_tlsf.proofs.Outlines.{Leads, leads, outline, step_leads}
-use Rattle.ps_tlsf.proofs.Running.{run_is, run_nothing}
-use Rattle.ps_tlsf.proofs.WholeAnswers.{state_of_answer}
+use Rattle.ps_tlsf.proofs.OutlinedTexts.Derivatives.{behind, behind_matches, has_empty, matches_behind, matches_nothing}
+use Rattle.ps_tlsf.proofs.OutlinedTexts.Derivatives.{no_match}
+use Rattle.ps_tlsf.proofs.OutlinedTexts.GoodSteps.{no_state}
+use Rattle.ps_tlsf.proofs.OutlinedTexts.Outlines.{Leads, leads, outline, step_leads}
+use Rattle.ps_tlsf.proofs.OutlinedTexts.Running.{run_is, run_nothing}
+use Rattle.ps_tlsf.proofs.OutlinedTexts.WholeAnswers.{state_of_answer}
 
 at_end : (p : Phase) → is_end p ≡ true → Matches (outline p) []
 at_end phases.End e = is_empty

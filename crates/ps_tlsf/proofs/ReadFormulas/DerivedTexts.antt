@@ -18,13 +18,13 @@ use Rattle.ps_tlsf.specs.declared.fault.TlsfCause.{TlsfCause}
 use Rattle.ps_tlsf.specs.declared.phases.Phase.{Phase}
 use Rattle.ps_tlsf.specs.declared.phases.Phase.TheVariants as phases
 use Rattle.ps_tlsf.specs.declared.words.Section.{Section}
-use Rattle.ps_tlsf.proofs.FormulaRuns.{started}
-use Rattle.ps_tlsf.proofs.FormulaSteps.{Beside, Ends, phase_of}
-use Rattle.ps_tlsf.proofs.GoodSteps.{Holds, outside}
-use Rattle.ps_tlsf.proofs.Readings.{Reading, next_reading}
-use Rattle.ps_tlsf.proofs.Contexts.{nothing}
-use Rattle.ps_tlsf.proofs.TreeMachine.{Spot, before_operand, next}
-use Rattle.ps_tlsf.proofs.TreeViews.{limits, seen, spot_of}
+use Rattle.ps_tlsf.proofs.ReadFormulas.FormulaRuns.{started}
+use Rattle.ps_tlsf.proofs.ReadFormulas.FormulaSteps.{Beside, Ends, phase_of}
+use Rattle.ps_tlsf.proofs.OutlinedTexts.GoodSteps.{Holds, outside}
+use Rattle.ps_tlsf.proofs.ReadFormulas.Readings.{Reading, next_reading}
+use Rattle.ps_tlsf.proofs.ReadFormulas.Contexts.{nothing}
+use Rattle.ps_tlsf.proofs.ReadFormulas.TreeMachine.{Spot, before_operand, next}
+use Rattle.ps_tlsf.proofs.ReadFormulas.TreeViews.{limits, seen, spot_of}
 
 -- the tokens of the formula that is read now
 pub record Within (is_behind : Bool) (s : State) (done : List Token) : Type 0 where

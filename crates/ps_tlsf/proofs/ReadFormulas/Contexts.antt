@@ -23,11 +23,12 @@ use Rattle.ps_tlsf.specs.declared.stack.Sweep.TheVariants as sweeps
 use Rattle.ps_tlsf.specs.declared.words.Infix.{Infix}
 use Rattle.ps_tlsf.specs.declared.words.Prefix.{Prefix}
 use Rattle.ps_tlsf.specs.declared.words.Sign.TheVariants as signs
-use Rattle.ps_tlsf.proofs.Productions.{Bounded, aim_of, is_within, joins, left, makes, raised, right, taken_itself}
-use Rattle.ps_tlsf.proofs.Productions.{taken_within, under, under_made, under_no_prefix, within_right}
-use Rattle.ps_tlsf.proofs.TreeMachine.{Limits, Swept}
-use Rattle.ps_tlsf.proofs.TreeMachine.{frame_in, frame_with}
-use Rattle.ps_tlsf.proofs.TreeMachine.{sweeps_no_more, sweeps_one, swept}
+use Rattle.ps_tlsf.proofs.ReadFormulas.Productions.{Bounded, aim_of, is_within, joins, left, makes, raised, right}
+use Rattle.ps_tlsf.proofs.ReadFormulas.Productions.{taken_itself}
+use Rattle.ps_tlsf.proofs.ReadFormulas.Productions.{taken_within, under, under_made, under_no_prefix, within_right}
+use Rattle.ps_tlsf.proofs.ReadFormulas.TreeMachine.{Limits, Swept}
+use Rattle.ps_tlsf.proofs.ReadFormulas.TreeMachine.{frame_in, frame_with}
+use Rattle.ps_tlsf.proofs.ReadFormulas.TreeMachine.{sweeps_no_more, sweeps_one, swept}
 
 pub data Context (l : Limits) (names : List Name) : List Frame → List Token → List Formula → Type 0 where
   nothing : Context l names [] [] []
