@@ -13,3 +13,4 @@ pub mod WholeHeader
 pub mod BodyLaws
 pub mod StateLaws
 pub mod FileLaws
+pub mod ItemForms

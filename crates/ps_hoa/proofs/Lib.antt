@@ -1,9 +1,5 @@
-pub mod Positions
-pub mod NameLemmas
-pub mod DigitRuns
 pub mod Lexing
 pub mod Grammar
 pub mod Reading
-pub mod ItemForms
 pub mod Soundness
 pub mod HoaOutcomes

@@ -16,3 +16,6 @@ pub mod RowTable
 pub mod StateReading
 pub mod Openings
 pub mod Answering
+pub mod DigitRuns
+pub mod NameLemmas
+pub mod Positions

@@ -10,3 +10,4 @@ pub mod SoundHeaders
 pub mod SoundBodies
 pub mod SoundFiles
 pub mod SoundLaws
+pub mod RowsInOrder

@@ -8,7 +8,7 @@ use Rattle.std.specs.Str.{bytes_eq}
 use Rattle.ps_text.specs.Parts.{Causes}
 pub use Rattle.ps_text.specs.Faults.{found_of}
 use Rattle.ps_hoa.specs.Bytes.{begins_capital}
-use Rattle.ps_hoa.specs.ItemNames.{item_named}
+use Rattle.ps_hoa.specs.Grammar.ItemNames.{item_named}
 use Rattle.ps_hoa.specs.Tokens.{Sign}
 use Rattle.ps_hoa.specs.declared.tokens.Kind.{Kind}
 use Rattle.ps_hoa.specs.declared.tokens.Kind.TheVariants as kinds

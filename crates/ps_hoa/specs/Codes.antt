@@ -7,8 +7,9 @@ use Rattle.std.specs.Coded.{Coded, code_by, coded_list, coded_option, coded×, c
 use Rattle.ps_label.specs.Codes.{expression_code}
 use Rattle.ps_label.specs.Expression as expressions
 use Rattle.ps_label.specs.Expression.{Expression, Operands}
-use Rattle.ps_hoa.specs.Conditions.{Condition, Conditions, constant, infinitely, finitely, all_hold, any_holds, last}
-use Rattle.ps_hoa.specs.Conditions.{more}
+use Rattle.ps_hoa.specs.Grammar.Conditions.{Condition, Conditions, constant, infinitely, finitely, all_hold, any_holds}
+use Rattle.ps_hoa.specs.Grammar.Conditions.{last}
+use Rattle.ps_hoa.specs.Grammar.Conditions.{more}
 use Rattle.ps_hoa.specs.Files.{GuardData, EdgeData, RowData, FileData, stated, of_state, at_letter}
 
 -- In the expression that encodes an acceptance condition, a proposition stands for `Inf` of a set, and an alias for

@@ -4,7 +4,7 @@
 use Rattle.std.specs.Prelude.{ℕ, ◌+◌, max, List, [], ◌∷◌, ◌++◌, Option, None, Some, if◌then◌else◌, nat_eq, Bool, true}
 use Rattle.std.specs.Prelude.{false}
 use Rattle.ps_label.specs.Expression.{Expression}
-use Rattle.ps_hoa.specs.Conditions.{Condition}
+use Rattle.ps_hoa.specs.Grammar.Conditions.{Condition}
 
 -- the letters at which an edge is taken: the letters of its label, those of its state's label, or a single letter (an
 -- implicit label)

@@ -6,7 +6,7 @@ use Rattle.std.specs.List.{prefix_len}
 use Rattle.std.specs.Str.{bytes_eq}
 use Rattle.ps_text.specs.Answers.{Piece, Stream}
 use Rattle.ps_hoa.specs.Bytes.{class_of, is_digit, is_name_byte}
-use Rattle.ps_hoa.specs.ItemNames.{none_occurred}
+use Rattle.ps_hoa.specs.Grammar.ItemNames.{none_occurred}
 use Rattle.ps_hoa.specs.Tokens.{Sign, in_context}
 use Rattle.ps_hoa.specs.declared.tokens.Class.{Class}
 use Rattle.ps_hoa.specs.declared.tokens.Class.TheVariants.{Blank, Digit, Letter, At, Quote, Dash, Slash, Sign as SignOf}

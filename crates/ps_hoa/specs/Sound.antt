@@ -7,12 +7,12 @@ use Rattle.std.specs.Prelude.{◌≡◌, ℕ, ◌+◌, ◌^◌, ◌<◌, ◌≤�
 use Rattle.std.specs.Prelude.{None, Some, IfSome}
 use Rattle.std.specs.List.{AllByRecursion}
 use Rattle.ps_label.specs.Expression.{Expression, IsOver, AreOverFrom}
-use Rattle.ps_hoa.specs.Conditions as conditions
-use Rattle.ps_hoa.specs.Conditions.{Condition, Conditions}
+use Rattle.ps_hoa.specs.Grammar.Conditions as conditions
+use Rattle.ps_hoa.specs.Grammar.Conditions.{Condition, Conditions}
 use Rattle.ps_hoa.specs.Files.{GuardData, EdgeData, RowData, FileData, stated, of_state, at_letter, is_among}
-use Rattle.ps_hoa.specs.Header.{state_limit, proposition_limit, set_limit, alias_limit, has_control, is_empty}
-use Rattle.ps_hoa.specs.Header.{is_name_among}
-use Rattle.ps_hoa.specs.Body.{edge_limit, has_row}
+use Rattle.ps_hoa.specs.Grammar.Header.{state_limit, proposition_limit, set_limit, alias_limit, has_control, is_empty}
+use Rattle.ps_hoa.specs.Grammar.Header.{is_name_among}
+use Rattle.ps_hoa.specs.Grammar.Body.{edge_limit, has_row}
 
 -- no number occurs twice
 abbrev pub AreDifferent : List ℕ → Type 0

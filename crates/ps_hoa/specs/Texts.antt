@@ -13,11 +13,11 @@ use Rattle.ps_hoa.specs.Bytes.{is_name_byte}
 use Rattle.ps_hoa.specs.Tokens.{Sign, IsBlankPart, IsBlankRun, AllBytes, StopsBefore, AreTokens, in_context}
 use Rattle.ps_hoa.specs.Scan.{fresh}
 use Rattle.ps_hoa.specs.Causes.{hoa_causes}
-use Rattle.ps_hoa.specs.Conditions.{Condition}
-use Rattle.ps_hoa.specs.Conditions as conditions
+use Rattle.ps_hoa.specs.Grammar.Conditions.{Condition}
+use Rattle.ps_hoa.specs.Grammar.Conditions as conditions
 use Rattle.ps_hoa.specs.Files.{FileData, count_of_states}
-use Rattle.ps_hoa.specs.Header.{HeaderData, names_of, header}
-use Rattle.ps_hoa.specs.Body.{BodyData, body, sets_of}
+use Rattle.ps_hoa.specs.Grammar.Header.{HeaderData, names_of, header}
+use Rattle.ps_hoa.specs.Grammar.Body.{BodyData, body, sets_of}
 use Rattle.ps_hoa.specs.declared.fault.HoaCause.{HoaCause}
 use Rattle.ps_hoa.specs.declared.fault.HoaCause.TheVariants as causes
 use Rattle.ps_hoa.specs.Causes.{HoaFault}

@@ -14,7 +14,7 @@ use Rattle.std.specs.Prelude.{codes, if◌then◌else◌, nat_eq, get_or, set, O
 use Rattle.std.specs.Str.{bytes_eq}
 use Rattle.ps_text.specs.Answers.{Piece}
 use Rattle.ps_hoa.specs.Bytes.{class_of, is_digit, is_name_byte}
-use Rattle.ps_hoa.specs.ItemNames.{once_named}
+use Rattle.ps_hoa.specs.Grammar.ItemNames.{once_named}
 use Rattle.ps_hoa.specs.declared.tokens.Class.TheVariants.{Blank, Letter, Sign as SignOf}
 use Rattle.ps_hoa.specs.declared.tokens.Kind.{Kind}
 use Rattle.ps_hoa.specs.declared.tokens.Kind.TheVariants.{Header, HeaderAgain, Word, AliasName, Int, ZeroRun, Text}

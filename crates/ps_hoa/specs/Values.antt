@@ -1,7 +1,8 @@
 -- The abstract value of a stored acceptance condition.
 use Rattle.std.specs.Prelude.{true, false}
-use Rattle.ps_hoa.specs.Conditions.{SetData, Condition, Conditions, constant, infinitely, finitely, all_hold, any_holds}
-use Rattle.ps_hoa.specs.Conditions.{last, more}
+use Rattle.ps_hoa.specs.Grammar.Conditions.{SetData, Condition, Conditions, constant, infinitely, finitely, all_hold}
+use Rattle.ps_hoa.specs.Grammar.Conditions.{any_holds}
+use Rattle.ps_hoa.specs.Grammar.Conditions.{last, more}
 use Rattle.ps_hoa.specs.declared.condition.Set.{Set}
 use Rattle.ps_hoa.specs.declared.condition.Cond.{Cond, Always, Never, Inf, Fin, All', Any', Row_of-Cond, end_of-Cond}
 use Rattle.ps_hoa.specs.declared.condition.Cond.{more_of-Cond}

@@ -4,21 +4,21 @@ ghost use Rattle.std.specs.Prelude.{◌≡◌, ◌≤◌, IfErr, IfOk, map, opti
 ghost use Rattle.ps_text.specs.declared.faults.Fault.TheVariants as faults;
 ghost use Rattle.ps_label.specs.Expression.{AreOrdered};
 ghost use Rattle.ps_label.specs.Truth.{expressions};
-ghost use Rattle.ps_hoa.specs.Body.{sets_of};
+ghost use Rattle.ps_hoa.specs.Grammar.Body.{sets_of};
 ghost use Rattle.ps_hoa.specs.Files as files;
-ghost use Rattle.ps_hoa.specs.Header.{names_of, state_limit, header_data};
+ghost use Rattle.ps_hoa.specs.Grammar.Header.{names_of, state_limit, header_data};
 ghost use Rattle.ps_hoa.specs.Inner.Rows.{body_data};
 ghost use Rattle.ps_hoa.specs.Sound.{IsSoundFile};
 ghost use Rattle.ps_hoa.specs.Texts.{file_of};
 ghost use Rattle.ps_hoa.specs.Views.{edge_data, row_data};
 
+use crate::body::rows::Rows;
 use crate::condition::Cond;
 use crate::fault::HoaFault;
 use crate::file::{Edge, HoaFile, Row};
+use crate::header::indices::Indices;
+use crate::header::propositions::Propositions;
 use crate::header::{Acceptance, Header};
-use crate::indices::Indices;
-use crate::propositions::Propositions;
-use crate::rows::Rows;
 use ps_label::{Label, Labels};
 use std::alloc::{AllocError, Global};
 

@@ -2,8 +2,8 @@
 
 ghost use Rattle.std.specs.Prelude.{◌≡◌, IfOk, map};
 ghost use Rattle.ps_text.specs.Parts.{NoBad, one};
-ghost use Rattle.ps_hoa.specs.Conditions as conditions;
-ghost use Rattle.ps_hoa.specs.Operands.{nesting_limit};
+ghost use Rattle.ps_hoa.specs.Grammar.Conditions as conditions;
+ghost use Rattle.ps_hoa.specs.Grammar.Operands.{nesting_limit};
 ghost use Rattle.ps_hoa.specs.Inner.Reads.{ReadsAs, Takes};
 ghost use Rattle.ps_hoa.specs.Spans.{piece_of};
 ghost use Rattle.ps_hoa.specs.Values.{condition_of, set_data};
@@ -51,7 +51,7 @@ pub(crate) fn condition(alloc: Global, tokens: &mut Tokens) -> Result<Cond, HoaF
 struct Conditions;
 
 impl Infix for Conditions {
-    ghost use Rattle.ps_hoa.specs.Conditions.{Condition};
+    ghost use Rattle.ps_hoa.specs.Grammar.Conditions.{Condition};
 
     type Value = Cond;
 

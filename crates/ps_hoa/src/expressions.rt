@@ -1,11 +1,11 @@
 //! Laws about the grammars of labels and of acceptance conditions.
 
-ghost use Rattle.ps_hoa.specs.Labels as labels;
-ghost use Rattle.ps_hoa.specs.Conditions as conditions;
+ghost use Rattle.ps_hoa.specs.Grammar.Labels as labels;
+ghost use Rattle.ps_hoa.specs.Grammar.Conditions as conditions;
 ghost use Rattle.ps_text.specs.Answers.{HasOneMeaning};
-ghost use Rattle.ps_hoa.specs.Labels.{ScopeData};
-ghost use Rattle.ps_hoa.specs.Conditions.{Condition};
-ghost use Rattle.ps_hoa.specs.Nesting.{IsCondition, IsLabel, Within};
+ghost use Rattle.ps_hoa.specs.Grammar.Labels.{ScopeData};
+ghost use Rattle.ps_hoa.specs.Grammar.Conditions.{Condition};
+ghost use Rattle.ps_hoa.specs.Grammar.Nesting.{IsCondition, IsLabel, Within};
 ghost use Rattle.ps_hoa.specs.Tokens.{Sign};
 ghost use Rattle.ps_label.specs.Expression.{Expression};
 ghost use Rattle.std.specs.Prelude.{ℕ, List, ◌↔◌};

@@ -8,11 +8,11 @@ ghost use Rattle.ps_hoa.specs.Memory.{bytes_of};
 ghost use Rattle.ps_hoa.specs.Sound.{IsSoundFile};
 ghost use Rattle.ps_hoa.specs.Views.{row_data};
 
+use crate::body::rows::Rows;
 use crate::condition::Cond;
-use crate::indices::Indices;
+use crate::header::indices::Indices;
+use crate::header::propositions::Propositions;
 use crate::marks::Marks;
-use crate::propositions::Propositions;
-use crate::rows::Rows;
 use ps_label::{Label, Labels};
 use std::marker::Model;
 

@@ -1,13 +1,21 @@
 //! The content of a header.
 
 ghost use Rattle.std.specs.Prelude.{◌≡◌, length};
-ghost use Rattle.ps_hoa.specs.Header.{names_of, no_items, header_data};
-ghost use Rattle.ps_hoa.specs.Body.{body_scope, sets_of};
+ghost use Rattle.ps_hoa.specs.Grammar.Header.{names_of, no_items, header_data};
+ghost use Rattle.ps_hoa.specs.Grammar.Body.{body_scope, sets_of};
+
+pub mod flaws;
+pub mod indices;
+pub mod items;
+pub mod names;
+pub mod new_names;
+pub mod propositions;
+pub mod skipped;
 
 use crate::condition::Cond;
-use crate::indices::Indices;
-use crate::names::{Names, Scope};
-use crate::propositions::Propositions;
+use crate::header::indices::Indices;
+use crate::header::names::{Names, Scope};
+use crate::header::propositions::Propositions;
 use ps_label::Label;
 use std::alloc::Global;
 

@@ -1,8 +1,9 @@
 //! The parser of operands with connectives between them.
 
 ghost use Rattle.std.specs.Prelude.{◌≡◌, ◌↔◌, [], ◌∷◌, ◌++◌, IfOk, List, option_map, true};
-ghost use Rattle.ps_hoa.specs.Operands.{InfixGrammar, between, holds as holds_at, nesting_limit, operand as operand_of};
-ghost use Rattle.ps_hoa.specs.Operands.{kind_of, rows};
+ghost use Rattle.ps_hoa.specs.Grammar.Operands.{InfixGrammar, between, holds as holds_at, nesting_limit};
+ghost use Rattle.ps_hoa.specs.Grammar.Operands.{operand as operand_of};
+ghost use Rattle.ps_hoa.specs.Grammar.Operands.{kind_of, rows};
 ghost use Rattle.ps_hoa.specs.Scan.{next_of, stream_of};
 ghost use Rattle.ps_hoa.specs.Inner.Reads.{ReadsAs};
 ghost use Rattle.ps_hoa.specs.Inner.Signs.{IsLeaf};

@@ -2,15 +2,17 @@
 
 ghost use Rattle.std.specs.Prelude.{◌≡◌, ◌↔◌, true};
 ghost use Rattle.ps_label.specs.Expression.{expression};
-ghost use Rattle.ps_hoa.specs.Labels as labels;
-ghost use Rattle.ps_hoa.specs.Operands.{nesting_limit};
+ghost use Rattle.ps_hoa.specs.Grammar.Labels as labels;
+ghost use Rattle.ps_hoa.specs.Grammar.Operands.{nesting_limit};
 ghost use Rattle.ps_hoa.specs.Inner.Reads.{ReadsAs, Takes};
 ghost use Rattle.ps_hoa.specs.Spans.{piece_of};
 
+pub mod operands;
+
 use crate::fault::{HoaCause, HoaFault};
+use crate::header::names::Scope;
 use crate::infix::{self, Connective, Infix};
-use crate::names::Scope;
-use crate::operands::Operands;
+use crate::label::operands::Operands;
 use crate::refusal::{fault_at, refused};
 use crate::signs::int_of;
 use crate::tokens::{Kind, Token, Tokens, is_same};

@@ -5,6 +5,7 @@
 //! | `read(text)` | the automaton as the text states it, or the first `HoaFault` in the text |
 //! | `HoaFile::states`, `start`, `names`, `controllable`, `aliases`, `sets`, `condition` | all but the rows |
 //! | `HoaFile::rows`, `row(state)` | what the body says about a state: label, sets, and edges in text order |
+//! | `HoaFile::of_parts(parts)` | the file with the given `HoaParts`, of which the caller knows that they are sound |
 //! | `Row`, `Edge`, `Guard`, `Cond` | a state, an edge, the letters at which it is taken, an acceptance condition |
 //! | `Marks::as_slice` | the acceptance sets of an edge or a state |
 //! | `Tokens::new`, `peek`, `advance` | the tokens of a text (HOA v1, tokens), without blanks and comments |
@@ -28,28 +29,19 @@
 mod assembly;
 mod body;
 pub mod condition;
-mod edges;
 pub mod expressions;
 pub mod fault;
 pub mod file;
-mod flaws;
 mod header;
-mod indices;
 mod infix;
-mod items;
 mod label;
 mod laws;
 mod marks;
-mod names;
-mod new_names;
 mod opening;
-mod operands;
-mod propositions;
+mod parts;
 mod reader;
 mod refusal;
-mod rows;
 mod signs;
-mod skipped;
 pub mod tokens;
 
 pub use condition::Cond;
@@ -57,5 +49,6 @@ pub use fault::{HoaCause, HoaFault};
 pub use file::{Edge, Guard, HoaFile, Row};
 pub use laws::{one_answer, some_answer, sound_files, sound_labels, sound_parts};
 pub use marks::Marks;
+pub use parts::HoaParts;
 pub use reader::read;
 pub use tokens::{Kind, Token, Tokens};

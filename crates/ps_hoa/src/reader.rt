@@ -10,7 +10,7 @@ use crate::assembly::file;
 use crate::body::body;
 use crate::fault::HoaFault;
 use crate::file::HoaFile;
-use crate::items::header;
+use crate::header::items::header;
 use crate::opening::opened;
 use crate::refusal::refused;
 use crate::tokens::{Kind, Tokens};

@@ -8,7 +8,7 @@ ghost use Rattle.ps_hoa.specs.Causes.{hoa_causes, is_spelled, is_unknown_capital
 ghost use Rattle.ps_hoa.specs.Spans.{piece_of};
 
 use crate::fault::{HoaCause, HoaFault};
-use crate::items::item_named;
+use crate::header::items::item_named;
 use crate::tokens::{Kind, Token, is_same};
 
 pub(crate) fn fault_at(token: Token, cause: HoaCause) -> HoaFault

@@ -4,9 +4,9 @@ ghost use Rattle.std.specs.Prelude.{◌≡◌, ◌≢◌, ◌≤◌, ◌↔◌, 
 ghost use Rattle.std.specs.Prelude.{if◌then◌else◌};
 ghost use Rattle.ps_text.specs.Digits.{decimal_value};
 ghost use Rattle.ps_text.specs.Parts.{NoBad, barred as barred_by};
-ghost use Rattle.ps_hoa.specs.Header.{int as int_part, int_in, IsAbove, IsAlternating};
-ghost use Rattle.ps_hoa.specs.Header.{name_value, string as string_part, string_in, unescaped as meaning};
-ghost use Rattle.ps_hoa.specs.Operands.{expect as expect_part, expect_in, number_limit};
+ghost use Rattle.ps_hoa.specs.Grammar.Header.{int as int_part, int_in, IsAbove, IsAlternating};
+ghost use Rattle.ps_hoa.specs.Grammar.Header.{name_value, string as string_part, string_in, unescaped as meaning};
+ghost use Rattle.ps_hoa.specs.Grammar.Operands.{expect as expect_part, expect_in, number_limit};
 ghost use Rattle.ps_hoa.specs.Inner.Reads.{ReadsAs, Takes};
 ghost use Rattle.ps_hoa.specs.Inner.Signs.{inside, IsTestOf};
 ghost use Rattle.ps_hoa.specs.Spans.{piece_of};

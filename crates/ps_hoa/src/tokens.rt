@@ -13,7 +13,7 @@ ghost use Rattle.ps_hoa.specs.Inner.Lexemes.{IsFirstLexeme};
 ghost use Rattle.ps_hoa.specs.Inner.Runs.{IsRun};
 ghost use Rattle.ps_hoa.specs.Spans.{AreBlanks, IsKindHere, IsSpan, piece_of};
 
-use crate::items::{ONCE_COUNT, once_named};
+use crate::header::items::{ONCE_COUNT, once_named};
 use std::marker::Model;
 
 /// The kind of a token (HOA v1, tokens).

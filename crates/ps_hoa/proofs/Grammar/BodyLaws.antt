@@ -9,21 +9,25 @@
 use Rattle.std.proofs.Common.{arith, ℕ, Bool, List, [], Option, None, refl, ap}
 use Rattle.ps_label.specs.Expression.{Expression}
 use Rattle.ps_text.specs.Parts.{Part, give, one, then_by, many, mapped, barred}
-use Rattle.ps_text.proofs.Following.{laws_next, laws_tight}
-use Rattle.ps_text.proofs.Laws.{Laws, Joint, Nothing, Or, Apart, weaker}
-use Rattle.ps_text.proofs.Joined.{joint}
-use Rattle.ps_text.proofs.Combined.{both_within, wider_first, laws_forms, laws_option, laws_all, laws_last, joint_tight}
-use Rattle.ps_text.proofs.Simple.{laws_give, laws_mapped, laws_then}
-use Rattle.ps_text.proofs.Barred.{Bar}
+use Rattle.ps_text.proofs.Combinators.Following.{laws_next, laws_tight}
+use Rattle.ps_text.proofs.Combinators.Laws.{Laws, Joint, Nothing, Or, Apart, weaker}
+use Rattle.ps_text.proofs.Combinators.Joined.{joint}
+use Rattle.ps_text.proofs.Combinators.Combined.{both_within, wider_first, laws_forms, laws_option, laws_all, laws_last}
+use Rattle.ps_text.proofs.Combinators.Combined.{joint_tight}
+use Rattle.ps_text.proofs.Combinators.Simple.{laws_give, laws_mapped, laws_then}
+use Rattle.ps_text.proofs.Combinators.Barred.{Bar}
 use Rattle.ps_hoa.specs.Tokens.{Sign}
-use Rattle.ps_hoa.specs.Operands.{nesting_limit, is_and, expect}
-use Rattle.ps_hoa.specs.Labels.{label}
+use Rattle.ps_hoa.specs.Grammar.Operands.{nesting_limit, is_and, expect}
+use Rattle.ps_hoa.specs.Grammar.Labels.{label}
 use Rattle.ps_hoa.specs.Files.{RowData}
-use Rattle.ps_hoa.specs.Header.{HeaderData, int_in, IsAlternating}
-use Rattle.ps_hoa.specs.Body.{IsBadState, IsBadSet, BadIn, sets_of, is_left_brace, is_right_brace, set_number, closing}
-use Rattle.ps_hoa.specs.Body.{sets, marks, is_left_bracket, is_right_bracket, body_scope, some_label, label_in_brackets}
-use Rattle.ps_hoa.specs.Body.{state_label, is_bracket, IsBadBracket, labelled_target, IsBadPlainTarget, plain_target}
-use Rattle.ps_hoa.specs.Body.{row_with_edge, labelled_edge, plain_edge, edge}
+use Rattle.ps_hoa.specs.Grammar.Header.{HeaderData, int_in, IsAlternating}
+use Rattle.ps_hoa.specs.Grammar.Body.{IsBadState, IsBadSet, BadIn, sets_of, is_left_brace, is_right_brace, set_number}
+use Rattle.ps_hoa.specs.Grammar.Body.{closing}
+use Rattle.ps_hoa.specs.Grammar.Body.{sets, marks, is_left_bracket, is_right_bracket, body_scope, some_label}
+use Rattle.ps_hoa.specs.Grammar.Body.{label_in_brackets}
+use Rattle.ps_hoa.specs.Grammar.Body.{state_label, is_bracket, IsBadBracket, labelled_target, IsBadPlainTarget}
+use Rattle.ps_hoa.specs.Grammar.Body.{plain_target}
+use Rattle.ps_hoa.specs.Grammar.Body.{row_with_edge, labelled_edge, plain_edge, edge}
 use Rattle.ps_hoa.specs.Inner.Ahead.{begins_edge}
 use Rattle.ps_hoa.specs.declared.fault.HoaCause.{HoaCause}
 use Rattle.ps_hoa.specs.declared.tokens.Kind.{Kind}

@@ -2,16 +2,16 @@
 use Rattle.std.proofs.Common.{◌≡◌, ℕ, Bool, true, false, List, [], codes, refl, arith}
 use Rattle.std.proofs.lemmas.Slice.Eq.{bytes_eq-Decides}
 use Rattle.ps_text.specs.Parts.{Part, NoBad, one, then_by}
-use Rattle.ps_text.proofs.Following.{laws_tight}
-use Rattle.ps_text.proofs.Laws.{Laws, Joint, Nothing, Or, Within, Apart}
-use Rattle.ps_text.proofs.Combined.{both_within, wider_first, laws_first, laws_forms, joint_tight}
-use Rattle.ps_text.proofs.Simple.{Taken, none_is_some, laws_mapped}
+use Rattle.ps_text.proofs.Combinators.Following.{laws_tight}
+use Rattle.ps_text.proofs.Combinators.Laws.{Laws, Joint, Nothing, Or, Within, Apart}
+use Rattle.ps_text.proofs.Combinators.Combined.{both_within, wider_first, laws_first, laws_forms, joint_tight}
+use Rattle.ps_text.proofs.Combinators.Simple.{Taken, none_is_some, laws_mapped}
 use Rattle.ps_hoa.specs.Inner.Signs.{is_single, IsLeaf}
 use Rattle.ps_hoa.specs.Tokens.{Sign}
-use Rattle.ps_hoa.specs.Operands.{is_not, is_left, expect}
-use Rattle.ps_hoa.specs.Conditions.{Condition, constant_in, often_in, IsTooLargeSet, set, any_set, closed_set}
-use Rattle.ps_hoa.specs.Conditions.{often_or_not}
-use Rattle.ps_hoa.specs.Conditions.{visit, atom, together, grammar, operand, condition}
+use Rattle.ps_hoa.specs.Grammar.Operands.{is_not, is_left, expect}
+use Rattle.ps_hoa.specs.Grammar.Conditions.{Condition, constant_in, often_in, IsTooLargeSet, set, any_set, closed_set}
+use Rattle.ps_hoa.specs.Grammar.Conditions.{often_or_not}
+use Rattle.ps_hoa.specs.Grammar.Conditions.{visit, atom, together, grammar, operand, condition}
 use Rattle.ps_hoa.specs.declared.fault.HoaCause.{HoaCause}
 use Rattle.ps_hoa.specs.declared.tokens.Kind.{Kind}
 use Rattle.ps_hoa.specs.declared.tokens.Kind.TheVariants.{Word, Int}

@@ -3,12 +3,12 @@
 -- - `laws_file`: the proof of `Laws` for header and body together
 -- - `joint_file`: no token can both continue the header and begin the body (`Joint`)
 use Rattle.ps_text.specs.Parts.{mapped}
-use Rattle.ps_text.proofs.Combined.{joint_tight}
-use Rattle.ps_text.proofs.Following.{laws_tight}
-use Rattle.ps_text.proofs.Laws.{Laws, Joint, Nothing}
-use Rattle.ps_text.proofs.Simple.{laws_mapped}
-use Rattle.ps_hoa.specs.Header.{header}
-use Rattle.ps_hoa.specs.Body.{body}
+use Rattle.ps_text.proofs.Combinators.Combined.{joint_tight}
+use Rattle.ps_text.proofs.Combinators.Following.{laws_tight}
+use Rattle.ps_text.proofs.Combinators.Laws.{Laws, Joint, Nothing}
+use Rattle.ps_text.proofs.Combinators.Simple.{laws_mapped}
+use Rattle.ps_hoa.specs.Grammar.Header.{header}
+use Rattle.ps_hoa.specs.Grammar.Body.{body}
 use Rattle.ps_hoa.specs.Texts.{file_of, file}
 use Rattle.ps_hoa.proofs.Grammar.OperandLaws.{Odd}
 use Rattle.ps_hoa.proofs.Grammar.WholeHeader.{HeaderFirst, laws_header}

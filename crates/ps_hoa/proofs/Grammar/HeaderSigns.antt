@@ -13,11 +13,11 @@ use Rattle.ps_text.specs.Parts.{one, NoBad, refusal_of}
 use Rattle.ps_text.specs.Readers.{Meets}
 use Rattle.ps_hoa.specs.Causes.{cause_number, hoa_causes, found_of, HoaFault}
 use Rattle.ps_hoa.specs.Inner.Flaws.{body_in}
-use Rattle.ps_hoa.specs.ItemNames.{item_named}
-use Rattle.ps_hoa.specs.Header.{HeaderData, item_in, IsBadItem, int_in, IsAbove, string_in, IsBadName}
-use Rattle.ps_hoa.specs.Header.{IsBadAlias, IsBadBody, is_name_among}
+use Rattle.ps_hoa.specs.Grammar.ItemNames.{item_named}
+use Rattle.ps_hoa.specs.Grammar.Header.{HeaderData, item_in, IsBadItem, int_in, IsAbove, string_in, IsBadName}
+use Rattle.ps_hoa.specs.Grammar.Header.{IsBadAlias, IsBadBody, is_name_among}
 use Rattle.ps_hoa.specs.Inner.Items.{alias_name_in, read_over_in}
-use Rattle.ps_hoa.specs.Operands.{expect_in, number_limit}
+use Rattle.ps_hoa.specs.Grammar.Operands.{expect_in, number_limit}
 use Rattle.ps_hoa.specs.Inner.Reads.{IsTaken, Takes}
 use Rattle.ps_hoa.specs.Scan.{next_of, behind_next}
 use Rattle.ps_hoa.specs.Inner.Signs.{IsTestOf}
@@ -25,7 +25,7 @@ use Rattle.ps_hoa.specs.Tokens.{Sign}
 use Rattle.ps_hoa.specs.declared.fault.HoaCause.{HoaCause}
 use Rattle.ps_hoa.specs.declared.fault.HoaCause.TheVariants.{Limit, Name}
 use Rattle.ps_text.specs.declared.faults.Fault.TheVariants.{Text as Fault}
-use Rattle.ps_hoa.specs.declared.items.Item.TheVariants as items
+use Rattle.ps_hoa.specs.declared.header.items.Item.TheVariants as items
 use Rattle.ps_hoa.specs.declared.tokens.Kind.{Kind}
 use Rattle.ps_hoa.specs.declared.tokens.Kind.TheVariants.{Header, Int, Text, Word, AliasName, Body, Finish}
 use Rattle.ps_hoa.proofs.Reading.SingleTokens.{IsOfSigns, reads_one}

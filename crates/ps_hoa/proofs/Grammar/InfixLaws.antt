@@ -8,15 +8,16 @@
 --   and the operand after this check
 use Rattle.std.proofs.Common.{rules, arith, ◌≡◌, ℕ, zero, suc, Bool, true, List, Option, None, Some, refl}
 use Rattle.ps_text.specs.Parts.{Part, then_by}
-use Rattle.ps_text.proofs.Barred.{laws_barred}
-use Rattle.ps_text.proofs.Joined.{joint}
-use Rattle.ps_text.proofs.Laws.{Laws, Joint, Nothing, Within, Apart, weaker}
-use Rattle.ps_text.proofs.Combined.{both_within, wider_first, wider_more, laws_forms}
-use Rattle.ps_text.proofs.Simple.{laws_give, laws_mapped, laws_then}
+use Rattle.ps_text.proofs.Combinators.Barred.{laws_barred}
+use Rattle.ps_text.proofs.Combinators.Joined.{joint}
+use Rattle.ps_text.proofs.Combinators.Laws.{Laws, Joint, Nothing, Within, Apart, weaker}
+use Rattle.ps_text.proofs.Combinators.Combined.{both_within, wider_first, wider_more, laws_forms}
+use Rattle.ps_text.proofs.Combinators.Simple.{laws_give, laws_mapped, laws_then}
 use Rattle.ps_hoa.specs.Inner.Signs.{is_single, IsLeaf}
 use Rattle.ps_hoa.specs.Tokens.{Sign}
-use Rattle.ps_hoa.specs.Operands.{is_not, is_and, is_or, is_left, is_right, expect, inner, rows, InfixGrammar, negation}
-use Rattle.ps_hoa.specs.Operands.{holds, IsTooDeep, bar, holding, operand}
+use Rattle.ps_hoa.specs.Grammar.Operands.{is_not, is_and, is_or, is_left, is_right, expect, inner, rows, InfixGrammar}
+use Rattle.ps_hoa.specs.Grammar.Operands.{negation}
+use Rattle.ps_hoa.specs.Grammar.Operands.{holds, IsTooDeep, bar, holding, operand}
 use Rattle.ps_hoa.specs.declared.infix.Connective.{Connective}
 use Rattle.ps_hoa.specs.declared.infix.Connective.TheVariants as connectives
 use Rattle.ps_hoa.specs.declared.fault.HoaCause.{HoaCause}

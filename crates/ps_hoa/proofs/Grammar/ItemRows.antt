@@ -6,8 +6,8 @@ use Rattle.std.proofs.Common.{◌≡◌, ℕ, ◌+◌, ◌<◌, ◌≤◌, true,
 use Rattle.std.proofs.Common.{Option, None, Some, ◌∷◌, suc, drop-cons, add-one, refl, ap, ◌∙◌}
 use Rattle.std.proofs.lemmas.List.{drop_all}
 use Rattle.std.specs.Str.{bytes_eq}
-use Rattle.ps_hoa.specs.ItemNames.{item_among}
-use Rattle.ps_hoa.specs.declared.items.Item.{Item}
+use Rattle.ps_hoa.specs.Grammar.ItemNames.{item_among}
+use Rattle.ps_hoa.specs.declared.header.items.Item.{Item}
 
 abbrev pub rows_of : List (Bor (List ℕ) × Item) → List (List ℕ × Item)
 rows_of rows = map (λ row. (row.0.now, row.1)) rows

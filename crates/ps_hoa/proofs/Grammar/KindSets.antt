@@ -14,12 +14,12 @@ use Rattle.std.proofs.lemmas.Bool.{and_parts, or_left, or_right}
 use denote.Enum.Bare.{sameb, same_true}
 use denote.Enum.Declared.{tag_of}
 use Rattle.ps_text.specs.Parts.{Part, one, then_by}
-use Rattle.ps_text.proofs.Laws.{Or, Within, Apart, weaker}
-use Rattle.ps_text.proofs.Combined.{both_within, laws_first}
-use Rattle.ps_text.proofs.Simple.{Taken, BadSign, none_is_some, laws_then}
+use Rattle.ps_text.proofs.Combinators.Laws.{Or, Within, Apart, weaker}
+use Rattle.ps_text.proofs.Combinators.Combined.{both_within, laws_first}
+use Rattle.ps_text.proofs.Combinators.Simple.{Taken, BadSign, none_is_some, laws_then}
 use Rattle.ps_hoa.specs.Causes.{own_cause}
 use Rattle.ps_hoa.specs.Inner.Signs.{IsTestOf}
-use Rattle.ps_hoa.specs.Operands.{expect_in, expect}
+use Rattle.ps_hoa.specs.Grammar.Operands.{expect_in, expect}
 use Rattle.ps_hoa.specs.Tokens.{Sign}
 use Rattle.ps_hoa.specs.contracts.tokens.Kind.{the_type}
 use Rattle.ps_hoa.specs.declared.fault.HoaCause.{HoaCause}

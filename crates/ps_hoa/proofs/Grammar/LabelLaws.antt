@@ -1,10 +1,10 @@
 -- Proofs of `Laws` for labels: which tokens can begin a label, and which can continue one.
 use Rattle.std.proofs.Common.{◌≡◌, ℕ, true, List, [], refl, arith}
 use Rattle.ps_label.specs.Expression.{Expression}
-use Rattle.ps_text.proofs.Laws.{Laws}
+use Rattle.ps_text.proofs.Combinators.Laws.{Laws}
 use Rattle.ps_hoa.specs.Inner.Signs.{is_single, IsLeaf}
 use Rattle.ps_hoa.specs.Tokens.{Sign}
-use Rattle.ps_hoa.specs.Labels.{ScopeData, IsBadLeaf, leaf, together, grammar, operand, label}
+use Rattle.ps_hoa.specs.Grammar.Labels.{ScopeData, IsBadLeaf, leaf, together, grammar, operand, label}
 use Rattle.ps_hoa.specs.declared.fault.HoaCause.{HoaCause}
 use Rattle.ps_hoa.specs.declared.tokens.Kind.{Kind}
 use Rattle.ps_hoa.specs.declared.tokens.Kind.TheVariants.{Int}

@@ -12,21 +12,23 @@ use Rattle.std.proofs.Common.{arith, ◌≡◌, Bool, true, false, cond, List, O
 use Rattle.ps_text.specs.Answers.{Stream, Found, next_of, signs}
 use Rattle.ps_text.specs.Parts.{Part, then_by, many, mapped}
 use Rattle.ps_text.specs.Readers.{Stops, Reads, Carries}
-use Rattle.ps_text.proofs.Following.{laws_next, laws_tight}
-use Rattle.ps_text.proofs.Combined.{both_within, joint_tight}
-use Rattle.ps_text.proofs.Laws.{Laws, Joint, Nothing, Or, Apart, weaker}
-use Rattle.ps_text.proofs.Joined.{joint}
-use Rattle.ps_text.proofs.Simple.{none_is_some, laws_mapped, laws_then}
-use Rattle.ps_text.proofs.Covered.{Avoids, enters_read, enters_then}
-use Rattle.ps_text.proofs.Repeated.{laws_many}
-use Rattle.ps_text.proofs.Exits.{reads_mapped, reads_then, stops_mapped, stops_first, stops_behind, carries_start}
-use Rattle.ps_text.proofs.Exits.{carries_then, carries_reads, carries_stops}
-use Rattle.ps_text.proofs.Branches.{many_ends, many_fails, carries_many}
-use Rattle.ps_text.proofs.Whole.{Own}
+use Rattle.ps_text.proofs.Combinators.Following.{laws_next, laws_tight}
+use Rattle.ps_text.proofs.Combinators.Combined.{both_within, joint_tight}
+use Rattle.ps_text.proofs.Combinators.Laws.{Laws, Joint, Nothing, Or, Apart, weaker}
+use Rattle.ps_text.proofs.Combinators.Joined.{joint}
+use Rattle.ps_text.proofs.Combinators.Simple.{none_is_some, laws_mapped, laws_then}
+use Rattle.ps_text.proofs.Combinators.Covered.{Avoids, enters_read, enters_then}
+use Rattle.ps_text.proofs.Combinators.Repeated.{laws_many}
+use Rattle.ps_text.proofs.ParsedAnswers.Exits.{reads_mapped, reads_then, stops_mapped, stops_first, stops_behind}
+use Rattle.ps_text.proofs.ParsedAnswers.Exits.{carries_start}
+use Rattle.ps_text.proofs.ParsedAnswers.Exits.{carries_then, carries_reads, carries_stops}
+use Rattle.ps_text.proofs.ParsedAnswers.Branches.{many_ends, many_fails, carries_many}
+use Rattle.ps_text.proofs.ParsedAnswers.Whole.{Own}
 use Rattle.ps_hoa.specs.Tokens.{Sign}
 use Rattle.ps_hoa.specs.Causes.{hoa_causes}
-use Rattle.ps_hoa.specs.Operands.{is_right, expect_in, expect, closed, single, with_last, joined, further, operands}
-use Rattle.ps_hoa.specs.Operands.{row}
+use Rattle.ps_hoa.specs.Grammar.Operands.{is_right, expect_in, expect, closed, single, with_last, joined, further}
+use Rattle.ps_hoa.specs.Grammar.Operands.{operands}
+use Rattle.ps_hoa.specs.Grammar.Operands.{row}
 use Rattle.ps_hoa.specs.declared.fault.HoaCause.{HoaCause}
 use Rattle.ps_hoa.specs.declared.tokens.Kind.{Kind}
 

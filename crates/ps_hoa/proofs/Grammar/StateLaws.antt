@@ -8,17 +8,19 @@
 use Rattle.std.proofs.Common.{rules, arith, ◌≡◌, ℕ, Bool, List, [], codes, Option, Some, refl}
 use Rattle.ps_label.specs.Expression.{Expression}
 use Rattle.ps_text.specs.Parts.{Part, give, then_by, many, mapped}
-use Rattle.ps_text.proofs.Following.{laws_tight}
-use Rattle.ps_text.proofs.Laws.{Laws, Joint, Nothing, Or, Apart}
-use Rattle.ps_text.proofs.Joined.{joint}
-use Rattle.ps_text.proofs.Combined.{both_within, wider_more, laws_first, laws_option, laws_last, joint_tight}
-use Rattle.ps_text.proofs.Simple.{Taken, laws_give, laws_mapped}
-use Rattle.ps_text.proofs.Repeated.{laws_many}
+use Rattle.ps_text.proofs.Combinators.Following.{laws_tight}
+use Rattle.ps_text.proofs.Combinators.Laws.{Laws, Joint, Nothing, Or, Apart}
+use Rattle.ps_text.proofs.Combinators.Joined.{joint}
+use Rattle.ps_text.proofs.Combinators.Combined.{both_within, wider_more, laws_first, laws_option, laws_last}
+use Rattle.ps_text.proofs.Combinators.Combined.{joint_tight}
+use Rattle.ps_text.proofs.Combinators.Simple.{Taken, laws_give, laws_mapped}
+use Rattle.ps_text.proofs.Combinators.Repeated.{laws_many}
 use Rattle.ps_hoa.specs.Tokens.{Sign}
-use Rattle.ps_hoa.specs.Header.{HeaderData, name_value, string}
-use Rattle.ps_hoa.specs.Body.{BodyData, no_rows, is_left_brace, marks, is_left_bracket, state_label, edge, edges}
-use Rattle.ps_hoa.specs.Body.{IsBadRow, state_number, nothing_of, state_name, empty_row, with_row, state_value}
-use Rattle.ps_hoa.specs.Body.{state_begins, state, is_end, ended, body}
+use Rattle.ps_hoa.specs.Grammar.Header.{HeaderData, name_value, string}
+use Rattle.ps_hoa.specs.Grammar.Body.{BodyData, no_rows, is_left_brace, marks, is_left_bracket, state_label, edge}
+use Rattle.ps_hoa.specs.Grammar.Body.{edges}
+use Rattle.ps_hoa.specs.Grammar.Body.{IsBadRow, state_number, nothing_of, state_name, empty_row, with_row, state_value}
+use Rattle.ps_hoa.specs.Grammar.Body.{state_begins, state, is_end, ended, body}
 use Rattle.ps_hoa.specs.Inner.Ahead.{begins_edge}
 use Rattle.ps_hoa.specs.declared.fault.HoaCause.{HoaCause}
 use Rattle.ps_hoa.specs.declared.tokens.Kind.{Kind}

@@ -8,20 +8,20 @@ use Rattle.std.proofs.Common.{arith, ◌≡◌, ℕ, ◌||◌, Bool, true, false
 use Rattle.std.proofs.Common.{is_some, refl, sym, ap, ◌∙◌, rules}
 use Rattle.std.proofs.lemmas.Slice.Eq.{bytes_eq-Decides}
 use Rattle.ps_text.specs.Parts.{Part, one, barred}
-use Rattle.ps_text.proofs.Laws.{Laws, Nothing, Apart, weaker}
-use Rattle.ps_text.proofs.Combined.{both_within, laws_first}
-use Rattle.ps_text.proofs.Simple.{Taken, none_is_some, laws_mapped}
-use Rattle.ps_text.proofs.Barred.{laws_barred}
+use Rattle.ps_text.proofs.Combinators.Laws.{Laws, Nothing, Apart, weaker}
+use Rattle.ps_text.proofs.Combinators.Combined.{both_within, laws_first}
+use Rattle.ps_text.proofs.Combinators.Simple.{Taken, none_is_some, laws_mapped}
+use Rattle.ps_text.proofs.Combinators.Barred.{laws_barred}
 use Rattle.ps_hoa.specs.Tokens.{Sign}
 use Rattle.ps_hoa.specs.Bytes.{begins_capital}
 use Rattle.ps_hoa.specs.Causes.{is_spelled, is_unknown_capital}
-use Rattle.ps_hoa.specs.Operands.{is_and}
-use Rattle.ps_hoa.specs.ItemNames.{item_named}
-use Rattle.ps_hoa.specs.Header.{HeaderData, name_value, item_or_other, item_in, item_name, int}
-use Rattle.ps_hoa.specs.Header.{IsAlternating, string, proposition_name, alias_value, IsBadAlias}
+use Rattle.ps_hoa.specs.Grammar.Operands.{is_and}
+use Rattle.ps_hoa.specs.Grammar.ItemNames.{item_named}
+use Rattle.ps_hoa.specs.Grammar.Header.{HeaderData, name_value, item_or_other, item_in, item_name, int}
+use Rattle.ps_hoa.specs.Grammar.Header.{IsAlternating, string, proposition_name, alias_value, IsBadAlias}
 use Rattle.ps_hoa.specs.declared.fault.HoaCause.{HoaCause}
-use Rattle.ps_hoa.specs.declared.items.Item.{Item}
-use Rattle.ps_hoa.specs.declared.items.Item.TheVariants as items
+use Rattle.ps_hoa.specs.declared.header.items.Item.{Item}
+use Rattle.ps_hoa.specs.declared.header.items.Item.TheVariants as items
 use Rattle.ps_hoa.specs.declared.tokens.Kind.{Kind}
 use Rattle.ps_hoa.specs.declared.tokens.Kind.TheVariants.{Header, Int, Text, AliasName, Body}
 use Rattle.ps_hoa.proofs.Grammar.OperandLaws.{false_true, Odd, Of, Tight}

@@ -8,22 +8,23 @@
 use Rattle.std.proofs.Common.{◌≡◌, [], true, false, is_some, refl, ap, sym, ◌∙◌}
 use Rattle.ps_text.specs.Answers.{Stream, next_of as there_of}
 use Rattle.ps_text.specs.Parts.{many}
-use Rattle.ps_text.proofs.Combined.{joint_tight, both_within, laws_last}
-use Rattle.ps_text.proofs.Covered.{Enters, Avoids, enters_then}
-use Rattle.ps_text.proofs.Following.{laws_tight}
-use Rattle.ps_text.proofs.Joined.{joint}
-use Rattle.ps_text.proofs.Laws.{Laws, Joint, Nothing, Or, Apart}
-use Rattle.ps_text.proofs.Repeated.{laws_many}
-use Rattle.ps_text.proofs.Simple.{Taken}
-use Rattle.ps_hoa.specs.Header.{HeaderData, no_items, item_in, IsBadItem, item_name, behind_name, item, body_token}
-use Rattle.ps_hoa.specs.Header.{header}
+use Rattle.ps_text.proofs.Combinators.Combined.{joint_tight, both_within, laws_last}
+use Rattle.ps_text.proofs.Combinators.Covered.{Enters, Avoids, enters_then}
+use Rattle.ps_text.proofs.Combinators.Following.{laws_tight}
+use Rattle.ps_text.proofs.Combinators.Joined.{joint}
+use Rattle.ps_text.proofs.Combinators.Laws.{Laws, Joint, Nothing, Or, Apart}
+use Rattle.ps_text.proofs.Combinators.Repeated.{laws_many}
+use Rattle.ps_text.proofs.Combinators.Simple.{Taken}
+use Rattle.ps_hoa.specs.Grammar.Header.{HeaderData, no_items, item_in, IsBadItem, item_name, behind_name, item}
+use Rattle.ps_hoa.specs.Grammar.Header.{body_token}
+use Rattle.ps_hoa.specs.Grammar.Header.{header}
 use Rattle.ps_hoa.specs.Scan.{next_of}
 use Rattle.ps_hoa.specs.Tokens.{Sign}
 use Rattle.ps_hoa.specs.declared.tokens.Kind.TheVariants.{Header, Body, Finish}
 use Rattle.ps_hoa.proofs.Grammar.KindSets.{apart, laws_sign}
 use Rattle.ps_hoa.proofs.Grammar.OperandLaws.{Odd, Of, Tight, false_true}
 use Rattle.ps_hoa.proofs.Grammar.TokenLaws.{header_apart, item_header, item_there, laws_item_name, is_body}
-use Rattle.ps_hoa.proofs.ItemForms.{is_argument, ItemMore, form}
+use Rattle.ps_hoa.proofs.Grammar.ItemForms.{is_argument, ItemMore, form}
 use Rattle.ps_hoa.proofs.Reading.HoaExits.{Loop}
 use Rattle.ps_hoa.proofs.Reading.ExpectReading.{sign_begins}
 use Rattle.ps_hoa.proofs.Reading.NextSign.{next_same}

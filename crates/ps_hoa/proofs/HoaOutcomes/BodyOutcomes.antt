@@ -4,15 +4,15 @@
 use Rattle.std.proofs.Common.{ℕ, List, [], Option, None, rules}
 use Rattle.ps_label.specs.Expression.{Expression}
 use Rattle.ps_text.specs.Parts.{one, mapped, barred}
-use Rattle.ps_text.proofs.Outcomes.{has_give, has_mapped, has_then, has_either, has_barred}
+use Rattle.ps_text.proofs.ParsedAnswers.Outcomes.{has_give, has_mapped, has_then, has_either, has_barred}
 use Rattle.ps_hoa.specs.Causes.{hoa_causes}
-use Rattle.ps_hoa.specs.Operands.{expect_in, expect}
-use Rattle.ps_hoa.specs.Labels.{label}
+use Rattle.ps_hoa.specs.Grammar.Operands.{expect_in, expect}
+use Rattle.ps_hoa.specs.Grammar.Labels.{label}
 use Rattle.ps_hoa.specs.Files.{RowData}
-use Rattle.ps_hoa.specs.Header.{HeaderData, int_in, IsAlternating}
-use Rattle.ps_hoa.specs.Body.{BodyData, no_rows, BadIn, sets_of, is_right_brace, set_number, marks}
-use Rattle.ps_hoa.specs.Body.{label_in_brackets, state_label, row_with_edge, edge}
-use Rattle.ps_hoa.specs.Body.{edges, IsBadRow, state_name, empty_row, with_row, state, is_end, IsBadClose, body}
+use Rattle.ps_hoa.specs.Grammar.Header.{HeaderData, int_in, IsAlternating}
+use Rattle.ps_hoa.specs.Grammar.Body.{BodyData, no_rows, BadIn, sets_of, is_right_brace, set_number, marks}
+use Rattle.ps_hoa.specs.Grammar.Body.{label_in_brackets, state_label, row_with_edge, edge}
+use Rattle.ps_hoa.specs.Grammar.Body.{edges, IsBadRow, state_name, empty_row, with_row, state, is_end, IsBadClose, body}
 use Rattle.ps_hoa.specs.Texts.{file_of, file}
 use Rattle.ps_hoa.specs.declared.fault.HoaCause.{HoaCause}
 use Rattle.ps_hoa.proofs.Grammar.BodyLaws.{joint_sets, joint_braces, laws_sets, laws_no_sets, joint_label}

@@ -9,17 +9,18 @@ use Rattle.std.proofs.Common.{rules}
 use Rattle.std.specs.Option.{option_map}
 use Rattle.ps_label.specs.Expression.{Expression, constant, proposition, alias, not_of, all_of, any_of, Operands, last}
 use Rattle.ps_label.specs.Expression.{more}
-use Rattle.ps_text.proofs.Outcomes.{Judged, bad, good}
-use Rattle.ps_text.proofs.Decisions.{Decided, decide_none, decide_one, decide_below, judge_also}
-use Rattle.ps_text.proofs.Simple.{none_is_some}
+use Rattle.ps_text.proofs.ParsedAnswers.Outcomes.{Judged, bad, good}
+use Rattle.ps_text.proofs.ParsedAnswers.Decisions.{Decided, decide_none, decide_one, decide_below, judge_also}
+use Rattle.ps_text.proofs.Combinators.Simple.{none_is_some}
 use Rattle.ps_hoa.specs.Causes.{cause_number}
-use Rattle.ps_hoa.specs.Conditions as conditions
-use Rattle.ps_hoa.specs.Conditions.{Condition, Conditions}
+use Rattle.ps_hoa.specs.Grammar.Conditions as conditions
+use Rattle.ps_hoa.specs.Grammar.Conditions.{Condition, Conditions}
 use Rattle.ps_hoa.specs.Inner.Flaws.{IsLeastFlaw, IsSoundHeader}
-use Rattle.ps_hoa.specs.Header.{AcceptanceData, HeaderData, SpeaksBeyond, SomeSpeaksBeyond, AnAliasBeyond}
-use Rattle.ps_hoa.specs.Header.{NamesSetBeyond, SomeNamesSetBeyond, AnIndexBeyond, IsStartBeyond, IsStartTooLarge}
-use Rattle.ps_hoa.specs.Header.{IsConditionBeyond, IsControlBeyond, IsRangeBroken, IsBadHeader, IsBadBody}
-use Rattle.ps_hoa.specs.Header.{no_acceptance, start_too_large, no_start, out_of_range, no_controllable}
+use Rattle.ps_hoa.specs.Grammar.Header.{AcceptanceData, HeaderData, SpeaksBeyond, SomeSpeaksBeyond, AnAliasBeyond}
+use Rattle.ps_hoa.specs.Grammar.Header.{NamesSetBeyond, SomeNamesSetBeyond, AnIndexBeyond, IsStartBeyond}
+use Rattle.ps_hoa.specs.Grammar.Header.{IsStartTooLarge}
+use Rattle.ps_hoa.specs.Grammar.Header.{IsConditionBeyond, IsControlBeyond, IsRangeBroken, IsBadHeader, IsBadBody}
+use Rattle.ps_hoa.specs.Grammar.Header.{no_acceptance, start_too_large, no_start, out_of_range, no_controllable}
 use Rattle.ps_hoa.specs.declared.fault.HoaCause.{HoaCause}
 use Rattle.ps_hoa.specs.declared.fault.HoaCause.TheVariants.{MissingAcceptance, Limit, Start, Range, Controllable}
 use Rattle.ps_hoa.proofs.Grammar.KindSets.{test_of}

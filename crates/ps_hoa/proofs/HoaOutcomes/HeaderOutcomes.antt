@@ -1,10 +1,10 @@
 -- For each list of tokens, the header has an outcome: it is parsed, or it has a first error.
-use Rattle.ps_text.proofs.Outcomes.{has_then}
+use Rattle.ps_text.proofs.ParsedAnswers.Outcomes.{has_then}
 use Rattle.ps_hoa.specs.Causes.{hoa_causes}
-use Rattle.ps_hoa.specs.Header.{HeaderData, no_items, item, header}
+use Rattle.ps_hoa.specs.Grammar.Header.{HeaderData, no_items, item, header}
 use Rattle.ps_hoa.proofs.Grammar.HeaderSigns.{signs_item, signs_body}
 use Rattle.ps_hoa.proofs.Grammar.WholeHeader.{joint_item, item_loop, joint_header}
-use Rattle.ps_hoa.proofs.ItemForms.{form, judge_item}
+use Rattle.ps_hoa.proofs.Grammar.ItemForms.{form, judge_item}
 use Rattle.ps_hoa.proofs.HoaOutcomes.HeaderFlaws.{judge_body_token}
 use Rattle.ps_hoa.proofs.HoaOutcomes.LabelOutcomes.{Has, has_signs, has_loop}
 

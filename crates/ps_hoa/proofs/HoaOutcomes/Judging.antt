@@ -7,22 +7,24 @@ use Rattle.std.proofs.Common.{sym, inr, ◌∙◌, subst}
 use Rattle.std.proofs.lemmas.Bool.{cases_eq}
 use Rattle.ps_text.specs.Digits.{decimal_value}
 use Rattle.ps_text.specs.Parts.{NoBad}
-use Rattle.ps_text.proofs.Outcomes.{Judged}
-use Rattle.ps_text.proofs.Decisions.{Decided, decide_true, decide_none, decide_not, decide_as, decide_both}
-use Rattle.ps_text.proofs.Decisions.{decide_below, judge_none, judge_cause, judge_one, judge_if, judge_also}
-use Rattle.ps_text.proofs.Simple.{none_is_some, same_some}
+use Rattle.ps_text.proofs.ParsedAnswers.Outcomes.{Judged}
+use Rattle.ps_text.proofs.ParsedAnswers.Decisions.{Decided, decide_true, decide_none, decide_not, decide_as}
+use Rattle.ps_text.proofs.ParsedAnswers.Decisions.{decide_both}
+use Rattle.ps_text.proofs.ParsedAnswers.Decisions.{decide_below, judge_none, judge_cause, judge_one, judge_if}
+use Rattle.ps_text.proofs.ParsedAnswers.Decisions.{judge_also}
+use Rattle.ps_text.proofs.Combinators.Simple.{none_is_some, same_some}
 use Rattle.ps_hoa.specs.Causes.{cause_number}
-use Rattle.ps_hoa.specs.Operands.{holds, IsTooDeep, number_limit}
-use Rattle.ps_hoa.specs.Labels.{ScopeData, alias_number, IsBeyond, IsBadLeaf, BadLeaf}
-use Rattle.ps_hoa.specs.Conditions as conditions
+use Rattle.ps_hoa.specs.Grammar.Operands.{holds, IsTooDeep, number_limit}
+use Rattle.ps_hoa.specs.Grammar.Labels.{ScopeData, alias_number, IsBeyond, IsBadLeaf, BadLeaf}
+use Rattle.ps_hoa.specs.Grammar.Conditions as conditions
 use Rattle.ps_hoa.specs.Files.{RowData}
-use Rattle.ps_hoa.specs.Header.{HeaderData, state_limit, int_in, IsAbove, IsAlternating}
-use Rattle.ps_hoa.specs.Header.{IsBadName, IsBadAlias}
-use Rattle.ps_hoa.specs.Body.{BodyData, edge_limit, IsBadState, IsBadSet, BadIn, labelling, MayHaveNoLabel}
-use Rattle.ps_hoa.specs.Body.{MayHaveLabel, IsBadBracket, IsBadPlainTarget, IsWrongCount, last_row, IsBadEnd}
-use Rattle.ps_hoa.specs.Body.{IsBadRow, state_value, IsBadNext, is_end, IsBadClose}
-use Rattle.ps_hoa.specs.declared.edges.Labelling.{Labelling}
-use Rattle.ps_hoa.specs.declared.edges.Labelling.TheVariants.{ByPlace}
+use Rattle.ps_hoa.specs.Grammar.Header.{HeaderData, state_limit, int_in, IsAbove, IsAlternating}
+use Rattle.ps_hoa.specs.Grammar.Header.{IsBadName, IsBadAlias}
+use Rattle.ps_hoa.specs.Grammar.Body.{BodyData, edge_limit, IsBadState, IsBadSet, BadIn, labelling, MayHaveNoLabel}
+use Rattle.ps_hoa.specs.Grammar.Body.{MayHaveLabel, IsBadBracket, IsBadPlainTarget, IsWrongCount, last_row, IsBadEnd}
+use Rattle.ps_hoa.specs.Grammar.Body.{IsBadRow, state_value, IsBadNext, is_end, IsBadClose}
+use Rattle.ps_hoa.specs.declared.body.edges.Labelling.{Labelling}
+use Rattle.ps_hoa.specs.declared.body.edges.Labelling.TheVariants.{ByPlace}
 use Rattle.ps_hoa.specs.declared.fault.HoaCause.{HoaCause}
 use Rattle.ps_hoa.specs.declared.fault.HoaCause.TheVariants as causes
 use Rattle.ps_hoa.specs.declared.tokens.Kind.{Kind}

@@ -7,20 +7,23 @@
 use Rattle.std.proofs.Common.{arith, Option, None, Some, ℕ, zero, suc, Bool, true, false, List}
 use Rattle.ps_text.specs.Parts.{Part, one, many}
 use Rattle.ps_text.specs.Outcomes.{HasOutcomes}
-use Rattle.ps_text.proofs.Laws.{Laws, Nothing, Apart}
-use Rattle.ps_text.proofs.Outcomes.{has_give, has_one, has_mapped, has_then, has_either, has_many, has_barred}
-use Rattle.ps_text.proofs.Simple.{laws_give, laws_mapped}
+use Rattle.ps_text.proofs.Combinators.Laws.{Laws, Nothing, Apart}
+use Rattle.ps_text.proofs.ParsedAnswers.Outcomes.{has_give, has_one, has_mapped, has_then, has_either, has_many}
+use Rattle.ps_text.proofs.ParsedAnswers.Outcomes.{has_barred}
+use Rattle.ps_text.proofs.Combinators.Simple.{laws_give, laws_mapped}
 use Rattle.ps_hoa.specs.Inner.Signs.{IsLeaf}
 use Rattle.ps_hoa.specs.Tokens.{Sign}
 use Rattle.ps_hoa.specs.Causes.{hoa_causes}
-use Rattle.ps_hoa.specs.Operands.{is_not, is_and, is_or, is_left, is_right, expect, before, closed, inner, single}
-use Rattle.ps_hoa.specs.Operands.{with_last, joined, further, operands, row, rows, InfixGrammar, holding, IsTooDeep}
-use Rattle.ps_hoa.specs.Operands.{operand}
-use Rattle.ps_hoa.specs.Header.{int, string}
-use Rattle.ps_hoa.specs.Labels as labels
-use Rattle.ps_hoa.specs.Labels.{ScopeData}
-use Rattle.ps_hoa.specs.Conditions as conditions
-use Rattle.ps_hoa.specs.Conditions.{visits, any_set, visit, atom}
+use Rattle.ps_hoa.specs.Grammar.Operands.{is_not, is_and, is_or, is_left, is_right, expect, before, closed, inner}
+use Rattle.ps_hoa.specs.Grammar.Operands.{single}
+use Rattle.ps_hoa.specs.Grammar.Operands.{with_last, joined, further, operands, row, rows, InfixGrammar, holding}
+use Rattle.ps_hoa.specs.Grammar.Operands.{IsTooDeep}
+use Rattle.ps_hoa.specs.Grammar.Operands.{operand}
+use Rattle.ps_hoa.specs.Grammar.Header.{int, string}
+use Rattle.ps_hoa.specs.Grammar.Labels as labels
+use Rattle.ps_hoa.specs.Grammar.Labels.{ScopeData}
+use Rattle.ps_hoa.specs.Grammar.Conditions as conditions
+use Rattle.ps_hoa.specs.Grammar.Conditions.{visits, any_set, visit, atom}
 use Rattle.ps_hoa.specs.declared.infix.Connective.{Connective}
 use Rattle.ps_hoa.specs.declared.infix.Connective.TheVariants as connectives
 use Rattle.ps_hoa.specs.declared.fault.HoaCause.{HoaCause}

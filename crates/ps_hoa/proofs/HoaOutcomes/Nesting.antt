@@ -6,13 +6,15 @@ use Rattle.std.proofs.Common.{◌≡◌, ◌↔◌, ◌⊎◌, ℕ, zero, suc, �
 use Rattle.std.proofs.Common.{inl, inr, ◌∙◌, arith}
 use Rattle.ps_label.specs.Expression.{Expression}
 use Rattle.ps_text.specs.Parts.{Part, times}
-use Rattle.ps_hoa.specs.Conditions.{Condition, grammar as condition_parts, operand as condition_operand, condition}
-use Rattle.ps_hoa.specs.Labels.{ScopeData, grammar, operand as label_operand, label}
-use Rattle.ps_hoa.specs.Nesting.{Grammar, IsOperand, atom, negated, in_parentheses, IsPart, operand as operand_part}
-use Rattle.ps_hoa.specs.Nesting.{conjunction, More, no_more, one_more, IsRow, row, label_grammar, IsLabel}
-use Rattle.ps_hoa.specs.Nesting.{condition_grammar, IsCondition, Within}
-use Rattle.ps_hoa.specs.Operands.{is_not, is_left, is_right, is_sign_of, inner, joined, further, between, rows}
-use Rattle.ps_hoa.specs.Operands.{InfixGrammar, operand as operand_of}
+use Rattle.ps_hoa.specs.Grammar.Conditions.{Condition, grammar as condition_parts, operand as condition_operand}
+use Rattle.ps_hoa.specs.Grammar.Conditions.{condition}
+use Rattle.ps_hoa.specs.Grammar.Labels.{ScopeData, grammar, operand as label_operand, label}
+use Rattle.ps_hoa.specs.Grammar.Nesting.{Grammar, IsOperand, atom, negated, in_parentheses, IsPart}
+use Rattle.ps_hoa.specs.Grammar.Nesting.{operand as operand_part}
+use Rattle.ps_hoa.specs.Grammar.Nesting.{conjunction, More, no_more, one_more, IsRow, row, label_grammar, IsLabel}
+use Rattle.ps_hoa.specs.Grammar.Nesting.{condition_grammar, IsCondition, Within}
+use Rattle.ps_hoa.specs.Grammar.Operands.{is_not, is_left, is_right, is_sign_of, inner, joined, further, between, rows}
+use Rattle.ps_hoa.specs.Grammar.Operands.{InfixGrammar, operand as operand_of}
 use Rattle.ps_hoa.specs.Tokens.{Sign}
 use Rattle.ps_hoa.specs.declared.infix.Connective.{Connective}
 use Rattle.ps_hoa.specs.declared.infix.Connective.TheVariants.{And, Or}

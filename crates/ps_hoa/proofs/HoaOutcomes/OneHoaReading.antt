@@ -7,8 +7,8 @@ use Rattle.std.proofs.Common.{subst, ◌∙◌, append_assoc, arith, rules}
 use Rattle.std.proofs.lemmas.List.{append_cancel_left}
 use Rattle.ps_text.specs.Answers.{Piece, Found, AreNumbered}
 use Rattle.ps_text.specs.Parts.{PartAnswers, IsWrong}
-use Rattle.ps_text.proofs.OneAnswer.{has_one_answer}
-use Rattle.ps_text.proofs.Splits.{same_split}
+use Rattle.ps_text.proofs.ParsedAnswers.OneAnswer.{has_one_answer}
+use Rattle.ps_text.proofs.Combinators.Splits.{same_split}
 use Rattle.ps_hoa.specs.Causes.{cause_number, hoa_causes}
 use Rattle.ps_hoa.specs.Files.{FileData}
 use Rattle.ps_hoa.specs.Scan.{fresh, scan_step}

@@ -9,7 +9,7 @@ use Rattle.std.specs.List.{prefix_len}
 use Rattle.std.specs.Str.{bytes_eq}
 use Rattle.std.proofs.lemmas.Bool.{cases_lt}
 use Rattle.ps_text.specs.Answers.{Stream, Found}
-use Rattle.ps_text.proofs.Outcomes.{some_answer}
+use Rattle.ps_text.proofs.ParsedAnswers.Outcomes.{some_answer}
 use Rattle.ps_hoa.specs.Files.{FileData}
 use Rattle.ps_hoa.specs.Scan.{IsNoBlank, scan_step, begins_with, fresh}
 use Rattle.ps_hoa.specs.Spans.{AreBlanks}

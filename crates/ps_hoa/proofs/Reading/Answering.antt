@@ -12,12 +12,12 @@ use Rattle.std.proofs.lemmas.Result.{err_from_is_err_and}
 use Rattle.ps_text.specs.Answers.{Piece, Stream, Found, signs}
 use Rattle.ps_text.specs.Parts.{PartAnswers, IsRead, refusal_of}
 use Rattle.ps_text.specs.Readers.{Stops, Reads as PartReads}
-use Rattle.ps_text.proofs.Exits.{reads_then, reads_mapped, stops_first, stops_behind, stops_mapped}
-use Rattle.ps_text.proofs.Whole.{answers_ok, answers_fault, answers_trailing}
+use Rattle.ps_text.proofs.ParsedAnswers.Exits.{reads_then, reads_mapped, stops_first, stops_behind, stops_mapped}
+use Rattle.ps_text.proofs.ParsedAnswers.Whole.{answers_ok, answers_fault, answers_trailing}
 use Rattle.ps_hoa.specs.Causes.{hoa_causes, found_of, HoaFault}
 use Rattle.ps_hoa.specs.Files.{FileData}
-use Rattle.ps_hoa.specs.Header.{HeaderData, header}
-use Rattle.ps_hoa.specs.Body.{BodyData, body}
+use Rattle.ps_hoa.specs.Grammar.Header.{HeaderData, header}
+use Rattle.ps_hoa.specs.Grammar.Body.{BodyData, body}
 use Rattle.ps_hoa.specs.Scan.{next_of}
 use Rattle.ps_hoa.specs.Texts.{file_of, file, ReadsFile, IsRefusedAs, IsFaultOf, IsFileAnswer}
 use Rattle.ps_hoa.specs.Tokens.{Sign}

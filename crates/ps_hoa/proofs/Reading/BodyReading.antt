@@ -14,13 +14,14 @@ use Rattle.std.proofs.lemmas.List.{map-append}
 use Rattle.ps_text.specs.Answers.{Piece, Stream, next_of as there_of}
 use Rattle.ps_text.specs.Parts.{give, one, barred}
 use Rattle.ps_text.specs.Readers.{Reads, Stops}
-use Rattle.ps_text.proofs.Covered.{Enters}
-use Rattle.ps_text.proofs.Branches.{left_entered, left_otherwise, right_otherwise}
-use Rattle.ps_text.proofs.Barred.{reads_barred, stops_barred, stops_bar}
+use Rattle.ps_text.proofs.Combinators.Covered.{Enters}
+use Rattle.ps_text.proofs.ParsedAnswers.Branches.{left_entered, left_otherwise, right_otherwise}
+use Rattle.ps_text.proofs.Combinators.Barred.{reads_barred, stops_barred, stops_bar}
 use Rattle.ps_hoa.specs.Tokens.{Sign}
 use Rattle.ps_hoa.specs.Causes.{HoaFault, hoa_causes, found_of}
-use Rattle.ps_hoa.specs.Header.{HeaderData, int_in, int_value, IsAlternating}
-use Rattle.ps_hoa.specs.Body.{BadIn, IsBadBracket, is_bracket, sets_of, sets, marks, labelled_edge, plain_edge, edge}
+use Rattle.ps_hoa.specs.Grammar.Header.{HeaderData, int_in, int_value, IsAlternating}
+use Rattle.ps_hoa.specs.Grammar.Body.{BadIn, IsBadBracket, is_bracket, sets_of, sets, marks, labelled_edge, plain_edge}
+use Rattle.ps_hoa.specs.Grammar.Body.{edge}
 use Rattle.ps_hoa.specs.Files.{RowData}
 use Rattle.ps_hoa.specs.Inner.Ahead.{begins_edge, StandsAlone}
 use Rattle.ps_hoa.specs.Inner.Reads.{Takes}

@@ -5,7 +5,7 @@ use Rattle.std.specs.declared.alloc.Global.{Global}
 use Rattle.ps_hoa.specs.declared.condition.Cond.{Cond, All, Any, Row_of-Cond, end_of-Cond, more_of-Cond}
 use Rattle.ps_hoa.specs.declared.condition.Cond.{items-the_row-Cond, items_hidden-the_row-Cond-0}
 use Rattle.ps_hoa.specs.declared.condition.Cond.TheBlock.{hidden-the_row-Cond-0}
-use Rattle.ps_hoa.specs.Conditions.{more, all_hold, any_holds, operands_in}
+use Rattle.ps_hoa.specs.Grammar.Conditions.{more, all_hold, any_holds, operands_in}
 use Rattle.ps_hoa.specs.Values.{condition_of, conditions_of}
 
 conditions_of-items : {n : _} (k : Row_of-Cond n) →

@@ -12,11 +12,12 @@ use Rattle.std.proofs.Common.{inl, rules}
 use Rattle.ps_text.specs.Answers.{Stream, next_of as there_of}
 use Rattle.ps_text.specs.Parts.{Part, one, then_by, either}
 use Rattle.ps_text.specs.Readers.{Reads}
-use Rattle.ps_text.proofs.Laws.{Laws, Joint, Apart}
-use Rattle.ps_text.proofs.Covered.{Enters, Avoids, enters_one}
-use Rattle.ps_text.proofs.Exits.{reads_then, reads_mapped}
-use Rattle.ps_hoa.specs.Body.{is_left_brace, is_right_brace, is_left_bracket, is_right_bracket}
-use Rattle.ps_hoa.specs.Operands.{is_not, is_and, is_or, is_left, is_right, expect_in, expect, inner, before, closed}
+use Rattle.ps_text.proofs.Combinators.Laws.{Laws, Joint, Apart}
+use Rattle.ps_text.proofs.Combinators.Covered.{Enters, Avoids, enters_one}
+use Rattle.ps_text.proofs.ParsedAnswers.Exits.{reads_then, reads_mapped}
+use Rattle.ps_hoa.specs.Grammar.Body.{is_left_brace, is_right_brace, is_left_bracket, is_right_bracket}
+use Rattle.ps_hoa.specs.Grammar.Operands.{is_not, is_and, is_or, is_left, is_right, expect_in, expect, inner, before}
+use Rattle.ps_hoa.specs.Grammar.Operands.{closed}
 use Rattle.ps_hoa.specs.Scan.{next_of, behind_next}
 use Rattle.ps_hoa.specs.Tokens.{Sign}
 use Rattle.ps_hoa.specs.declared.fault.HoaCause.{HoaCause}

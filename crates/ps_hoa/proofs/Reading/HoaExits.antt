@@ -20,10 +20,12 @@ use Rattle.std.proofs.Common.{arith, ◌≡◌, ◌<◌, length, Option, Result,
 use Rattle.ps_text.specs.Answers.{Stream, Found, next_of as there_of}
 use Rattle.ps_text.specs.Parts.{Part, then_by, mapped, many}
 use Rattle.ps_text.specs.Readers.{Stops, Reads, Meets, Carries}
-use Rattle.ps_text.proofs.Laws.{Laws, Joint, Apart}
-use Rattle.ps_text.proofs.Covered.{Enters, Avoids, enters_then}
-use Rattle.ps_text.proofs.Exits.{exits, stops_mapped, stops_first, stops_behind, carries_reads, carries_stops}
-use Rattle.ps_text.proofs.Branches.{Stands, reads_as, stops_as_well, many_ends, many_fails, carries_many, reads_shrinks}
+use Rattle.ps_text.proofs.Combinators.Laws.{Laws, Joint, Apart}
+use Rattle.ps_text.proofs.Combinators.Covered.{Enters, Avoids, enters_then}
+use Rattle.ps_text.proofs.ParsedAnswers.Exits.{exits, stops_mapped, stops_first, stops_behind, carries_reads}
+use Rattle.ps_text.proofs.ParsedAnswers.Exits.{carries_stops}
+use Rattle.ps_text.proofs.ParsedAnswers.Branches.{Stands, reads_as, stops_as_well, many_ends, many_fails, carries_many}
+use Rattle.ps_text.proofs.ParsedAnswers.Branches.{reads_shrinks}
 use Rattle.ps_hoa.specs.Causes.{HoaFault, found_of, hoa_causes}
 use Rattle.ps_hoa.specs.Tokens.{Sign}
 use Rattle.ps_hoa.specs.declared.fault.HoaCause.{HoaCause}

@@ -10,15 +10,15 @@ use Rattle.std.proofs.Common.{option_map, sym, ap, subst, ◌∙◌, arith, rule
 use Rattle.ps_text.specs.Answers.{Stream, Piece, Found, next_of as there_of, offset_of}
 use Rattle.ps_text.specs.Parts.{Part, either, mapped}
 use Rattle.ps_text.specs.Readers.{Stops, Reads}
-use Rattle.ps_text.proofs.Barred.{reads_barred, stops_bar}
-use Rattle.ps_text.proofs.Laws.{Laws, Joint, Nothing}
-use Rattle.ps_text.proofs.Simple.{laws_give, laws_mapped}
-use Rattle.ps_text.proofs.Exits.{reads_give, reads_then, reads_mapped, stops_first, stops_behind}
-use Rattle.ps_text.proofs.Branches.{left_otherwise, right_otherwise}
+use Rattle.ps_text.proofs.Combinators.Barred.{reads_barred, stops_bar}
+use Rattle.ps_text.proofs.Combinators.Laws.{Laws, Joint, Nothing}
+use Rattle.ps_text.proofs.Combinators.Simple.{laws_give, laws_mapped}
+use Rattle.ps_text.proofs.ParsedAnswers.Exits.{reads_give, reads_then, reads_mapped, stops_first, stops_behind}
+use Rattle.ps_text.proofs.ParsedAnswers.Branches.{left_otherwise, right_otherwise}
 use Rattle.ps_hoa.specs.Causes.{hoa_causes}
 use Rattle.ps_hoa.specs.Inner.Signs.{is_single, IsLeaf}
-use Rattle.ps_hoa.specs.Operands.{is_not, is_right, expect, inner, kind_of, is_sign_of, between, rows}
-use Rattle.ps_hoa.specs.Operands.{InfixGrammar, holds, IsTooDeep, bar, negation, holding, operand}
+use Rattle.ps_hoa.specs.Grammar.Operands.{is_not, is_right, expect, inner, kind_of, is_sign_of, between, rows}
+use Rattle.ps_hoa.specs.Grammar.Operands.{InfixGrammar, holds, IsTooDeep, bar, negation, holding, operand}
 use Rattle.ps_hoa.specs.Scan.{next_of, behind_next}
 use Rattle.ps_hoa.specs.Tokens.{Sign}
 use Rattle.ps_hoa.specs.declared.infix.Connective.{Connective}

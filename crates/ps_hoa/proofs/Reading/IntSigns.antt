@@ -9,11 +9,11 @@ use Rattle.std.proofs.Common.{◌≡◌, ℕ, ◌≤◌, ◌⊎◌, Option, None
 use Rattle.std.proofs.Common.{◌∙◌, arith, false, rules}
 use Rattle.std.proofs.lemmas.Result.{err_from_is_err_and}
 use Rattle.ps_text.specs.Answers.{Piece}
-use Rattle.ps_text.proofs.Simple.{none_is_some, same_some}
+use Rattle.ps_text.proofs.Combinators.Simple.{none_is_some, same_some}
 use Rattle.ps_hoa.specs.Tokens.{Sign}
 use Rattle.ps_hoa.specs.Causes.{cause_number, HoaFault}
-use Rattle.ps_hoa.specs.Header.{HeaderData, int_in}
-use Rattle.ps_hoa.specs.Body.{BodyData, BadIn, IsBadRow, has_row}
+use Rattle.ps_hoa.specs.Grammar.Header.{HeaderData, int_in}
+use Rattle.ps_hoa.specs.Grammar.Body.{BodyData, BadIn, IsBadRow, has_row}
 use Rattle.ps_hoa.specs.Inner.Reads.{Takes, IsTaken, IsWorst, IsRefusal}
 use Rattle.ps_hoa.specs.declared.fault.HoaCause.{HoaCause}
 use Rattle.ps_hoa.specs.declared.fault.HoaCause.TheVariants.{StateTwice}

@@ -8,15 +8,16 @@ use Rattle.std.proofs.Common.{◌≡◌, Bool, true, false, [], codes, None, Som
 use Rattle.ps_text.specs.Answers.{Stream, signs, next_of as there_of}
 use Rattle.ps_text.specs.Parts.{NoBad, one, then_by}
 use Rattle.ps_text.specs.Readers.{Reads, Meets}
-use Rattle.ps_text.proofs.Laws.{Joint}
-use Rattle.ps_text.proofs.Covered.{enters_read}
-use Rattle.ps_text.proofs.Exits.{reads_then, reads_mapped, then_meets}
-use Rattle.ps_text.proofs.Branches.{left_entered, right_entered}
+use Rattle.ps_text.proofs.Combinators.Laws.{Joint}
+use Rattle.ps_text.proofs.Combinators.Covered.{enters_read}
+use Rattle.ps_text.proofs.ParsedAnswers.Exits.{reads_then, reads_mapped, then_meets}
+use Rattle.ps_text.proofs.ParsedAnswers.Branches.{left_entered, right_entered}
 use Rattle.ps_hoa.specs.Causes.{HoaFault, hoa_causes, found_of}
-use Rattle.ps_hoa.specs.Conditions.{SetData, constant_in, often_in, visits, set_in, BadSet, set, any_set, closed_set}
-use Rattle.ps_hoa.specs.Conditions.{often_or_not, visit, atom}
-use Rattle.ps_hoa.specs.Labels.{ScopeData, leaf_in, BadLeaf}
-use Rattle.ps_hoa.specs.Operands.{is_not, is_left, is_right, expect, before}
+use Rattle.ps_hoa.specs.Grammar.Conditions.{SetData, constant_in, often_in, visits, set_in, BadSet, set, any_set}
+use Rattle.ps_hoa.specs.Grammar.Conditions.{closed_set}
+use Rattle.ps_hoa.specs.Grammar.Conditions.{often_or_not, visit, atom}
+use Rattle.ps_hoa.specs.Grammar.Labels.{ScopeData, leaf_in, BadLeaf}
+use Rattle.ps_hoa.specs.Grammar.Operands.{is_not, is_left, is_right, expect, before}
 use Rattle.ps_hoa.specs.Scan.{next_of, behind_next}
 use Rattle.ps_hoa.specs.Tokens.{Sign}
 use Rattle.ps_hoa.specs.declared.fault.HoaCause.{HoaCause}

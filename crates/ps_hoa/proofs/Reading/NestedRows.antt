@@ -1,9 +1,9 @@
 -- Rows of operands with a connective between them, in the grammar that is built from combinators. The lemmas serve to
--- show that this grammar equals the one that specs/Nesting defines by relations.
+-- show that this grammar equals the one that specs/Grammar/Nesting defines by relations.
 use Rattle.std.proofs.Common.{rules, arith, ◌≡◌, ℕ, zero, suc, Bool, true, cond, List, [], ◌∷◌, ◌++◌, None, Some, refl}
 use Rattle.std.proofs.Common.{sym, ap, subst, ◌∙◌, append_assoc, append-nil}
 use Rattle.ps_text.specs.Parts.{Part, times}
-use Rattle.ps_hoa.specs.Operands.{expect_in, single, with_last, joined, further, row}
+use Rattle.ps_hoa.specs.Grammar.Operands.{expect_in, single, with_last, joined, further, row}
 use Rattle.ps_hoa.specs.Tokens.{Sign}
 use Rattle.ps_hoa.specs.declared.fault.HoaCause.{HoaCause}
 use Rattle.ps_hoa.specs.declared.tokens.Kind.{Kind}

@@ -5,9 +5,9 @@ use Rattle.std.specs.List.{position_or_len}
 use Rattle.std.specs.Str.{bytes_eq}
 use Rattle.std.proofs.lemmas.Bool.{le-ltb, lt-ltb}
 use Rattle.ps_hoa.specs.Causes.{cause_number}
-use Rattle.ps_hoa.specs.Header.{is_name_among, alias_limit, IsBadAlias}
+use Rattle.ps_hoa.specs.Grammar.Header.{is_name_among, alias_limit, IsBadAlias}
 use Rattle.ps_hoa.specs.Inner.Items.{alias_name_in}
-use Rattle.ps_hoa.specs.Labels.{alias_number}
+use Rattle.ps_hoa.specs.Grammar.Labels.{alias_number}
 use Rattle.ps_hoa.specs.Inner.Reads.{IsTaken}
 use Rattle.ps_hoa.specs.declared.fault.HoaCause.{HoaCause}
 use Rattle.ps_hoa.specs.declared.fault.HoaCause.TheVariants.{Alias}
@@ -15,7 +15,7 @@ use Rattle.ps_hoa.specs.Tokens.{Sign}
 use Rattle.ps_hoa.specs.declared.tokens.Kind.{Kind}
 use Rattle.ps_hoa.specs.declared.tokens.Kind.TheVariants.{AliasName}
 use Rattle.ps_hoa.proofs.Grammar.HeaderSigns.{least_same}
-use Rattle.ps_hoa.proofs.NameLemmas.{bytes_eq-sym}
+use Rattle.ps_hoa.proofs.Reading.NameLemmas.{bytes_eq-sym}
 use Rattle.ps_hoa.proofs.Grammar.OperandLaws.{false_true}
 
 module _ (text : List ℕ) where

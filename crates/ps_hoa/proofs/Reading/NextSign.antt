@@ -4,7 +4,7 @@
 -- - `start_there`: an error at the next token is reported at the offset of this token
 use Rattle.std.proofs.Common.{arith, ◌≡◌, Some}
 use Rattle.ps_text.specs.Answers.{Stream, next_of as next_sign, offset_of}
-use Rattle.ps_text.proofs.Simple.{none_is_some, same_some}
+use Rattle.ps_text.proofs.Combinators.Simple.{none_is_some, same_some}
 use Rattle.ps_hoa.specs.Scan.{next_of}
 use Rattle.ps_hoa.specs.Tokens.{Sign}
 use Rattle.ps_hoa.specs.declared.tokens.Kind.TheVariants.{Finish}

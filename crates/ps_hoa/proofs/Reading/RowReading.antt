@@ -10,10 +10,10 @@ use Rattle.std.proofs.Common.{arith, length-append, rules}
 use Rattle.ps_text.specs.Answers.{Stream}
 use Rattle.ps_text.specs.Parts.{Part, many}
 use Rattle.ps_text.specs.Readers.{Reads, Carries}
-use Rattle.ps_text.proofs.Laws.{Laws, Nothing, Apart}
-use Rattle.ps_text.proofs.Branches.{reads_shrinks}
+use Rattle.ps_text.proofs.Combinators.Laws.{Laws, Nothing, Apart}
+use Rattle.ps_text.proofs.ParsedAnswers.Branches.{reads_shrinks}
 use Rattle.ps_hoa.specs.Causes.{hoa_causes}
-use Rattle.ps_hoa.specs.Operands.{expect, single, with_last, joined, further, operands, row}
+use Rattle.ps_hoa.specs.Grammar.Operands.{expect, single, with_last, joined, further, operands, row}
 use Rattle.ps_hoa.specs.Scan.{next_of, behind_next}
 use Rattle.ps_hoa.specs.Tokens.{Sign}
 use Rattle.ps_hoa.specs.declared.infix.Connective.{Connective}

@@ -9,7 +9,7 @@ use Rattle.std.specs.List.{slice_get}
 use Rattle.std.specs.Option.{is_some}
 use Rattle.std.specs.Prelude.{nat_eq}
 use Rattle.std.proofs.lemmas.Bool.{eqb-true, eq-eqb, cases_eq}
-use Rattle.ps_hoa.specs.Body.{has_row}
+use Rattle.ps_hoa.specs.Grammar.Body.{has_row}
 use Rattle.ps_hoa.specs.Edges.{row_among}
 use Rattle.ps_hoa.specs.Files.{RowData}
 use Rattle.ps_hoa.specs.Inner.RowPlaces.{one_further, row_place}

@@ -5,8 +5,8 @@ use Rattle.std.proofs.Common.{◌∙◌, ap, inl, inr}
 use Rattle.ps_text.specs.Answers.{Piece, Stream}
 use Rattle.ps_text.specs.Parts.{one}
 use Rattle.ps_text.specs.Readers.{Meets}
-use Rattle.ps_text.proofs.Simple.{none_is_some, same_some}
-use Rattle.ps_text.proofs.MeetsLemmas.{meets_next, meets_bad_next, meets_refusal}
+use Rattle.ps_text.proofs.Combinators.Simple.{none_is_some, same_some}
+use Rattle.ps_text.proofs.ParsedAnswers.MeetsLemmas.{meets_next, meets_bad_next, meets_refusal}
 use Rattle.ps_hoa.specs.Causes.{hoa_causes, found_of, HoaFault}
 use Rattle.ps_hoa.specs.Inner.Reads.{Takes, IsWorst, IsRefusal}
 use Rattle.ps_hoa.specs.Scan.{next_of, behind_next}

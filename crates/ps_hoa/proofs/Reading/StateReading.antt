@@ -10,14 +10,15 @@ use Rattle.std.proofs.Common.{arith, ◌≡◌, true, false, List, [], Option, N
 use Rattle.std.specs.Prelude.{codes, ℕ}
 use Rattle.ps_text.specs.Answers.{Stream, next_of as there_of}
 use Rattle.ps_text.specs.Parts.{NoBad, give, then_by, mapped}
-use Rattle.ps_text.proofs.Covered.{Avoids, Enters, enters_mapped}
-use Rattle.ps_text.proofs.Branches.{left_entered, right_otherwise}
+use Rattle.ps_text.proofs.Combinators.Covered.{Avoids, Enters, enters_mapped}
+use Rattle.ps_text.proofs.ParsedAnswers.Branches.{left_entered, right_otherwise}
 use Rattle.ps_hoa.specs.Tokens.{Sign}
 use Rattle.ps_hoa.specs.Files.{RowData}
-use Rattle.ps_hoa.specs.Header.{HeaderData, string_value, string_in, string}
-use Rattle.ps_hoa.specs.Operands.{expect_in, expect}
-use Rattle.ps_hoa.specs.Body.{BodyData, is_left_bracket, label_in_brackets, state_label, edges, edge, set_number}
-use Rattle.ps_hoa.specs.Body.{state_value, IsBadNext, state, is_end, IsBadClose, nothing_of, state_name}
+use Rattle.ps_hoa.specs.Grammar.Header.{HeaderData, string_value, string_in, string}
+use Rattle.ps_hoa.specs.Grammar.Operands.{expect_in, expect}
+use Rattle.ps_hoa.specs.Grammar.Body.{BodyData, is_left_bracket, label_in_brackets, state_label, edges, edge}
+use Rattle.ps_hoa.specs.Grammar.Body.{set_number}
+use Rattle.ps_hoa.specs.Grammar.Body.{state_value, IsBadNext, state, is_end, IsBadClose, nothing_of, state_name}
 use Rattle.ps_hoa.specs.Inner.Ahead.{begins_edge}
 use Rattle.ps_hoa.specs.Scan.{next_of}
 use Rattle.ps_hoa.proofs.Grammar.ConditionLaws.{is_int}

@@ -12,18 +12,19 @@ use Rattle.std.specs.Str.{bytes_eq}
 use Rattle.std.proofs.lemmas.Bool.{false_from_ne_true}
 use Rattle.ps_label.specs.Expression.{Expression}
 use Rattle.ps_text.specs.Parts.{one, times}
-use Rattle.ps_text.proofs.Simple.{none_is_some}
-use Rattle.ps_hoa.specs.Body.{BadIn}
-use Rattle.ps_hoa.specs.Header.{HeaderData, names_of, state_limit, proposition_limit, alias_limit, set_limit, int_in}
-use Rattle.ps_hoa.specs.Header.{int}
-use Rattle.ps_hoa.specs.Header.{is_name_among, string_in, IsBadName, with_name, proposition_name, alias_value}
-use Rattle.ps_hoa.specs.Header.{IsBadAlias}
-use Rattle.ps_hoa.specs.Header.{is_empty, has_control}
+use Rattle.ps_text.proofs.Combinators.Simple.{none_is_some}
+use Rattle.ps_hoa.specs.Grammar.Body.{BadIn}
+use Rattle.ps_hoa.specs.Grammar.Header.{HeaderData, names_of, state_limit, proposition_limit, alias_limit, set_limit}
+use Rattle.ps_hoa.specs.Grammar.Header.{int_in}
+use Rattle.ps_hoa.specs.Grammar.Header.{int}
+use Rattle.ps_hoa.specs.Grammar.Header.{is_name_among, string_in, IsBadName, with_name, proposition_name, alias_value}
+use Rattle.ps_hoa.specs.Grammar.Header.{IsBadAlias}
+use Rattle.ps_hoa.specs.Grammar.Header.{is_empty, has_control}
 use Rattle.ps_hoa.specs.Sound.{AreDifferent, AreNames}
 use Rattle.ps_hoa.specs.Tokens.{Sign}
 use Rattle.ps_hoa.specs.declared.fault.HoaCause.{HoaCause}
 use Rattle.ps_hoa.specs.declared.fault.HoaCause.TheVariants as causes
-use Rattle.ps_hoa.proofs.NameLemmas.{bytes_eq-sym}
+use Rattle.ps_hoa.proofs.Reading.NameLemmas.{bytes_eq-sym}
 use Rattle.ps_hoa.proofs.Soundness.Differences.{neither}
 use Rattle.ps_hoa.proofs.Soundness.KeptByParts.{Keeps, keeps_less, keeps_give, keeps_one, keeps_then, keeps_mapped}
 use Rattle.ps_hoa.proofs.Soundness.SoundLabels.{NamesBelow, below}

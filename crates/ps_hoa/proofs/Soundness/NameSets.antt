@@ -4,7 +4,7 @@
 use Rattle.std.proofs.Common.{◌≡◌, ℕ, suc, ◌-◌, ◌||◌, Bool, true, cond, List, [], ◌∷◌, length, take, refl, ap, ◌∙◌}
 use Rattle.std.proofs.Common.{arith, rules}
 use Rattle.std.specs.List.{slice_range}
-use Rattle.ps_hoa.specs.Header.{without_last}
+use Rattle.ps_hoa.specs.Grammar.Header.{without_last}
 use Rattle.ps_hoa.specs.Inner.Signs.{inside}
 
 pub or_cond : (b r : Bool) → (b || r) ≡ cond b true r

@@ -5,7 +5,7 @@ use Rattle.std.proofs.Common.{◌≡◌, ℕ, false, List, [], ◌∷◌, refl, 
 use Rattle.std.specs.Prelude.{nat_eq}
 use Rattle.std.proofs.lemmas.Bool.{cond_both, eqb-true, eqb-false, false_from_ne_true}
 use Rattle.ps_hoa.specs.Files.{is_among}
-use Rattle.ps_hoa.specs.Header.{slot_of, has_place, kept}
+use Rattle.ps_hoa.specs.Grammar.Header.{slot_of, has_place, kept}
 use Rattle.ps_hoa.specs.Sound.{AreDifferent}
 use Rattle.ps_hoa.proofs.Soundness.Differences.{neither, different_push}
 

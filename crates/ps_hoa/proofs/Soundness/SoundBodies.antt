@@ -11,23 +11,27 @@ use Rattle.ps_label.specs.Expression.{Expression}
 use Rattle.ps_text.specs.Answers.{Stream}
 use Rattle.ps_text.specs.Parts.{one}
 use Rattle.ps_text.specs.Readers.{Reads}
-use Rattle.ps_text.proofs.Simple.{none_is_some}
-use Rattle.ps_hoa.specs.Body.{edge_limit, BodyData, no_rows, IsBadState, IsBadSet, BadIn, sets_of, is_left_brace}
-use Rattle.ps_hoa.specs.Body.{is_right_brace, set_number, marks, is_left_bracket, body_scope, label_in_brackets}
-use Rattle.ps_hoa.specs.Body.{state_label, first_labelling, labelling, MayHaveNoLabel, MayHaveLabel, IsBadBracket}
-use Rattle.ps_hoa.specs.Body.{is_bracket, IsBadPlainTarget, guard_of, row_with_edge, labelled_edge, plain_edge, edge}
-use Rattle.ps_hoa.specs.Body.{edges}
-use Rattle.ps_hoa.specs.Body.{IsWrongCount, last_row, has_row, IsBadRow, state_name, empty_row, with_row, state_value}
-use Rattle.ps_hoa.specs.Body.{IsBadNext, state_begins, state, is_end, IsBadClose, ended, body}
+use Rattle.ps_text.proofs.Combinators.Simple.{none_is_some}
+use Rattle.ps_hoa.specs.Grammar.Body.{edge_limit, BodyData, no_rows, IsBadState, IsBadSet, BadIn, sets_of}
+use Rattle.ps_hoa.specs.Grammar.Body.{is_left_brace}
+use Rattle.ps_hoa.specs.Grammar.Body.{is_right_brace, set_number, marks, is_left_bracket, body_scope, label_in_brackets}
+use Rattle.ps_hoa.specs.Grammar.Body.{state_label, first_labelling, labelling, MayHaveNoLabel, MayHaveLabel}
+use Rattle.ps_hoa.specs.Grammar.Body.{IsBadBracket}
+use Rattle.ps_hoa.specs.Grammar.Body.{is_bracket, IsBadPlainTarget, guard_of, row_with_edge, labelled_edge, plain_edge}
+use Rattle.ps_hoa.specs.Grammar.Body.{edge}
+use Rattle.ps_hoa.specs.Grammar.Body.{edges}
+use Rattle.ps_hoa.specs.Grammar.Body.{IsWrongCount, last_row, has_row, IsBadRow, state_name, empty_row, with_row}
+use Rattle.ps_hoa.specs.Grammar.Body.{state_value}
+use Rattle.ps_hoa.specs.Grammar.Body.{IsBadNext, state_begins, state, is_end, IsBadClose, ended, body}
 use Rattle.ps_hoa.specs.Files.{GuardData, EdgeData, RowData, stated, of_state, at_letter, once}
-use Rattle.ps_hoa.specs.Header.{HeaderData, int_in, state_limit, IsAlternating}
-use Rattle.ps_hoa.specs.Labels.{label}
-use Rattle.ps_hoa.specs.Operands.{nesting_limit, expect_in, expect}
+use Rattle.ps_hoa.specs.Grammar.Header.{HeaderData, int_in, state_limit, IsAlternating}
+use Rattle.ps_hoa.specs.Grammar.Labels.{label}
+use Rattle.ps_hoa.specs.Grammar.Operands.{nesting_limit, expect_in, expect}
 use Rattle.ps_hoa.specs.Tokens.{Sign}
 use Rattle.ps_hoa.specs.Sound.{AreDifferent, IsStated, IsOfState, AreAtLetters, AreRowsOnce, edges_of}
 use Rattle.ps_hoa.proofs.Soundness.Differences.{neither, nat_eq_not, all_once, different_once}
-use Rattle.ps_hoa.specs.declared.edges.Labelling.{Labelling}
-use Rattle.ps_hoa.specs.declared.edges.Labelling.TheVariants.{ByState, ByEdge, ByPlace}
+use Rattle.ps_hoa.specs.declared.body.edges.Labelling.{Labelling}
+use Rattle.ps_hoa.specs.declared.body.edges.Labelling.TheVariants.{ByState, ByEdge, ByPlace}
 use Rattle.ps_hoa.specs.declared.fault.HoaCause.{HoaCause}
 use Rattle.ps_hoa.specs.declared.fault.HoaCause.TheVariants as causes
 use Rattle.ps_hoa.specs.declared.tokens.Kind.TheVariants.{LeftBracket}

@@ -7,19 +7,20 @@ use Rattle.std.proofs.lemmas.Bool.Decides.{eqb_tells}
 use Rattle.ps_label.specs.Expression.{Expression}
 use Rattle.ps_text.specs.Answers.{signs}
 use Rattle.ps_text.specs.Parts.{by_part}
-use Rattle.ps_hoa.specs.Body.{BodyData, body}
-use Rattle.ps_hoa.specs.Conditions.{Condition, Conditions}
-use Rattle.ps_hoa.specs.Conditions as conditions
+use Rattle.ps_hoa.specs.Grammar.Body.{BodyData, body}
+use Rattle.ps_hoa.specs.Grammar.Conditions.{Condition, Conditions}
+use Rattle.ps_hoa.specs.Grammar.Conditions as conditions
 use Rattle.ps_hoa.specs.Files.{GuardData, EdgeData, RowData, FileData, greatest_target, greatest_state, count_of_states}
-use Rattle.ps_hoa.specs.Header.{HeaderData, AcceptanceData, names_of, state_limit, set_limit, IsStartBeyond}
-use Rattle.ps_hoa.specs.Header.{IsStartTooLarge, IsConditionBeyond, IsControlBeyond, AnIndexBeyond, NamesSetBeyond}
-use Rattle.ps_hoa.specs.Header.{SomeNamesSetBeyond, start_too_large, no_start, out_of_range}
+use Rattle.ps_hoa.specs.Grammar.Header.{HeaderData, AcceptanceData, names_of, state_limit, set_limit, IsStartBeyond}
+use Rattle.ps_hoa.specs.Grammar.Header.{IsStartTooLarge, IsConditionBeyond, IsControlBeyond, AnIndexBeyond}
+use Rattle.ps_hoa.specs.Grammar.Header.{NamesSetBeyond}
+use Rattle.ps_hoa.specs.Grammar.Header.{SomeNamesSetBeyond, start_too_large, no_start, out_of_range}
 use Rattle.ps_hoa.specs.Sound.{AreDifferent, IsCondition, AreConditions, AreLabelled, IsLabelOf, IsGuard, AreBelow}
 use Rattle.ps_hoa.specs.Sound.{IsSoundEdge, IsSoundRow, IsSoundFile}
 use Rattle.ps_hoa.specs.Texts.{file_of, file, ReadsFile, by_tokens}
 use Rattle.ps_hoa.specs.Tokens.{in_context}
 use Rattle.ps_hoa.specs.Scan.{fresh}
-use Rattle.ps_hoa.specs.declared.edges.Labelling.TheVariants.{ByPlace}
+use Rattle.ps_hoa.specs.declared.body.edges.Labelling.TheVariants.{ByPlace}
 use Rattle.ps_hoa.specs.declared.fault.HoaCause.TheVariants as causes
 use Rattle.ps_hoa.proofs.Soundness.KeptByParts.{Keeps, keeps_then, keeps_mapped}
 use Rattle.ps_hoa.proofs.Soundness.SoundBodies.{AreSets, IsStateOf, IsScoped, IsGuardKept, IsEdgeKept, IsRowKept}

@@ -3,15 +3,15 @@
 -- - `sound_aliases`: each alias of the header uses only earlier aliases and propositions that exist
 use Rattle.std.proofs.Common.{◌≡◌, ℕ, ◌+◌, List, [], ◌∷◌, length, Some, refl, inl, inr, arith, rules}
 use Rattle.ps_label.specs.Expression.{Expression}
-use Rattle.ps_text.proofs.Simple.{none_is_some, same_some}
-use Rattle.ps_hoa.specs.Header.{HeaderData, no_items, names_of, item_name, item, AnAliasBeyond, IsBadHeader}
-use Rattle.ps_hoa.specs.Header.{out_of_range, body_value, IsBadBody, body_token, header}
+use Rattle.ps_text.proofs.Combinators.Simple.{none_is_some, same_some}
+use Rattle.ps_hoa.specs.Grammar.Header.{HeaderData, no_items, names_of, item_name, item, AnAliasBeyond, IsBadHeader}
+use Rattle.ps_hoa.specs.Grammar.Header.{out_of_range, body_value, IsBadBody, body_token, header}
 use Rattle.ps_label.specs.Expression.{AreOverFrom}
 use Rattle.ps_hoa.specs.declared.fault.HoaCause.{HoaCause}
 use Rattle.ps_hoa.specs.declared.fault.HoaCause.TheVariants as causes
 use Rattle.ps_hoa.specs.declared.tokens.Kind.{Kind}
 use Rattle.ps_hoa.specs.declared.tokens.Kind.TheVariants.{Body}
-use Rattle.ps_hoa.proofs.ItemForms.{form}
+use Rattle.ps_hoa.proofs.Grammar.ItemForms.{form}
 use Rattle.ps_hoa.proofs.Soundness.HeaderKept.{Kept, NamesRise}
 use Rattle.ps_hoa.proofs.Soundness.KeptByParts.{Keeps, keeps_one, keeps_then, keeps_behind, keeps_many}
 use Rattle.ps_hoa.proofs.Soundness.SoundLabels.{label_from}

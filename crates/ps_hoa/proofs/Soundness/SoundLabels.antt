@@ -10,12 +10,13 @@ use Rattle.ps_label.specs.Expression.{Expression, constant, proposition, alias, 
 use Rattle.ps_label.specs.Expression.{more, operands_in, IsOver, AreOver}
 use Rattle.ps_text.specs.Digits.{decimal_value}
 use Rattle.ps_text.specs.Parts.{Part}
-use Rattle.ps_text.proofs.Simple.{none_is_some, same_some}
-use Rattle.ps_hoa.specs.Header.{SpeaksBeyond, SomeSpeaksBeyond}
-use Rattle.ps_hoa.specs.Labels.{ScopeData, leaf_value, leaf_in, IsBeyond, IsBadLeaf, BadLeaf, leaf, together, operand}
-use Rattle.ps_hoa.specs.Labels.{label}
-use Rattle.ps_hoa.specs.Operands.{is_not, is_left, expect, single, joined, further, operands, row, rows}
-use Rattle.ps_hoa.specs.Operands.{bar, operand as operand_of}
+use Rattle.ps_text.proofs.Combinators.Simple.{none_is_some, same_some}
+use Rattle.ps_hoa.specs.Grammar.Header.{SpeaksBeyond, SomeSpeaksBeyond}
+use Rattle.ps_hoa.specs.Grammar.Labels.{ScopeData, leaf_value, leaf_in, IsBeyond, IsBadLeaf, BadLeaf, leaf, together}
+use Rattle.ps_hoa.specs.Grammar.Labels.{operand}
+use Rattle.ps_hoa.specs.Grammar.Labels.{label}
+use Rattle.ps_hoa.specs.Grammar.Operands.{is_not, is_left, expect, single, joined, further, operands, row, rows}
+use Rattle.ps_hoa.specs.Grammar.Operands.{bar, operand as operand_of}
 use Rattle.ps_hoa.specs.Tokens.{Sign}
 use Rattle.ps_hoa.specs.declared.infix.Connective.{Connective}
 use Rattle.ps_hoa.specs.declared.infix.Connective.TheVariants as connectives

@@ -8,7 +8,7 @@ use Rattle.std.specs.List.{All, AllByRecursion, slice_get}
 use Rattle.std.proofs.lemmas.Bool.Decides.{eqb_tells}
 use Rattle.ps_label.specs.Expression.{Expression, constant, proposition, alias, not_of, all_of, any_of, Operands, last}
 use Rattle.ps_label.specs.Expression.{more, IsOver, AreOver, AreOverFrom, AreOrdered}
-use Rattle.ps_text.proofs.Simple.{none_is_some, same_some}
+use Rattle.ps_text.proofs.Combinators.Simple.{none_is_some, same_some}
 use Rattle.ps_hoa.specs.Edges.{row_among, row_of}
 use Rattle.ps_hoa.specs.Files.{EdgeData, RowData, FileData, stated}
 use Rattle.ps_hoa.specs.Sound.{IsSoundEdge, IsSoundRow, IsSoundFile}

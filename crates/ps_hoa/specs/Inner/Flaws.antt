@@ -3,7 +3,7 @@
 -- - `IsLeastFlaw h f`: f is a flaw of the header, and no flaw has a smaller number
 use Rattle.std.specs.Prelude.{◌≤◌, Option}
 use Rattle.ps_hoa.specs.Causes.{cause_number}
-use Rattle.ps_hoa.specs.Header.{HeaderData, IsBadHeader, body_value}
+use Rattle.ps_hoa.specs.Grammar.Header.{HeaderData, IsBadHeader, body_value}
 use Rattle.ps_hoa.specs.Tokens.{Sign}
 use Rattle.ps_hoa.specs.declared.fault.HoaCause.{HoaCause}
 

@@ -1,6 +1,6 @@
 -- The tests on single tokens in the parser of header items.
 use Rattle.std.specs.Prelude.{ℕ, Bool, true, false, List, Option}
-use Rattle.ps_hoa.specs.Header.{HeaderData, alias_value, read_over_value}
+use Rattle.ps_hoa.specs.Grammar.Header.{HeaderData, alias_value, read_over_value}
 use Rattle.ps_hoa.specs.Tokens.{Sign}
 use Rattle.ps_hoa.specs.declared.tokens.Kind.{Kind}
 use Rattle.ps_hoa.specs.declared.tokens.Kind.TheVariants as kinds

@@ -3,8 +3,8 @@ use Rattle.std.specs.Prelude.{List}
 use Rattle.ps_label.specs.declared.label.Label.{Label, Literals as InPlace}
 use Rattle.ps_label.specs.Expression.{Expression, literal_expressions}
 use Rattle.ps_label.specs.Truth.{expressions}
-use Rattle.ps_hoa.specs.declared.operands.Operands.{Operands}
-use Rattle.ps_hoa.specs.declared.operands.Operands.TheVariants.{Labels, Literals}
+use Rattle.ps_hoa.specs.declared.label.operands.Operands.{Operands}
+use Rattle.ps_hoa.specs.declared.label.operands.Operands.TheVariants.{Labels, Literals}
 
 abbrev pub operand_expressions : Operands → List Expression
 operand_expressions (Literals codes) = literal_expressions codes

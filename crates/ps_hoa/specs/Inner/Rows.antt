@@ -1,10 +1,10 @@
 -- The abstract value of the stored rows, each of which has the edges of one state.
 use Rattle.std.specs.Prelude.{◌≡◌, Some, map}
 use Rattle.ps_hoa.specs.Files.{RowData}
-use Rattle.ps_hoa.specs.Header.{HeaderData}
-use Rattle.ps_hoa.specs.Body.{BodyData, IsWrongCount, last_row}
+use Rattle.ps_hoa.specs.Grammar.Header.{HeaderData}
+use Rattle.ps_hoa.specs.Grammar.Body.{BodyData, IsWrongCount, last_row}
 use Rattle.ps_hoa.specs.Views.{row_data}
-use Rattle.ps_hoa.specs.declared.rows.Rows.{Rows}
+use Rattle.ps_hoa.specs.declared.body.rows.Rows.{Rows}
 
 abbrev pub body_data : Rows → BodyData
 body_data r = record { rows = map row_data r.rows.items; edges = r.edges }

@@ -5,10 +5,10 @@
 --   another text of the part
 use Rattle.std.specs.Prelude.{ℕ, ◌≡◌, Bool, true, false, List, drop}
 use Rattle.ps_text.specs.Parts.{Part}
-use Rattle.ps_text.proofs.Laws.{Laws, Nothing}
-use Rattle.ps_text.proofs.Whole.{Own}
+use Rattle.ps_text.proofs.Combinators.Laws.{Laws, Nothing}
+use Rattle.ps_text.proofs.ParsedAnswers.Whole.{Own}
 use Rattle.ps_hoa.specs.Causes.{hoa_causes}
-use Rattle.ps_hoa.specs.Header.{without_last}
+use Rattle.ps_hoa.specs.Grammar.Header.{without_last}
 use Rattle.ps_hoa.specs.Tokens.{Sign}
 use Rattle.ps_hoa.specs.declared.fault.HoaCause.{HoaCause}
 use Rattle.ps_hoa.specs.declared.tokens.Kind.{Kind}

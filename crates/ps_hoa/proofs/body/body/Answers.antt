@@ -1,6 +1,6 @@
 use Rattle.std.proofs.Common.{arith}
-use Rattle.ps_text.proofs.Exits.{reads_then}
-use Rattle.ps_hoa.specs.Header.{header_data}
+use Rattle.ps_text.proofs.ParsedAnswers.Exits.{reads_then}
+use Rattle.ps_hoa.specs.Grammar.Header.{header_data}
 use Rattle.ps_hoa.proofs.Grammar.StateLaws.{joint_body}
 use Rattle.ps_hoa.proofs.Reading.HoaExits.{exit, first, behind, here}
 use Rattle.ps_hoa.proofs.body.body.Goals as goal

@@ -1,11 +1,11 @@
 use Rattle.std.proofs.Common.{arith}
 use Rattle.ps_text.specs.Parts.{one}
-use Rattle.ps_text.proofs.MeetsLemmas.{meets_mapped}
-use Rattle.ps_hoa.specs.Body.{is_end, IsBadClose}
+use Rattle.ps_text.proofs.ParsedAnswers.MeetsLemmas.{meets_mapped}
+use Rattle.ps_hoa.specs.Grammar.Body.{is_end, IsBadClose}
 use Rattle.ps_hoa.specs.Causes.{found_of, hoa_causes}
-use Rattle.ps_hoa.specs.Operands.{expect_in}
+use Rattle.ps_hoa.specs.Grammar.Operands.{expect_in}
 use Rattle.ps_hoa.specs.Inner.Rows.{body_data}
-use Rattle.ps_hoa.specs.Header.{header_data}
+use Rattle.ps_hoa.specs.Grammar.Header.{header_data}
 use Rattle.ps_hoa.proofs.Grammar.HeaderSigns.{reads_token}
 use Rattle.ps_hoa.proofs.Reading.StateReading.{end_signs}
 use Rattle.ps_hoa.proofs.body.end.Goals as goal

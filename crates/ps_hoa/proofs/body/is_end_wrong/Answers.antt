@@ -1,6 +1,6 @@
 use Rattle.std.proofs.Common.{arith, sym}
-use Rattle.ps_text.proofs.Simple.{same_some}
-use Rattle.ps_hoa.specs.Header.{header_data}
+use Rattle.ps_text.proofs.Combinators.Simple.{same_some}
+use Rattle.ps_hoa.specs.Grammar.Header.{header_data}
 use Rattle.ps_hoa.proofs.body.is_end_wrong.Goals as goal
 
 pub returns-in-Some : goal.returns-in-Some

@@ -1,7 +1,7 @@
 use Rattle.std.proofs.Common.{◌≡◌, ℕ, ◌≤◌, true, Err, refl, sym, subst, inl, ◌∙◌, arith}
-use Rattle.ps_hoa.specs.Body.{BodyData, BadIn, IsBadState, IsBadRow, has_row}
+use Rattle.ps_hoa.specs.Grammar.Body.{BodyData, BadIn, IsBadState, IsBadRow, has_row}
 use Rattle.ps_hoa.specs.Causes.{cause_number}
-use Rattle.ps_hoa.specs.Header.{int_in, header_data}
+use Rattle.ps_hoa.specs.Grammar.Header.{int_in, header_data}
 use Rattle.ps_hoa.specs.Inner.Reads.{Takes}
 use Rattle.ps_hoa.specs.Inner.Rows.{body_data}
 use Rattle.ps_hoa.specs.Spans.{piece_of}

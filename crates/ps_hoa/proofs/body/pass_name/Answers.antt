@@ -1,7 +1,7 @@
 use Rattle.std.proofs.Common.{List, ℕ, Ok}
 use Rattle.std.proofs.lemmas.Bool.{iff_false}
-use Rattle.ps_text.proofs.Exits.{reads_give, reads_mapped}
-use Rattle.ps_hoa.specs.Body.{nothing_of}
+use Rattle.ps_text.proofs.ParsedAnswers.Exits.{reads_give, reads_mapped}
+use Rattle.ps_hoa.specs.Grammar.Body.{nothing_of}
 use Rattle.ps_hoa.specs.Scan.{stream_of}
 use Rattle.ps_hoa.proofs.Grammar.HeaderSigns.{signs_string}
 use Rattle.ps_hoa.proofs.Reading.SingleTokens.{reads_one}

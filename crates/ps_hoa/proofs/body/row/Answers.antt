@@ -1,11 +1,11 @@
 use Rattle.std.proofs.Common.{arith, rules, List, map, option_map, ap, refl}
 use Rattle.std.proofs.lemmas.List.{length-map}
 use Rattle.ps_label.specs.Expression.{expression}
-use Rattle.ps_text.proofs.Exits.{reads_mapped, reads_then}
-use Rattle.ps_hoa.specs.Body.{edges, empty_row, with_row}
+use Rattle.ps_text.proofs.ParsedAnswers.Exits.{reads_mapped, reads_then}
+use Rattle.ps_hoa.specs.Grammar.Body.{edges, empty_row, with_row}
 use Rattle.ps_hoa.specs.Files.{EdgeData}
 use Rattle.ps_hoa.specs.Inner.Rows.{body_data}
-use Rattle.ps_hoa.specs.Header.{header_data}
+use Rattle.ps_hoa.specs.Grammar.Header.{header_data}
 use Rattle.ps_hoa.specs.Views.{edge_data, row_data}
 use Rattle.ps_hoa.proofs.Grammar.StateLaws.{joint_state, joint_state_label, joint_number, joint_name, joint_marks}
 use Rattle.ps_hoa.proofs.Reading.HoaExits.{exit, first, behind, under}

@@ -1,8 +1,8 @@
 use Rattle.std.proofs.Common.{arith}
 use Rattle.std.proofs.lemmas.Bool.{iff_false}
-use Rattle.ps_text.proofs.Exits.{reads_give, reads_then}
-use Rattle.ps_hoa.specs.Body.{is_left_bracket}
-use Rattle.ps_hoa.specs.Header.{header_data}
+use Rattle.ps_text.proofs.ParsedAnswers.Exits.{reads_give, reads_then}
+use Rattle.ps_hoa.specs.Grammar.Body.{is_left_bracket}
+use Rattle.ps_hoa.specs.Grammar.Header.{header_data}
 use Rattle.ps_hoa.proofs.Grammar.BodyLaws.{joint_bracket}
 use Rattle.ps_hoa.proofs.Reading.HoaExits.{exit, first, behind, here, instead}
 use Rattle.ps_hoa.proofs.Reading.ExpectReading.{tests_left_bracket}

@@ -1,5 +1,5 @@
 use Rattle.std.proofs.Common.{rules}
-use Rattle.ps_hoa.specs.Header.{header_data}
+use Rattle.ps_hoa.specs.Grammar.Header.{header_data}
 use Rattle.ps_hoa.specs.Inner.Rows.{body_data}
 use Rattle.ps_hoa.proofs.Grammar.HeaderSigns.{of_taken, reads_token}
 use Rattle.ps_hoa.proofs.Reading.BodyReading.{int_signs}

@@ -1,6 +1,6 @@
 use Rattle.std.proofs.Common.{rules, sym, ◌∙◌, arith}
 use Rattle.std.proofs.lemmas.Bool.{iff_false}
-use Rattle.ps_hoa.specs.Operands.{is_right}
+use Rattle.ps_hoa.specs.Grammar.Operands.{is_right}
 use Rattle.ps_hoa.proofs.Reading.RowReading.{first_fails, first_alone, row_starts, row_more}
 use Rattle.ps_hoa.proofs.Reading.RowReading.{row_fails, row_done, row_shrinks}
 use Rattle.ps_hoa.proofs.Reading.HoaExits.{exit, serves_meets, value_is}

@@ -1,5 +1,5 @@
 use Rattle.std.proofs.Common.{suc, ◌+◌, ◌*◌, length}
-use Rattle.ps_hoa.specs.Operands.{is_sign_of, between, operand}
+use Rattle.ps_hoa.specs.Grammar.Operands.{is_sign_of, between, operand}
 use Rattle.ps_hoa.specs.Scan.{stream_of}
 use Rattle.ps_hoa.proofs.Reading.RowReading.{IsRow, binding}
 use Rattle.ps_hoa.proofs.infix.+infix.Given as goal

@@ -1,10 +1,10 @@
 use Rattle.std.proofs.Common.{◌≡◌, ℕ, List, Result, Ok, IfOk, IfErr, refl, rules}
 use Rattle.ps_text.specs.Answers.{Stream}
 use Rattle.ps_text.specs.Readers.{Reads}
-use Rattle.ps_text.proofs.Exits.{reads_mapped, reads_then}
-use Rattle.ps_hoa.specs.Body.{BodyData, body}
+use Rattle.ps_text.proofs.ParsedAnswers.Exits.{reads_mapped, reads_then}
+use Rattle.ps_hoa.specs.Grammar.Body.{BodyData, body}
 use Rattle.ps_hoa.specs.Files.{FileData}
-use Rattle.ps_hoa.specs.Header.{HeaderData, header}
+use Rattle.ps_hoa.specs.Grammar.Header.{HeaderData, header}
 use Rattle.ps_hoa.specs.Scan.{next_of, stream_of}
 use Rattle.ps_hoa.specs.Sound.{IsSoundFile}
 use Rattle.ps_hoa.specs.Texts.{file_of, file, IsFileAnswer}

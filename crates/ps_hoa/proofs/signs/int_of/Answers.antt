@@ -1,6 +1,6 @@
 use Rattle.std.proofs.Common.{arith}
-use Rattle.ps_text.proofs.Decimals.{value_more}
-use Rattle.ps_hoa.proofs.DigitRuns.{checked-front, checked-whole}
+use Rattle.ps_text.proofs.BytesAndDigits.Decimals.{value_more}
+use Rattle.ps_hoa.proofs.Reading.DigitRuns.{checked-front, checked-whole}
 use Rattle.ps_hoa.proofs.signs.int_of.Goals as goal
 
 pub returns-in_err-checked_mul : goal.returns-in_err-checked_mul

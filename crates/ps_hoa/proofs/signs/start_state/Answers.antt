@@ -1,9 +1,9 @@
 use Rattle.std.proofs.Common.{arith, refl}
 use Rattle.std.proofs.lemmas.Bool.{iff_false}
-use Rattle.ps_text.proofs.Barred.{reads_barred, stops_barred, stops_bar}
+use Rattle.ps_text.proofs.Combinators.Barred.{reads_barred, stops_barred, stops_bar}
 use Rattle.ps_hoa.specs.Causes.{hoa_causes}
-use Rattle.ps_hoa.specs.Header.{IsAlternating}
-use Rattle.ps_hoa.specs.Operands.{number_limit}
+use Rattle.ps_hoa.specs.Grammar.Header.{IsAlternating}
+use Rattle.ps_hoa.specs.Grammar.Operands.{number_limit}
 use Rattle.ps_hoa.specs.Scan.{stream_of, next_of}
 use Rattle.ps_hoa.specs.declared.fault.HoaCause.TheVariants.{Alternating}
 use Rattle.ps_hoa.proofs.Grammar.HeaderSigns.{least_same}

@@ -1,5 +1,5 @@
 use Rattle.std.proofs.Common.{◌≡◌, ◌++◌, drop, false}
-use Rattle.ps_hoa.specs.Header.{unescaped}
+use Rattle.ps_hoa.specs.Grammar.Header.{unescaped}
 use Rattle.ps_hoa.proofs.signs.unescaped.Given as goal
 
 abbrev pub invariant-loop-byte : goal.invariant-loop-byte

@@ -1,6 +1,6 @@
 use Rattle.std.proofs.Common.{arith, ap, sym, ◌∙◌}
-use Rattle.ps_hoa.specs.Conditions.{often_in}
-use Rattle.ps_hoa.specs.Operands.{is_left, is_right}
+use Rattle.ps_hoa.specs.Grammar.Conditions.{often_in}
+use Rattle.ps_hoa.specs.Grammar.Operands.{is_left, is_right}
 use Rattle.ps_hoa.specs.Values.{condition_of}
 use Rattle.ps_hoa.proofs.Reading.HoaExits.{exit, serves_meets, value_is}
 use Rattle.ps_hoa.proofs.Reading.ExpectReading.{tests_left, tests_right}

@@ -1,0 +1,20 @@
+use Rattle.ps_hoa.specs.Grammar.Body.{IsBadPlainTarget}
+use Rattle.ps_hoa.specs.Views.{row_data}
+use Rattle.ps_hoa.proofs.Reading.BodyReading.{target_reads, target_fails, target_alternates}
+use Rattle.ps_hoa.proofs.Reading.HoaExits.{exit, here}
+use Rattle.ps_hoa.proofs.body.edges.plain_target.Goals as goal
+
+pub returns-in_err-target : goal.returns-in_err-target
+returns-in_err-target c = exit _ _ _ _ here
+    (target_fails (IsBadPlainTarget c.args.header.now.states c.args.before (row_data c.args.row.now)) _
+    c.advance-token.ensures.next c.advance-token.ensures.rest _ c.in_err-target.ensures) c.from_residual.ensures.1
+
+pub returns-in_err-alone : goal.returns-in_err-alone
+returns-in_err-alone c = exit _ _ _ _ here
+    (target_alternates (IsBadPlainTarget c.args.header.now.states c.args.before (row_data c.args.row.now)) _
+    c.advance-token.ensures.next c.advance-token.ensures.rest _ c.in_ok-target.ensures _ c.in_err-alone.ensures)
+    c.from_residual-in_err-alone.ensures.1
+
+pub returns : goal.returns
+returns c = target_reads (IsBadPlainTarget c.args.header.now.states c.args.before (row_data c.args.row.now))
+    _ c.advance-token.ensures.next c.advance-token.ensures.rest _ c.in_ok-target.ensures c.in_ok-alone.ensures

@@ -1,6 +1,0 @@
-use Rattle.std.proofs.Common.{◌↔◌, drop}
-use Rattle.ps_hoa.specs.Header.{AnIndexBeyond}
-use Rattle.ps_hoa.proofs.flaws.is_index_beyond.Given as goal
-
-abbrev pub invariant-loop-index : goal.invariant-loop-index
-invariant-loop-index l = AnIndexBeyond l.count (drop l.index-index l.indices) ↔ AnIndexBeyond l.count l.indices
