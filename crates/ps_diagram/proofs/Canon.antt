@@ -6,7 +6,7 @@ use Rattle.std.proofs.lemmas.Bool.{cases_lt, cases_order, eq-eqb, eqb-false}
 use Rattle.ps_diagram.specs.Tree.{Tree, empty, final, choice, leaf_at, IsFrom, IsReduced, IsBlind, HaveSameLeaves}
 use Rattle.ps_diagram.specs.Tree.{IsTestOf}
 use Rattle.ps_diagram.specs.Table.{Table, IsNode, IsSoundTable, tree_of}
-use Rattle.ps_diagram.proofs.Cells.{bool_cases}
+use Rattle.ps_diagram.proofs.NodeTables.Cells.{bool_cases}
 
 -- the letter f in which the proposition p is set to b
 abbrev pub changed : (ℕ → Bool) → ℕ → Bool → ℕ → Bool

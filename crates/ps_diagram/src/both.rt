@@ -1,6 +1,7 @@
 //! Joins two diagrams: the leaf at a letter is the index of the pair of their leaves.
 
 ghost use Rattle.std.specs.Prelude.{◌≡◌, ℕ, ◌+◌, IfOk, Some};
+ghost use Rattle.indexmap.specs.IndexSet.{IsUnique};
 ghost use Rattle.ps_diagram.specs.Inner.Kept.{result_for};
 ghost use Rattle.ps_diagram.specs.Inner.Chosen.{IsPairOf, Meet};
 ghost use Rattle.ps_diagram.specs.Inner.Known.{KnowsPairs, pair_eq};
@@ -69,7 +70,7 @@ impl Store {
         } = split;
         let low = self.paired(left.low, right.low, pairs, known)?;
         let high = self.paired(left.high, right.high, pairs, known)?;
-        let _ = pairs.as_slice();
+        pairs_differ(pairs);
         let made = self.test(proposition, low, high)?;
         known.put((first, second), made)?;
         Ok(made)
@@ -95,4 +96,11 @@ impl Store {
         let (place, _) = pairs.insert_full((one, other))?;
         self.constant(Some(place as u64))
     }
+}
+
+/// No pair of the set occurs twice: the prover learns it here.
+fn pairs_differ(pairs: &IndexSet<(u64, u64)>)
+    ensures { IsUnique pair_eq pairs.now }
+{
+    pairs.as_slice();
 }

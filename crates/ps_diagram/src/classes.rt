@@ -65,7 +65,7 @@ impl Store {
         ensures keeps { Keeps self.old self.new }
         ensures classes { IfOk result (λ c. AreClasses other.now self.new node split c.places c.list.items) }
     {
-        let _ = other.allocator();
+        other.table_is_sound();
         let divided = self.rests(other, node, split)?;
         let leaves = self.found_below(divided)?;
         let classes = self.classes_of_leaves(divided, &leaves)?;
@@ -102,10 +102,10 @@ impl Store {
         ensures classes { IfOk result
             (λ c. AreOfLeaves leaves.now (tree_of self.old divided) (tree_of self.new c.places) c.list.items) }
     {
-        let _ = self.len();
+        self.nodes_are_few();
         let list = listed(self.allocator(), leaves.as_slice())?;
         let places = self.placed(divided, leaves)?;
-        let _ = self.allocator();
+        self.table_is_sound();
         Ok(Classes { list, places })
     }
 
@@ -143,7 +143,7 @@ impl Store {
                 }
                 let low = self.divided(other, low, split, known, tests)?;
                 let high = self.divided(other, high, split, known, tests)?;
-                let _ = self.allocator();
+                self.table_is_sound();
                 let made = self.divided_test(proposition, low, high, split, tests)?;
                 known.put(node, made)?;
                 Ok(made)
@@ -177,7 +177,7 @@ impl Store {
             (IsDividedTest self.new split proposition (tree_of self.old low) (tree_of self.old high)) }
         ensures tests { KnowsTests self.new (result_for test_eq tests.new.table) }
     {
-        let _ = self.allocator();
+        self.table_is_sound();
         if split >> proposition & 1 == 1 {
             return self.test(proposition, low, high);
         }
@@ -215,7 +215,7 @@ impl Store {
         } = split;
         let on_low = self.tested(proposition, left.low, right.low, tests)?;
         let on_high = self.tested(proposition, left.high, right.high, tests)?;
-        let _ = self.allocator();
+        self.table_is_sound();
         let made = self.test(first, on_low, on_high)?;
         tests.put((proposition, low, high), made)?;
         Ok(made)
@@ -241,7 +241,7 @@ impl Store {
         ensures { (f : ℕ → Bool) → leaf_at (tree_of self.now node) f ≡ Some result }
     {
         let place = self.eval(node, 0).unwrap();
-        let _ = self.len();
+        self.nodes_are_few();
         Node {
             place: place as u32,
         }

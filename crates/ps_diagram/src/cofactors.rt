@@ -57,7 +57,7 @@ impl Store {
             (IsSpread self.new split self.old.propositions letter (tree_of other.now node)) }
         ensures blind { IfOk result (λ made. (level : ℕ) → IsBlind level (tree_of self.new made)) }
     {
-        let _ = other.allocator();
+        other.table_is_sound();
         let mut known = Memo::new(self.allocator());
         let rest = self.cofactor(node, split, letter, &mut known)?;
         self.intern(View::Leaf(rest.place as u64))

@@ -65,7 +65,6 @@ impl Cells {
         ensures value { result ≡ length self.now }
         ensures few { result < 2 ^ 32 }
     {
-        let _ = &self.leaves;
         self.list.len()
     }
 

@@ -203,7 +203,7 @@ impl Store {
         ensures { MakesDiagram self.old self.new result
             (λ letter. option_map (λ k. slice_index values.now k) (leaf_of self.old node letter)) }
     {
-        let _ = self.allocator();
+        self.table_is_sound();
         self.mapped(None, node, &Relabelled(values))
     }
 
@@ -216,7 +216,7 @@ impl Store {
             (λ letter. Some (unwrap_or (option_map (λ k. slice_index values.now k) (leaf_of self.old node letter))
             other)) }
     {
-        let _ = self.allocator();
+        self.table_is_sound();
         self.mapped(None, node, &Replaced { values, other })
     }
 
@@ -234,7 +234,7 @@ impl Store {
         ensures { MakesDiagram self.old self.new result
             (λ letter. option_map (λ k. slice_index values.now k) (leaf_of other.now node letter)) }
     {
-        let _ = other.allocator();
+        other.table_is_sound();
         self.mapped(Some(other), node, &Relabelled(values))
     }
 

@@ -142,7 +142,7 @@ impl PackedCells {
         ensures { PlacesCell self.old self.new cell result }
     {
         let place = self.list.place_of(Packed::of(cell))?;
-        let _ = self.list.len();
+        self.list.keys_are_few();
         Ok(place as u32)
     }
 }

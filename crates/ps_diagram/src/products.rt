@@ -132,7 +132,7 @@ impl Store {
             (meets self.now.propositions product letter && truth known letter (expression label.now))) }
         ensures some { is_some result ≡ is_product (expression label.now) }
     {
-        let _ = self.propositions();
+        self.table_is_sound();
         match label {
             Label::Truth(true) => Some(product),
             Label::Atom(proposition) => Some(product.with(*proposition)),

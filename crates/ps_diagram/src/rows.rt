@@ -112,7 +112,7 @@ impl Store {
         ensures leads { OnOk result (LeadsOn self.old self.new first none (height + 1) nodes.old.items height
             nodes.new.items) }
     {
-        let _ = self.propositions();
+        self.table_is_sound();
         let half = power(height);
         let count = nodes.len().min(half);
         for place in 0..count {

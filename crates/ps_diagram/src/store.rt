@@ -108,6 +108,23 @@ impl Store {
         self.alloc
     }
 
+    /// The table is sound: the prover learns it here.
+    #[inline(always)]
+    pub(crate) fn table_is_sound(&self)
+        ensures few { self.now.propositions ≤ 64 }
+        ensures sound { IsSoundTable self.now }
+    {
+        self.propositions();
+    }
+
+    /// There are fewer than 2^32 nodes: the prover learns it here.
+    #[inline(always)]
+    pub(crate) fn nodes_are_few(&self)
+        ensures { length self.now.cells < 2 ^ 32 }
+    {
+        self.len();
+    }
+
     /// Whether they have the same leaf at each letter.
     pub fn same(&self, first: Node, second: Node) -> bool
         requires first { IsNode self.now first }
@@ -116,7 +133,7 @@ impl Store {
             ↔ ((letter : ℕ) → letter < 2 ^ self.now.propositions →
             leaf_of self.now first letter ≡ leaf_of self.now second letter) }
     {
-        let _ = &self.propositions;
+        self.table_is_sound();
         first == second
     }
 
@@ -165,7 +182,7 @@ impl Store {
         ensures { MakesTree self.old self.new result
             (IsTestOf proposition (tree_of self.old low) (tree_of self.old high)) }
     {
-        let _ = &self.propositions;
+        self.table_is_sound();
         if low == high {
             return Ok(low);
         }

@@ -2,7 +2,7 @@ use Rattle.std.proofs.Common.{arith, ◌∙◌, length, ◌<◌, sym, ◌≡◌,
 use Rattle.std.proofs.lemmas.List.Filters.{FiltersInPlace-all, FiltersInPlace-more_no, FiltersInPlace-more_swap}
 use Rattle.std.proofs.lemmas.List.Sorted.{IsPermutation-trans}
 use Rattle.std.proofs.lemmas.List.{get_or_default}
-use Rattle.ps_diagram.proofs.CaseLists.{no_case}
+use Rattle.ps_diagram.proofs.TreesFromData.CaseLists.{no_case}
 use Rattle.ps_diagram.proofs.cases.partition.Goals as goal
 use Rattle.ps_diagram.proofs.cases.partition.Goals.{then-allows, else-allows}
 

@@ -1,4 +1,4 @@
-use Rattle.ps_diagram.proofs.CaseLists.{tested_more}
+use Rattle.ps_diagram.proofs.TreesFromData.CaseLists.{tested_more}
 use Rattle.ps_diagram.proofs.cases.tested_by.Goals as goal
 
 pub loop-case-preserved : goal.loop-case-preserved

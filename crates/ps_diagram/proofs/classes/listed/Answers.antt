@@ -1,5 +1,5 @@
 use Rattle.std.proofs.Common.{refl}
-use Rattle.ps_diagram.proofs.Numbering.{of_push}
+use Rattle.ps_diagram.proofs.ClassesOfLetters.Numbering.{of_push}
 use Rattle.ps_diagram.proofs.classes.listed.Goals as goal
 
 pub loop-pair-preserved : goal.loop-pair-preserved

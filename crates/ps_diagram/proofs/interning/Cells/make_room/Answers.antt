@@ -1,5 +1,5 @@
 use Rattle.std.proofs.Common.{◌+◌, arith, rules}
-use Rattle.ps_diagram.proofs.Cells.{leaves_roomy}
+use Rattle.ps_diagram.proofs.NodeTables.Cells.{leaves_roomy}
 use Rattle.ps_diagram.proofs.interning.Cells.make_room.Goals as goal
 
 pub invariant_of-self-then-leaf-len : goal.invariant_of-self-then-leaf-len

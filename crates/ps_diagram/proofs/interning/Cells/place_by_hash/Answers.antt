@@ -1,4 +1,4 @@
-use Rattle.ps_diagram.proofs.Cells.{leaves_after}
+use Rattle.ps_diagram.proofs.NodeTables.Cells.{leaves_after}
 use Rattle.ps_diagram.proofs.interning.Cells.place_by_hash.Goals as goal
 
 pub invariant_of-self : goal.invariant_of-self

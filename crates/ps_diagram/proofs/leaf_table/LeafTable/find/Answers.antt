@@ -1,5 +1,5 @@
 use Rattle.std.proofs.Common.{sym}
-use Rattle.ps_diagram.proofs.LeafTables.{early_placed, later_placed, nowhere}
+use Rattle.ps_diagram.proofs.NodeTables.LeafTables.{early_placed, later_placed, nowhere}
 use Rattle.ps_diagram.proofs.leaf_table.LeafTable.find.Goals as goal
 
 pub returns-in-Some : goal.returns-in-Some

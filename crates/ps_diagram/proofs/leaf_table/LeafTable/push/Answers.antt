@@ -1,6 +1,6 @@
 use Rattle.std.proofs.Common.{◌≡◌, ◌++◌, ◌∷◌, [], arith, inl, inr, None}
 use Rattle.ps_diagram.specs.Inner.LeafTables.{place_in}
-use Rattle.ps_diagram.proofs.LeafTables.{added_early, added_later, not_among}
+use Rattle.ps_diagram.proofs.NodeTables.LeafTables.{added_early, added_later, not_among}
 use Rattle.ps_diagram.proofs.leaf_table.LeafTable.push.Goals as goal
 use Rattle.ps_diagram.proofs.leaf_table.LeafTable.push.Goals.{then-len-ge-FEW+in_ok-place_of, else-len-ge-FEW}
 

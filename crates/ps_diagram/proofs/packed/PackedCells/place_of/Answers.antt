@@ -1,5 +1,5 @@
 use Rattle.std.proofs.Common.{rules}
-use Rattle.ps_diagram.proofs.PackedLemmas.{looked_up}
+use Rattle.ps_diagram.proofs.NodeTables.PackedLemmas.{looked_up}
 use Rattle.ps_diagram.proofs.packed.PackedCells.place_of.Goals as goal
 
 pub returns : goal.returns

@@ -1,5 +1,5 @@
 use Rattle.ps_diagram.specs.Letters.{assignment}
-use Rattle.ps_diagram.proofs.Literals.{meets_none}
+use Rattle.ps_diagram.proofs.TreesFromData.Literals.{meets_none}
 use Rattle.ps_diagram.proofs.products.Product.empty.Goals as goal
 
 pub returns : goal.returns

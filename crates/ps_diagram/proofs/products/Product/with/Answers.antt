@@ -1,4 +1,4 @@
-use Rattle.ps_diagram.proofs.Literals.{meets_positive}
+use Rattle.ps_diagram.proofs.TreesFromData.Literals.{meets_positive}
 use Rattle.ps_diagram.proofs.products.Product.with.Goals as goal
 
 pub returns : goal.returns

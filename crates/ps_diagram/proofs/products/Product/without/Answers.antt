@@ -1,4 +1,4 @@
-use Rattle.ps_diagram.proofs.Literals.{meets_negative}
+use Rattle.ps_diagram.proofs.TreesFromData.Literals.{meets_negative}
 use Rattle.ps_diagram.proofs.products.Product.without.Goals as goal
 
 pub returns : goal.returns

@@ -1,9 +1,9 @@
 use Rattle.std.proofs.Common.{sym, rules}
 use Rattle.ps_diagram.specs.Inner.Kept.{result_for}
 use Rattle.ps_diagram.specs.Inner.Rests.{test_eq}
-use Rattle.ps_diagram.proofs.KnownLemmas.{keeps_three, keeps_trans}
-use Rattle.ps_diagram.proofs.Choosing.{chosen_sides, triples_kept, triples_put}
-use Rattle.ps_diagram.proofs.MadeDiagrams.{fails, gives}
+use Rattle.ps_diagram.proofs.NodeTables.KnownLemmas.{keeps_three, keeps_trans}
+use Rattle.ps_diagram.proofs.TreeOperations.Choosing.{chosen_sides, triples_kept, triples_put}
+use Rattle.ps_diagram.proofs.NodeTables.MadeDiagrams.{fails, gives}
 use Rattle.ps_diagram.proofs.store.Store.+chosen.Goals as goal
 
 pub returns-in-Some-clause-made : goal.returns-in-Some-clause-made

@@ -1,12 +1,12 @@
 use Rattle.std.proofs.Common.{arith, sym, nat_eq, refl, rules}
 use Rattle.ps_diagram.specs.Inner.Kept.{result_for}
 use Rattle.ps_diagram.specs.Inner.Rests.{IsCofactor}
-use Rattle.ps_diagram.proofs.Alone.{bit_false}
+use Rattle.ps_diagram.proofs.TreesFromData.Alone.{bit_false}
 use Rattle.ps_diagram.specs.Table.{tree_of}
-use Rattle.ps_diagram.proofs.KnownLemmas.{keeps_three, kept, knows_kept, knows_more}
+use Rattle.ps_diagram.proofs.NodeTables.KnownLemmas.{keeps_three, kept, knows_kept, knows_more}
 use Rattle.ps_diagram.proofs.Sides.{sides_of_test}
-use Rattle.ps_diagram.proofs.Spreading.{cofactor_blind, cofactor_sides, unread_cofactor}
-use Rattle.ps_diagram.proofs.MadeDiagrams.{fails, gives}
+use Rattle.ps_diagram.proofs.ClassesOfLetters.Spreading.{cofactor_blind, cofactor_sides, unread_cofactor}
+use Rattle.ps_diagram.proofs.NodeTables.MadeDiagrams.{fails, gives}
 use Rattle.ps_diagram.proofs.store.Store.+cofactor.Goals as goal
 
 pub returns-in-Some-clause-made : goal.returns-in-Some-clause-made

@@ -3,9 +3,9 @@ use Rattle.std.proofs.lemmas.List.{get_or_default}
 use Rattle.ps_diagram.specs.Inner.Kept.{result_for}
 use Rattle.ps_diagram.specs.Inner.Composed.{IsComposed}
 use Rattle.ps_diagram.specs.Table.{IsNode}
-use Rattle.ps_diagram.proofs.Composing.{composed_kept, composed_sides, bits_before, side_of}
-use Rattle.ps_diagram.proofs.KnownLemmas.{keeps_trans, knows_more}
-use Rattle.ps_diagram.proofs.MadeDiagrams.{gives}
+use Rattle.ps_diagram.proofs.TreeOperations.Composing.{composed_kept, composed_sides, bits_before, side_of}
+use Rattle.ps_diagram.proofs.NodeTables.KnownLemmas.{keeps_trans, knows_more}
+use Rattle.ps_diagram.proofs.NodeTables.MadeDiagrams.{gives}
 use Rattle.ps_diagram.proofs.store.Store.+composed_by.Goals as goal
 
 pub composed_by-requires : goal.composed_by-requires

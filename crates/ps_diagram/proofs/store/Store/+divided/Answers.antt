@@ -3,13 +3,13 @@ use Rattle.ps_diagram.specs.Inner.Kept.{result_for}
 use Rattle.ps_diagram.specs.Tree.{leaf_at}
 use Rattle.ps_diagram.specs.Table.{tree_of}
 use Rattle.ps_diagram.specs.Inner.Rests.{IsDivided}
-use Rattle.ps_diagram.proofs.Cells.{keeps_refl}
+use Rattle.ps_diagram.proofs.NodeTables.Cells.{keeps_refl}
 use Rattle.ps_diagram.proofs.Sides.{sides_of_test}
-use Rattle.ps_diagram.proofs.KnownLemmas.{keeps_three, knows_more}
-use Rattle.ps_diagram.proofs.Dividing.{divided_blind, divided_leads, divided_side}
-use Rattle.ps_diagram.proofs.Dividing.{sides_divided, known_divided_kept, tests_kept}
-use Rattle.ps_diagram.proofs.MadeDiagrams.{fails, gives, by-last}
-use Rattle.ps_diagram.proofs.Spreading.{unread_divided}
+use Rattle.ps_diagram.proofs.NodeTables.KnownLemmas.{keeps_three, knows_more}
+use Rattle.ps_diagram.proofs.ClassesOfLetters.Dividing.{divided_blind, divided_leads, divided_side}
+use Rattle.ps_diagram.proofs.ClassesOfLetters.Dividing.{sides_divided, known_divided_kept, tests_kept}
+use Rattle.ps_diagram.proofs.NodeTables.MadeDiagrams.{fails, gives, by-last}
+use Rattle.ps_diagram.proofs.ClassesOfLetters.Spreading.{unread_divided}
 use Rattle.ps_diagram.proofs.store.Store.+divided.Goals as goal
 
 pub returns-in-Some-clause-made : goal.returns-in-Some-clause-made
@@ -17,12 +17,12 @@ returns-in-Some-clause-made t c =
     let r = c.requires.known c.args.node c.in-Some.made (sym c.in-Some.ensures) in gives r.1 r.2
 
 pub divided_test-requires-clause-low_later : goal.divided_test-requires-clause-low_later
-divided_test-requires-clause-low_later t c = divided_blind c.allocator.ensures.sound c.args.split _ _ _
+divided_test-requires-clause-low_later t c = divided_blind c.table_is_sound.ensures.sound c.args.split _ _ _
     (divided_side c.divided-in-Test.ensures.made.keeps c.args.split _ c.in_ok-low-in-Test.ensures.made.held
     c.in_ok-low-in-Test.ensures.made.leaf) (sides_of_test c.in-Test.ensures.part).low_later
 
 pub divided_test-requires-clause-high_later : goal.divided_test-requires-clause-high_later
-divided_test-requires-clause-high_later t c = divided_blind c.allocator.ensures.sound c.args.split _ _ _
+divided_test-requires-clause-high_later t c = divided_blind c.table_is_sound.ensures.sound c.args.split _ _ _
     c.in_ok-high-in-Test.ensures.made.leaf (sides_of_test c.in-Test.ensures.part).high_later
 
 pub divided_test-requires-clause-leading : goal.divided_test-requires-clause-leading

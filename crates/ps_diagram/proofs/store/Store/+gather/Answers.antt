@@ -3,10 +3,11 @@ use Rattle.std.specs.Prelude.{is_some}
 use Rattle.ps_diagram.specs.Inner.Kept.{result_for}
 use Rattle.ps_diagram.specs.Reached.{Gathers}
 use Rattle.ps_diagram.specs.Table.{tree_of}
-use Rattle.ps_diagram.proofs.Gathering.{some_of, none_of, found_more, gathers_none, leaf_found, gathers_leaf}
-use Rattle.ps_diagram.proofs.Gathering.{begun_low, begun_high}
-use Rattle.ps_diagram.proofs.Gathering.{set_bit, gathers_test, seen_more}
-use Rattle.ps_diagram.proofs.LeafTables.{no_place_found, place_found}
+use Rattle.ps_diagram.proofs.ClassesOfLetters.Gathering.{some_of, none_of, found_more, gathers_none, leaf_found}
+use Rattle.ps_diagram.proofs.ClassesOfLetters.Gathering.{gathers_leaf}
+use Rattle.ps_diagram.proofs.ClassesOfLetters.Gathering.{begun_low, begun_high}
+use Rattle.ps_diagram.proofs.ClassesOfLetters.Gathering.{set_bit, gathers_test, seen_more}
+use Rattle.ps_diagram.proofs.NodeTables.LeafTables.{no_place_found, place_found}
 use Rattle.ps_diagram.proofs.store.Store.+gather.Goals as goal
 
 pub returns-then-is_some-clause-found : goal.returns-then-is_some-clause-found

@@ -3,10 +3,10 @@ use Rattle.ps_diagram.specs.Inner.Hiding.{IsHidden}
 use Rattle.ps_diagram.specs.Inner.Kept.{result_for}
 use Rattle.ps_diagram.specs.Table.{tree_of}
 use Rattle.ps_diagram.specs.Tree.{IsBlind, IsFrom}
-use Rattle.ps_diagram.proofs.Cells.{keeps_refl}
-use Rattle.ps_diagram.proofs.Hiding.{hidden_blind, hidden_sides}
-use Rattle.ps_diagram.proofs.KnownLemmas.{keeps_three, kept, knows_kept, knows_more}
-use Rattle.ps_diagram.proofs.MadeDiagrams.{by-last, fails, gives}
+use Rattle.ps_diagram.proofs.NodeTables.Cells.{keeps_refl}
+use Rattle.ps_diagram.proofs.TreeOperations.Hiding.{hidden_blind, hidden_sides}
+use Rattle.ps_diagram.proofs.NodeTables.KnownLemmas.{keeps_three, kept, knows_kept, knows_more}
+use Rattle.ps_diagram.proofs.NodeTables.MadeDiagrams.{by-last, fails, gives}
 use Rattle.ps_diagram.proofs.store.Store.+hidden_by.Goals as goal
 
 pub returns-in-Some-clause-made : goal.returns-in-Some-clause-made

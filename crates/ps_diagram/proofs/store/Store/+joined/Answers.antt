@@ -1,6 +1,6 @@
 use Rattle.std.proofs.Common.{◌≡◌, ◌+◌, ◌-◌, arith}
-use Rattle.ps_diagram.proofs.Halving.{has_leaf_kept, part_node, parts_leads, parts_more, parts_row}
-use Rattle.ps_diagram.proofs.KnownLemmas.{keeps_trans}
+use Rattle.ps_diagram.proofs.TreesFromData.Halving.{has_leaf_kept, part_node, parts_leads, parts_more, parts_row}
+use Rattle.ps_diagram.proofs.NodeTables.KnownLemmas.{keeps_trans}
 use Rattle.ps_diagram.proofs.store.Store.+joined.Goals as goal
 
 pub parts-rest-preserved : goal.parts-rest-preserved

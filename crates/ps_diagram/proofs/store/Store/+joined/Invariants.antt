@@ -1,6 +1,6 @@
 use Rattle.std.proofs.Common.{suc, ◌-◌, ◌*◌}
 use Rattle.ps_diagram.specs.Table.{Keeps}
-use Rattle.ps_diagram.proofs.Halving.{ArePartNodes}
+use Rattle.ps_diagram.proofs.TreesFromData.Halving.{ArePartNodes}
 use Rattle.ps_diagram.proofs.store.Store.+joined.Given as goal
 
 abbrev pub decreases-joined : goal.decreases-joined

@@ -5,9 +5,9 @@ use Rattle.ps_diagram.specs.Tree.{leaf_at}
 use Rattle.ps_diagram.specs.Table.{tree_of}
 use Rattle.ps_diagram.specs.Inner.Known.{IsMapped}
 use Rattle.ps_diagram.proofs.Sides.{sides_of_test}
-use Rattle.ps_diagram.proofs.KnownLemmas.{keeps_trans, kept, read_keeps, knows_kept, knows_more}
-use Rattle.ps_diagram.proofs.Mapping.{mapped_blind, mapped_sides, on_side}
-use Rattle.ps_diagram.proofs.MadeDiagrams.{fails, gives}
+use Rattle.ps_diagram.proofs.NodeTables.KnownLemmas.{keeps_trans, kept, read_keeps, knows_kept, knows_more}
+use Rattle.ps_diagram.proofs.TreeOperations.Mapping.{mapped_blind, mapped_sides, on_side}
+use Rattle.ps_diagram.proofs.NodeTables.MadeDiagrams.{fails, gives}
 use Rattle.ps_diagram.proofs.store.Store.+mapped_by.Goals as goal
 
 pub returns-in-Some-clause-made : goal.returns-in-Some-clause-made

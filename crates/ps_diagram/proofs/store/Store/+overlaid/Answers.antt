@@ -1,9 +1,9 @@
 use Rattle.std.proofs.Common.{sym, true, false, rules}
 use Rattle.ps_diagram.specs.Inner.Kept.{result_for}
 use Rattle.ps_diagram.specs.Inner.Known.{IsOverlay, pair_eq}
-use Rattle.ps_diagram.proofs.KnownLemmas.{keeps_three, keeps_trans, pairs_kept, pairs_put}
-use Rattle.ps_diagram.proofs.Joining.{overlay_sides, clash_side, clash_passes}
-use Rattle.ps_diagram.proofs.MadeDiagrams.{fails, gives}
+use Rattle.ps_diagram.proofs.NodeTables.KnownLemmas.{keeps_three, keeps_trans, pairs_kept, pairs_put}
+use Rattle.ps_diagram.proofs.TreeOperations.Joining.{overlay_sides, clash_side, clash_passes}
+use Rattle.ps_diagram.proofs.NodeTables.MadeDiagrams.{fails, gives}
 use Rattle.ps_diagram.proofs.store.Store.+overlaid.Goals as goal
 
 pub returns-in-Some-clause-made : goal.returns-in-Some-clause-made

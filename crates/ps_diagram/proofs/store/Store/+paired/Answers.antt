@@ -3,9 +3,10 @@ use Rattle.ps_diagram.specs.Inner.Kept.{result_for}
 use Rattle.ps_diagram.specs.Inner.Known.{pair_eq}
 use Rattle.ps_diagram.specs.Inner.Chosen.{IsPairOf}
 use Rattle.ps_diagram.specs.Tree.{IsBlind}
-use Rattle.ps_diagram.proofs.KnownLemmas.{keeps_three, keeps_trans, kept, pairs_kept, pairs_put}
-use Rattle.ps_diagram.proofs.Pairing.{adds_as, adds_sides, meet_side, pair_blind, pair_of_more, pair_sides}
-use Rattle.ps_diagram.proofs.MadeDiagrams.{fails, gives}
+use Rattle.ps_diagram.proofs.NodeTables.KnownLemmas.{keeps_three, keeps_trans, kept, pairs_kept, pairs_put}
+use Rattle.ps_diagram.proofs.TreeOperations.Pairing.{adds_as, adds_sides, meet_side, pair_blind, pair_of_more}
+use Rattle.ps_diagram.proofs.TreeOperations.Pairing.{pair_sides}
+use Rattle.ps_diagram.proofs.NodeTables.MadeDiagrams.{fails, gives}
 use Rattle.ps_diagram.proofs.store.Store.+paired.Goals as goal
 
 pub returns-in-Some-clause-made : goal.returns-in-Some-clause-made
@@ -28,7 +29,7 @@ pub test-requires-clause-low_later : goal.test-requires-clause-low_later
 test-requires-clause-low_later t c =
     let s = c.in-Some-split.ensures in
     let low = c.in_ok-low.ensures.made in
-    rw (c.paired-2.ensures.made.keeps.same _ low.held) (pair_blind _ c.as_slice.ensures.unique _ _ _ _
+    rw (c.paired-2.ensures.made.keeps.same _ low.held) (pair_blind _ c.pairs_differ.ensures _ _ _ _
     (pair_of_more c.paired-2.ensures.adds _ _ _ low.leaf) s.first_sides.low_later
     s.second_sides.low_later)
 
@@ -38,7 +39,7 @@ test-requires-clause-high_later t c =
     let b = c.in-Some-split.ensures.second_sides in
     let k = c.paired.ensures.made.keeps in
     let later = IsBlind (c.in-Some-split.split.proposition + 1) in
-    pair_blind _ c.as_slice.ensures.unique _ _ _ _ c.in_ok-high.ensures.made.leaf
+    pair_blind _ c.pairs_differ.ensures _ _ _ _ c.in_ok-high.ensures.made.leaf
     (kept later k a.high_held a.high_later) (kept later k b.high_held b.high_later)
 
 pub returns-in_err-made-clause-made : goal.returns-in_err-made-clause-made

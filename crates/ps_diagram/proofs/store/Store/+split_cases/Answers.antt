@@ -1,8 +1,8 @@
 use Rattle.std.proofs.Common.{arith, true, false}
 use Rattle.std.proofs.lemmas.List.Sorted.{IsPermutation-refl}
-use Rattle.ps_diagram.proofs.KnownLemmas.{keeps_three}
-use Rattle.ps_diagram.proofs.MadeDiagrams.{if_made}
-use Rattle.ps_diagram.proofs.SplitCases.{moved_front, moved_twice, side_from, sides_made}
+use Rattle.ps_diagram.proofs.NodeTables.KnownLemmas.{keeps_three}
+use Rattle.ps_diagram.proofs.NodeTables.MadeDiagrams.{if_made}
+use Rattle.ps_diagram.proofs.TreesFromData.SplitCases.{moved_front, moved_twice, side_from, sides_made}
 use Rattle.ps_diagram.proofs.store.Store.+split_cases.Goals as goal
 
 pub returns-in_default-clause-made : goal.returns-in_default-clause-made

@@ -4,11 +4,11 @@ use Rattle.ps_diagram.specs.Inner.Kept.{result_for}
 use Rattle.ps_diagram.specs.Table.{tree_of}
 use Rattle.ps_diagram.specs.Tree.{IsBlind}
 use Rattle.ps_diagram.specs.Inner.Rests.{test_eq}
-use Rattle.ps_diagram.proofs.Cells.{keeps_refl}
-use Rattle.ps_diagram.proofs.KnownLemmas.{keeps_trans, kept}
-use Rattle.ps_diagram.proofs.Dividing.{tested_same, tested_kept, tested_blind, tests_kept, tests_put}
-use Rattle.ps_diagram.proofs.Dividing.{leading_side, sides_tested}
-use Rattle.ps_diagram.proofs.MadeDiagrams.{fails, gives}
+use Rattle.ps_diagram.proofs.NodeTables.Cells.{keeps_refl}
+use Rattle.ps_diagram.proofs.NodeTables.KnownLemmas.{keeps_trans, kept}
+use Rattle.ps_diagram.proofs.ClassesOfLetters.Dividing.{tested_same, tested_kept, tested_blind, tests_kept, tests_put}
+use Rattle.ps_diagram.proofs.ClassesOfLetters.Dividing.{leading_side, sides_tested}
+use Rattle.ps_diagram.proofs.NodeTables.MadeDiagrams.{fails, gives}
 use Rattle.ps_diagram.proofs.store.Store.+tested.Goals as goal
 
 pub returns-then-eq-clause-made : goal.returns-then-eq-clause-made
@@ -39,8 +39,8 @@ pub test-requires-clause-low_later : goal.test-requires-clause-low_later
 test-requires-clause-low_later t c =
     let s = c.in-Some-split.ensures in
     let m = c.tested-2.ensures.made.keeps in
-    rw (m.same _ c.in_ok-on_low.ensures.made.held) (tested_blind c.allocator.ensures.sound c.args.proposition _ _ _ _
-    (λ f. tested_kept m (c.in_ok-on_low.ensures.made.leaf f)) s.first_sides.low_later s.second_sides.low_later)
+    rw (m.same _ c.in_ok-on_low.ensures.made.held) (tested_blind c.table_is_sound.ensures.sound c.args.proposition
+    _ _ _ _ (λ f. tested_kept m (c.in_ok-on_low.ensures.made.leaf f)) s.first_sides.low_later s.second_sides.low_later)
 
 pub test-requires-clause-high_later : goal.test-requires-clause-high_later
 test-requires-clause-high_later t c =
@@ -48,7 +48,7 @@ test-requires-clause-high_later t c =
     let b = c.in-Some-split.ensures.second_sides in
     let k = c.tested.ensures.made.keeps in
     let later = IsBlind (c.in-Some-split.split.proposition + 1) in
-    tested_blind c.allocator.ensures.sound c.args.proposition _ _ _ _ c.in_ok-on_high.ensures.made.leaf
+    tested_blind c.table_is_sound.ensures.sound c.args.proposition _ _ _ _ c.in_ok-on_high.ensures.made.leaf
     (kept later k a.high_held a.high_later) (kept later k b.high_held b.high_later)
 
 pub returns-in_err-made-clause-made : goal.returns-in_err-made-clause-made

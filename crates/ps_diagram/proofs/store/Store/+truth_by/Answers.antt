@@ -3,10 +3,10 @@ use Rattle.std.proofs.lemmas.Grind.{common_steps}
 use Rattle.ps_label.specs.Expression.{expression}
 use Rattle.ps_label.specs.Truth.{truth}
 use Rattle.ps_label.proofs.OperandLists.{expression-Both, expression-Either}
-use Rattle.ps_diagram.proofs.KnownLemmas.{keeps_three, keeps_trans}
-use Rattle.ps_diagram.proofs.MadeDiagrams.{after}
-use Rattle.ps_diagram.proofs.Truths.{drop_is, opposite_of}
-use Rattle.ps_diagram.proofs.Unions.{no_operands, operands_more}
+use Rattle.ps_diagram.proofs.NodeTables.KnownLemmas.{keeps_three, keeps_trans}
+use Rattle.ps_diagram.proofs.NodeTables.MadeDiagrams.{after}
+use Rattle.ps_diagram.proofs.TreeOperations.Truths.{drop_is, opposite_of}
+use Rattle.ps_diagram.proofs.TreeOperations.Unions.{no_operands, operands_more}
 use Rattle.ps_diagram.proofs.store.Store.+truth_by.Goals as goal
 
 pub loop-operand-init : goal.loop-operand-init

@@ -1,7 +1,7 @@
 use Rattle.std.proofs.Common.{true, false, drop}
 use Rattle.ps_label.specs.Expression.{expression}
 use Rattle.ps_label.specs.Truth.{expressions}
-use Rattle.ps_diagram.proofs.Unions.{AreOperands}
+use Rattle.ps_diagram.proofs.TreeOperations.Unions.{AreOperands}
 use Rattle.ps_diagram.proofs.store.Store.+truth_by.Given as goal
 
 abbrev pub decreases-truth_by : goal.decreases-truth_by

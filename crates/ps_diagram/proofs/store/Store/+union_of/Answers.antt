@@ -1,7 +1,7 @@
 use Rattle.std.proofs.Common.{rules, ◌∙◌}
-use Rattle.ps_diagram.proofs.KnownLemmas.{keeps_trans}
-use Rattle.ps_diagram.proofs.Unions.{back_kept, one_truth, union_halves, union_truth}
-use Rattle.ps_diagram.proofs.MadeDiagrams.{by-last}
+use Rattle.ps_diagram.proofs.NodeTables.KnownLemmas.{keeps_trans}
+use Rattle.ps_diagram.proofs.TreeOperations.Unions.{back_kept, one_truth, union_halves, union_truth}
+use Rattle.ps_diagram.proofs.NodeTables.MadeDiagrams.{by-last}
 use Rattle.ps_diagram.proofs.store.Store.+union_of.Goals as goal
 
 pub union_of-requires-2 : goal.union_of-requires-2

@@ -2,9 +2,9 @@ use Rattle.std.proofs.Common.{sym, rules}
 use Rattle.ps_diagram.specs.Inner.Kept.{result_for}
 use Rattle.ps_diagram.specs.Inner.Known.{pair_eq}
 use Rattle.ps_diagram.specs.Inner.Unions.{IsUnion}
-use Rattle.ps_diagram.proofs.KnownLemmas.{keeps_three, keeps_trans, pairs_kept, pairs_put}
-use Rattle.ps_diagram.proofs.Uniting.{truth_high, truth_low, union_sides}
-use Rattle.ps_diagram.proofs.MadeDiagrams.{fails, gives}
+use Rattle.ps_diagram.proofs.NodeTables.KnownLemmas.{keeps_three, keeps_trans, pairs_kept, pairs_put}
+use Rattle.ps_diagram.proofs.TreeOperations.Uniting.{truth_high, truth_low, union_sides}
+use Rattle.ps_diagram.proofs.NodeTables.MadeDiagrams.{fails, gives}
 use Rattle.ps_diagram.proofs.store.Store.+united.Goals as goal
 
 pub returns-in-Some-get-clause-made : goal.returns-in-Some-get-clause-made

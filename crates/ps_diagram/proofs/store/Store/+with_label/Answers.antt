@@ -2,8 +2,8 @@ use Rattle.std.proofs.Common.{arith, rules}
 use Rattle.std.proofs.lemmas.Grind.{common_steps}
 use Rattle.std.proofs.lemmas.List.{drop_all}
 use Rattle.ps_label.proofs.OperandLists.{expression-Both}
-use Rattle.ps_diagram.proofs.Literals.{literals_are_products}
-use Rattle.ps_diagram.proofs.Truths.{drop_is}
+use Rattle.ps_diagram.proofs.TreesFromData.Literals.{literals_are_products}
+use Rattle.ps_diagram.proofs.TreeOperations.Truths.{drop_is}
 use Rattle.ps_diagram.proofs.store.Store.+with_label.Goals as goal
 
 pub loop-operand-init : goal.loop-operand-init

@@ -1,4 +1,4 @@
-use Rattle.ps_diagram.proofs.Pairing.{adds_as, meet_at}
+use Rattle.ps_diagram.proofs.TreeOperations.Pairing.{adds_as, meet_at}
 use Rattle.ps_diagram.proofs.store.Store.both.Goals as goal
 
 pub returns-clause-adds : goal.returns-clause-adds

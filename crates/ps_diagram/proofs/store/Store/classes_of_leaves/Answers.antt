@@ -1,12 +1,12 @@
-use Rattle.std.proofs.Common.{length}
+use Rattle.std.proofs.Common.{length, refl}
 use Rattle.ps_diagram.specs.Inner.LeafTables.{place_in}
 use Rattle.ps_diagram.specs.Inner.Numbered.{AreOf}
-use Rattle.ps_diagram.proofs.Numbering.{nodes_few, placed_all}
+use Rattle.ps_diagram.proofs.ClassesOfLetters.Numbering.{nodes_few, placed_all}
 use Rattle.ps_diagram.proofs.store.Store.classes_of_leaves.Goals as goal
 
 pub listed-requires : goal.listed-requires
 listed-requires c = rw c.as_slice.ensures
-    (nodes_few c.args.self.now c.args.leaves.now c.len.ensures.value c.len.ensures.few c.requires.nodes)
+    (nodes_few c.args.self.now c.args.leaves.now refl c.nodes_are_few.ensures c.requires.nodes)
 
 pub returns-clause-classes : goal.returns-clause-classes
 returns-clause-classes c =

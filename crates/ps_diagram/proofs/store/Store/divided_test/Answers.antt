@@ -3,13 +3,14 @@ use Rattle.std.proofs.lemmas.Bool.{eq-eqb}
 use Rattle.std.proofs.lemmas.Nat.Bits.{shr_and_one}
 use Rattle.ps_label.specs.Truth.{is_in}
 use Rattle.ps_diagram.specs.Table.{tree_of}
-use Rattle.ps_diagram.proofs.Cells.{keeps_refl}
-use Rattle.ps_diagram.proofs.Dividing.{divided_in, leads_kept}
-use Rattle.ps_diagram.proofs.MadeDiagrams.{by-last}
+use Rattle.ps_diagram.proofs.NodeTables.Cells.{keeps_refl}
+use Rattle.ps_diagram.proofs.ClassesOfLetters.Dividing.{divided_in, leads_kept}
+use Rattle.ps_diagram.proofs.NodeTables.MadeDiagrams.{by-last}
 use Rattle.ps_diagram.proofs.store.Store.divided_test.Goals as goal
 
 pub overflow_shr-split : goal.overflow_shr-split
-overflow_shr-split c = let n = c.requires.leading.named in let m = c.allocator.ensures.sound.few in omega (arith, n, m)
+overflow_shr-split c =
+    let n = c.requires.leading.named in let m = c.table_is_sound.ensures.few in omega (arith, n, m)
 
 pub returns-then-split-proposition-eq1-clause-made : goal.returns-then-split-proposition-eq1-clause-made
 returns-then-split-proposition-eq1-clause-made c =

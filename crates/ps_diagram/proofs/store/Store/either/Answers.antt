@@ -1,6 +1,6 @@
 use Rattle.std.proofs.Common.{arith}
 use Rattle.ps_diagram.specs.Labels.{IsOneOrNone}
-use Rattle.ps_diagram.proofs.Mapping.{by_numbers}
+use Rattle.ps_diagram.proofs.TreeOperations.Mapping.{by_numbers}
 use Rattle.ps_diagram.proofs.store.Store.either.Goals as goal
 
 pub united-requires-clause-first_truth : goal.united-requires-clause-first_truth

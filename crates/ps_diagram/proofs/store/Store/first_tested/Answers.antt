@@ -1,6 +1,6 @@
 use Rattle.std.proofs.Common.{arith, ◌≡◌, inl, inr}
 use Rattle.std.proofs.lemmas.Bool.{cases_lt}
-use Rattle.ps_diagram.proofs.Alone.{bit_false}
+use Rattle.ps_diagram.proofs.TreesFromData.Alone.{bit_false}
 use Rattle.ps_diagram.proofs.store.Store.first_tested.Goals as goal
 
 pub loop-proposition-preserved : goal.loop-proposition-preserved

@@ -1,5 +1,5 @@
 use Rattle.std.proofs.Common.{◌≡◌, ◌^◌, arith, length, min, refl}
-use Rattle.ps_diagram.proofs.Halving.{all_tests, half_leads, half_row}
+use Rattle.ps_diagram.proofs.TreesFromData.Halving.{all_tests, half_leads, half_row}
 use Rattle.ps_diagram.proofs.store.Store.halve.Goals as goal
 
 pub returns-clause-row : goal.returns-clause-row

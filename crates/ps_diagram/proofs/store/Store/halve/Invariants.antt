@@ -1,6 +1,6 @@
 use Rattle.std.proofs.Common.{◌+◌}
 use Rattle.ps_diagram.specs.Table.{Keeps}
-use Rattle.ps_diagram.proofs.Halving.{AreTests}
+use Rattle.ps_diagram.proofs.TreesFromData.Halving.{AreTests}
 use Rattle.ps_diagram.proofs.store.Store.halve.Given as goal
 
 abbrev pub invariant-loop-place : goal.invariant-loop-place

@@ -1,6 +1,6 @@
 use Rattle.std.proofs.Common.{◌≡◌, ◌<◌, true, false, arith, rules}
 use Rattle.std.proofs.lemmas.Nat.{one_shl}
-use Rattle.ps_diagram.proofs.Hiding.{bit_not_zero, test_least, test_whether}
+use Rattle.ps_diagram.proofs.TreeOperations.Hiding.{bit_not_zero, test_least, test_whether}
 use Rattle.ps_diagram.proofs.store.Store.hidden_test.Goals as goal
 
 pub returns-then-not-hiding : goal.returns-then-not-hiding

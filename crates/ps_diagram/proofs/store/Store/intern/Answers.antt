@@ -1,6 +1,6 @@
 use Rattle.std.proofs.Common.{◌≡◌, sym, ◌∙◌, ap}
 use Rattle.ps_diagram.specs.Table.{Table, tree_in}
-use Rattle.ps_diagram.proofs.Cells.{Interned, interned}
+use Rattle.ps_diagram.proofs.NodeTables.Cells.{Interned, interned}
 use Rattle.ps_diagram.proofs.store.Store.intern.Goals as goal
 
 old : goal.In_ok-place → Table

@@ -1,6 +1,6 @@
 use Rattle.std.proofs.lemmas.Bool.{eqb-true}
 use Rattle.ps_diagram.specs.Table.{tree_of}
-use Rattle.ps_diagram.proofs.Spreading.{below_root, unread}
+use Rattle.ps_diagram.proofs.ClassesOfLetters.Spreading.{below_root, unread}
 use Rattle.ps_diagram.proofs.store.Store.is_shared.Goals as goal
 
 pub returns-then-level-lt64 : goal.returns-then-level-lt64

@@ -1,8 +1,8 @@
 use Rattle.std.specs.List.{slice_get}
 use Rattle.std.proofs.lemmas.Option.{slice_get-get_or}
 use Rattle.ps_diagram.specs.Inner.Rows.{HasLeaf}
-use Rattle.ps_diagram.proofs.Halving.{leaf_nodes_more}
-use Rattle.ps_diagram.proofs.KnownLemmas.{keeps_trans}
+use Rattle.ps_diagram.proofs.TreesFromData.Halving.{leaf_nodes_more}
+use Rattle.ps_diagram.proofs.NodeTables.KnownLemmas.{keeps_trans}
 use Rattle.ps_diagram.proofs.store.Store.leaf_nodes.Goals as goal
 
 pub returns-in_err-constant-clause-keeps : goal.returns-in_err-constant-clause-keeps

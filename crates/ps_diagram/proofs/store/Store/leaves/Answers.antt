@@ -1,4 +1,4 @@
-use Rattle.ps_diagram.proofs.Gathering.{are_leaves}
+use Rattle.ps_diagram.proofs.ClassesOfLetters.Gathering.{are_leaves}
 use Rattle.ps_diagram.proofs.store.Store.leaves.Goals as goal
 
 pub returns : goal.returns

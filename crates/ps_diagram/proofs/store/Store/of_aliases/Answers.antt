@@ -3,8 +3,8 @@ use Rattle.ps_label.specs.declared.label.Label.{Label}
 use Rattle.ps_label.specs.Truth.{alias_truths, expressions}
 use Rattle.ps_diagram.specs.Labels.{HaveTruths, one_where}
 use Rattle.ps_diagram.specs.Table.{leaf_of}
-use Rattle.ps_diagram.proofs.KnownLemmas.{keeps_trans}
-use Rattle.ps_diagram.proofs.Truths.{truths_push, alias_truth, drop_is}
+use Rattle.ps_diagram.proofs.NodeTables.KnownLemmas.{keeps_trans}
+use Rattle.ps_diagram.proofs.TreeOperations.Truths.{truths_push, alias_truth, drop_is}
 use Rattle.ps_diagram.proofs.store.Store.of_aliases.Goals as goal
 
 pub returns-in_err-node-clause-keeps : goal.returns-in_err-node-clause-keeps

@@ -1,6 +1,6 @@
 use Rattle.std.proofs.Common.{◌∙◌}
-use Rattle.ps_diagram.proofs.MadeDiagrams.{if_made}
-use Rattle.ps_diagram.proofs.SplitCases.{at_letter}
+use Rattle.ps_diagram.proofs.NodeTables.MadeDiagrams.{if_made}
+use Rattle.ps_diagram.proofs.TreesFromData.SplitCases.{at_letter}
 use Rattle.ps_diagram.proofs.store.Store.of_cases.Goals as goal
 
 pub split_cases-requires-clause-constant : goal.split_cases-requires-clause-constant

@@ -3,9 +3,9 @@ use Rattle.std.specs.Prelude.{◌&&◌}
 use Rattle.ps_label.specs.Expression.{literal_expressions, operands_in}
 use Rattle.ps_label.specs.Truth.{all_true}
 use Rattle.ps_diagram.specs.Labels.{leaf_where}
-use Rattle.ps_diagram.proofs.Cells.{keeps_refl}
-use Rattle.ps_diagram.proofs.MadeDiagrams.{by-last}
-use Rattle.ps_diagram.proofs.Truths.{leaf_one}
+use Rattle.ps_diagram.proofs.NodeTables.Cells.{keeps_refl}
+use Rattle.ps_diagram.proofs.NodeTables.MadeDiagrams.{by-last}
+use Rattle.ps_diagram.proofs.TreeOperations.Truths.{leaf_one}
 use Rattle.ps_diagram.proofs.store.Store.of_conjunction.Goals as goal
 
 pub returns : goal.returns

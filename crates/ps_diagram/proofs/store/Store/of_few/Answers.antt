@@ -1,5 +1,5 @@
 use Rattle.std.proofs.Common.{ℕ, IfOk, Err, Ok, Result, sym}
-use Rattle.ps_diagram.proofs.SplitCases.{one_made}
+use Rattle.ps_diagram.proofs.TreesFromData.SplitCases.{one_made}
 use Rattle.ps_diagram.proofs.store.Store.of_few.Goals as goal
 
 both_ok : {E : Type 0} {P Q R : ℕ → Type 0} (result : Result ℕ E) → ((node : ℕ) → P node → Q node → R node) →

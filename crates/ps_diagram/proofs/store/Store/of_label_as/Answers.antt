@@ -2,9 +2,9 @@ use Rattle.std.proofs.Common.{◌∙◌, ap}
 use Rattle.std.specs.Prelude.{option_map}
 use Rattle.ps_label.specs.Expression.{expression}
 use Rattle.ps_label.specs.Truth.{alias_truths, label_truth, truth}
-use Rattle.ps_diagram.proofs.KnownLemmas.{keeps_trans}
-use Rattle.ps_diagram.proofs.Truths.{guarded_is, truths_kept}
-use Rattle.ps_diagram.proofs.MadeDiagrams.{by-last}
+use Rattle.ps_diagram.proofs.NodeTables.KnownLemmas.{keeps_trans}
+use Rattle.ps_diagram.proofs.TreeOperations.Truths.{guarded_is, truths_kept}
+use Rattle.ps_diagram.proofs.NodeTables.MadeDiagrams.{by-last}
 use Rattle.ps_diagram.proofs.store.Store.of_label_as.Goals as goal
 
 pub truth_by-requires-clause-aliases : goal.truth_by-requires-clause-aliases

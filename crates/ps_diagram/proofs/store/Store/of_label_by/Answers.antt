@@ -1,8 +1,8 @@
 use Rattle.std.proofs.Common.{◌∙◌}
 use Rattle.ps_label.specs.Expression.{expression}
 use Rattle.ps_label.specs.Truth.{alias_truths, label_truth, truth}
-use Rattle.ps_diagram.proofs.Truths.{leaf_one, truths_kept}
-use Rattle.ps_diagram.proofs.MadeDiagrams.{by-last}
+use Rattle.ps_diagram.proofs.TreeOperations.Truths.{leaf_one, truths_kept}
+use Rattle.ps_diagram.proofs.NodeTables.MadeDiagrams.{by-last}
 use Rattle.ps_diagram.proofs.store.Store.of_label_by.Goals as goal
 
 pub truth_by-requires-clause-aliases : goal.truth_by-requires-clause-aliases

@@ -1,8 +1,8 @@
 use Rattle.std.proofs.Common.{◌≡◌, ◌-◌, ◌∙◌, None, arith, refl}
 use Rattle.ps_diagram.specs.Inner.Rows.{HasLeaf}
-use Rattle.ps_diagram.proofs.Halving.{first_row, first_leads, has_leaf_kept}
-use Rattle.ps_diagram.proofs.KnownLemmas.{keeps_trans}
-use Rattle.ps_diagram.proofs.MadeDiagrams.{by-last}
+use Rattle.ps_diagram.proofs.TreesFromData.Halving.{first_row, first_leads, has_leaf_kept}
+use Rattle.ps_diagram.proofs.NodeTables.KnownLemmas.{keeps_trans}
+use Rattle.ps_diagram.proofs.NodeTables.MadeDiagrams.{by-last}
 use Rattle.ps_diagram.proofs.store.Store.of_leaves.Goals as goal
 
 pub joined-requires-clause-row : goal.joined-requires-clause-row

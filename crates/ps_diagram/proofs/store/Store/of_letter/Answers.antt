@@ -1,7 +1,7 @@
 use Rattle.std.proofs.Common.{ℕ, ◌≡◌, ◌<◌, ◌≤◌, Bool, true, false, None, arith}
 use Rattle.ps_diagram.specs.Tree.{leaf_at}
-use Rattle.ps_diagram.proofs.Alone.{alone_next, bit_true, bit_false, alone_end}
-use Rattle.ps_diagram.proofs.KnownLemmas.{keeps_trans, kept}
+use Rattle.ps_diagram.proofs.TreesFromData.Alone.{alone_next, bit_true, bit_false, alone_end}
+use Rattle.ps_diagram.proofs.NodeTables.KnownLemmas.{keeps_trans, kept}
 use Rattle.ps_diagram.proofs.store.Store.of_letter.Goals as goal
 
 pub loop-proposition-preserved-in_ok-node-2 : goal.loop-proposition-preserved-in_ok-node-2

@@ -1,7 +1,7 @@
 use Rattle.std.proofs.Common.{◌≡◌, ℕ, Bool, None}
 use Rattle.ps_diagram.specs.Tree.{leaf_at}
 use Rattle.ps_diagram.specs.Table.{IsNode, Keeps, tree_of}
-use Rattle.ps_diagram.proofs.Alone.{IsAlone}
+use Rattle.ps_diagram.proofs.TreesFromData.Alone.{IsAlone}
 use Rattle.ps_diagram.proofs.store.Store.of_letter.Given as goal
 
 abbrev pub invariant-loop-proposition : goal.invariant-loop-proposition

@@ -1,8 +1,8 @@
 use Rattle.std.proofs.Common.{arith, ap, get_or, sym, ◌∙◌}
 use Rattle.std.proofs.lemmas.List.Elements.{Contains-get_or}
 use Rattle.ps_diagram.specs.declared.cases.Case.{Case}
-use Rattle.ps_diagram.proofs.CaseLists.{no_case}
-use Rattle.ps_diagram.proofs.SplitCases.{untested_made}
+use Rattle.ps_diagram.proofs.TreesFromData.CaseLists.{no_case}
+use Rattle.ps_diagram.proofs.TreesFromData.SplitCases.{untested_made}
 use Rattle.ps_diagram.proofs.store.Store.of_untested.Goals as goal
 
 pub returns-clause-made : goal.returns-clause-made

@@ -1,5 +1,5 @@
 use Rattle.std.proofs.lemmas.Result.{IfErr-weaker}
-use Rattle.ps_diagram.proofs.Clashing.{tells_clash}
+use Rattle.ps_diagram.proofs.TreeOperations.Clashing.{tells_clash}
 use Rattle.ps_diagram.proofs.store.Store.overlay.Goals as goal
 
 pub returns-clause-clash : goal.returns-clause-clash

@@ -1,6 +1,6 @@
 use Rattle.std.proofs.Common.{sym}
 use Rattle.ps_diagram.specs.Letters.{assignment}
-use Rattle.ps_diagram.proofs.Pairing.{adds_one}
+use Rattle.ps_diagram.proofs.TreeOperations.Pairing.{adds_one}
 use Rattle.ps_diagram.proofs.store.Store.paired_leaves.Goals as goal
 
 pub returns-clause-adds : goal.returns-clause-adds

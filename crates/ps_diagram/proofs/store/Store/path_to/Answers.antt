@@ -1,5 +1,5 @@
 use Rattle.std.proofs.Common.{sym}
-use Rattle.ps_diagram.proofs.Gathering.{path_none, path_some}
+use Rattle.ps_diagram.proofs.ClassesOfLetters.Gathering.{path_none, path_some}
 use Rattle.ps_diagram.proofs.store.Store.path_to.Goals as goal
 
 pub returns-in-Some : goal.returns-in-Some

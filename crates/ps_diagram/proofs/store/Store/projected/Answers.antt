@@ -1,6 +1,6 @@
-use Rattle.ps_diagram.proofs.Cells.{keeps_refl}
-use Rattle.ps_diagram.proofs.HiddenLetters.{is_projection}
-use Rattle.ps_diagram.proofs.MadeDiagrams.{by-last}
+use Rattle.ps_diagram.proofs.NodeTables.Cells.{keeps_refl}
+use Rattle.ps_diagram.proofs.TreeOperations.HiddenLetters.{is_projection}
+use Rattle.ps_diagram.proofs.NodeTables.MadeDiagrams.{by-last}
 use Rattle.ps_diagram.proofs.store.Store.projected.Goals as goal
 
 pub returns : goal.returns

@@ -1,6 +1,6 @@
 use Rattle.ps_diagram.specs.Tree.{leaf_at}
 use Rattle.ps_diagram.specs.Table.{tree_of}
-use Rattle.ps_diagram.proofs.Uniting.{leaf_wins}
+use Rattle.ps_diagram.proofs.TreeOperations.Uniting.{leaf_wins}
 use Rattle.ps_diagram.proofs.store.Store.united_at_once.Goals as goal
 
 pub returns-in-Leaf-cell-clause-union : goal.returns-in-Leaf-cell-clause-union
