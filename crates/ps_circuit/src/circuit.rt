@@ -116,6 +116,13 @@ impl Circuit {
         &self.parts.outputs
     }
 
+    /// The parts fit: no variable is defined twice, and no gate depends on itself. The prover learns it here.
+    pub fn parts_fit(&self)
+        ensures { IsCircuit self.now }
+    {
+        self.latches();
+    }
+
     /// The gates, in the order of the text or of the parts.
     pub fn gates(&self) -> &[Gate]
         ensures gates { result.now ≡ self.now.gates }

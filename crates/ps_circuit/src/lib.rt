@@ -16,6 +16,7 @@
 //! | `Circuit::inputs`, `latches`, `outputs`, `gates` | its parts |
 //! | `Circuit::order` | an order in which the gates can be evaluated |
 //! | `Circuit::input_name`, `latch_name`, `output_name` | the name of one of these, if it has one |
+//! | `Circuit::parts_fit` | a fact: no variable is defined twice, and no gate depends on itself |
 //! | `EncodeFault::number`, `name`, `AigCause::number`, `name` | the number and name of a fault or cause |
 //! | `one_answer`, `some_answer` | laws: a text has exactly one answer, its circuit or its first error |
 //! | `read_circuit_is_circuit` | a law: what a text describes is a circuit |

@@ -20,13 +20,16 @@ use Rattle.ps_circuit.specs.Texts.{WrongDefinition, Lines, no_lines, next_lines,
 use Rattle.ps_circuit.specs.Texts.{gate_line}
 use Rattle.ps_circuit.specs.Written as written
 use Rattle.ps_circuit.specs.Written.{line, literal_lines, latch_lines, gate_lines}
-use Rattle.ps_circuit.proofs.Adding.{values, LineKind, AddsItem, Added, added_none, added_more, input_kind, latch_kind}
-use Rattle.ps_circuit.proofs.Adding.{output_kind, gate_kind}
-use Rattle.ps_circuit.proofs.CircuitParts.{Lawful}
-use Rattle.ps_circuit.proofs.SignLaws.{AtDigit, Separates}
-use Rattle.ps_circuit.proofs.CircuitTextLaws.{laws_input_line, laws_latch_line, laws_output_line, laws_gate_line, chain_lines}
+use Rattle.ps_circuit.proofs.ReadCircuits.Adding.{values, LineKind, AddsItem, Added, added_none, added_more, input_kind}
+use Rattle.ps_circuit.proofs.ReadCircuits.Adding.{latch_kind}
+use Rattle.ps_circuit.proofs.ReadCircuits.Adding.{output_kind, gate_kind}
+use Rattle.ps_circuit.proofs.ReadCircuits.CircuitParts.{Lawful}
+use Rattle.ps_circuit.proofs.ReadCircuits.SignLaws.{AtDigit, Separates}
+use Rattle.ps_circuit.proofs.ReadCircuits.CircuitTextLaws.{laws_input_line, laws_latch_line, laws_output_line}
+use Rattle.ps_circuit.proofs.ReadCircuits.CircuitTextLaws.{laws_gate_line, chain_lines}
 use Rattle.ps_circuit.proofs.CircuitRereading.RereadFields.{Rereads, IsGood, reread_then, reread_as, reread_give}
-use Rattle.ps_circuit.proofs.CircuitRereading.RereadLines.{IsNew, reread_input, reread_latch, reread_output, reread_gate}
+use Rattle.ps_circuit.proofs.CircuitRereading.RereadLines.{IsNew, reread_input, reread_latch, reread_output}
+use Rattle.ps_circuit.proofs.CircuitRereading.RereadLines.{reread_gate}
 
 -- ## The literals of a circuit
 

@@ -17,24 +17,25 @@ use Rattle.ps_text.specs.Answers.{Stream, next_of, first_of, signs}
 use Rattle.ps_text.specs.Parts.{NoBad, give, then_by, mapped}
 use Rattle.ps_text.specs.Readers.{Reads}
 use Rattle.ps_text.specs.Runs.{AllOf, StopsBefore}
-use Rattle.ps_text.proofs.Decimals.{number_text}
-use Rattle.ps_text.proofs.Simple.{same_some, laws_give}
-use Rattle.ps_text.proofs.Covered.{Avoids}
-use Rattle.ps_text.proofs.Exits.{reads_give, reads_mapped, reads_then, reads_next}
-use Rattle.ps_text.proofs.Branches.{Stands, reads_as, right_otherwise, left_otherwise}
+use Rattle.ps_text.proofs.BytesAndDigits.Decimals.{number_text}
+use Rattle.ps_text.proofs.Combinators.Simple.{same_some, laws_give}
+use Rattle.ps_text.proofs.Combinators.Covered.{Avoids}
+use Rattle.ps_text.proofs.ParsedAnswers.Exits.{reads_give, reads_mapped, reads_then, reads_next}
+use Rattle.ps_text.proofs.ParsedAnswers.Branches.{Stands, reads_as, right_otherwise, left_otherwise}
 use Rattle.ps_circuit.specs.declared.number.Number.{Number}
 use Rattle.ps_circuit.specs.declared.fault.AigCause.{AigCause}
 use Rattle.ps_text.specs.Bytes.{Seen, pieces_at, take_byte, byte, word, is_digit, is_space, NoBadRun, run}
 use Rattle.ps_circuit.specs.Signs.{Field, number, gap, newline, line_end, more}
 use Rattle.ps_circuit.specs.Texts.{field}
 use Rattle.ps_text.specs.Cursors.{Passes, stream_offset}
-use Rattle.ps_circuit.proofs.CircuitParts.{Odd, Judges, Chain}
-use Rattle.ps_text.proofs.Bytes.Runs.{run_reads}
-use Rattle.ps_circuit.proofs.CircuitTextLaws.{chain_field}
-use Rattle.ps_text.proofs.Bytes.Single.{At, byte_taken}
-use Rattle.ps_text.proofs.Bytes.Lawful.{chain_word}
-use Rattle.ps_circuit.proofs.SignLaws.{AtSpace, AtDigit, laws_gap, space_newline, ends_here, laws_ends_here}
-use Rattle.ps_circuit.proofs.SignLaws.{chain_line_end, chain_gap_more}
+use Rattle.ps_circuit.proofs.ReadCircuits.CircuitParts.{Odd, Judges, Chain}
+use Rattle.ps_text.proofs.BytesAndDigits.Bytes.Runs.{run_reads}
+use Rattle.ps_circuit.proofs.ReadCircuits.CircuitTextLaws.{chain_field}
+use Rattle.ps_text.proofs.BytesAndDigits.Bytes.Single.{At, byte_taken}
+use Rattle.ps_text.proofs.BytesAndDigits.Bytes.Lawful.{chain_word}
+use Rattle.ps_circuit.proofs.ReadCircuits.SignLaws.{AtSpace, AtDigit, laws_gap, space_newline, ends_here}
+use Rattle.ps_circuit.proofs.ReadCircuits.SignLaws.{laws_ends_here}
+use Rattle.ps_circuit.proofs.ReadCircuits.SignLaws.{chain_line_end, chain_gap_more}
 
 abbrev pub from : ℕ → ℕ → List ℕ → Stream Seen
 from e at text = record { pieces = pieces_at at text; end = e }

@@ -22,16 +22,21 @@ use Rattle.ps_circuit.specs.Texts.{HeaderData, AnyNumber, WrongLiteral, WrongDef
 use Rattle.ps_circuit.specs.Texts.{Lines, add_input, add_latch, add_output, add_gate, input_line, reset, latch_line}
 use Rattle.ps_circuit.specs.Texts.{output_line, gate_line}
 use Rattle.ps_circuit.specs.Written.{header_line, fields, line, latch_line as latch_line_of}
-use Rattle.ps_circuit.proofs.Judges.{judge_any, judge_most, judge_literal}
-use Rattle.ps_circuit.proofs.CircuitTextLaws.{header_of, chain_sections, chain_header, chain_0, chain_1, chain_2, chain_3}
-use Rattle.ps_circuit.proofs.CircuitTextLaws.{chain_4, is_one, chain_value, chain_reset, chain_input, chain_output}
-use Rattle.ps_circuit.proofs.CircuitTextLaws.{chain_latch, chain_next, chain_gate, chain_first, chain_second}
-use Rattle.ps_circuit.proofs.Adding.{LineKind, AddsItem, input_kind, latch_kind, output_kind, gate_kind, adds_input}
-use Rattle.ps_circuit.proofs.Adding.{adds_latch, adds_output, adds_gate}
-use Rattle.ps_circuit.proofs.NumberLemmas.{section}
-use Rattle.ps_circuit.proofs.LineLemmas.{reset_value}
+use Rattle.ps_circuit.proofs.ReadCircuits.Judges.{judge_any, judge_most, judge_literal}
+use Rattle.ps_circuit.proofs.ReadCircuits.CircuitTextLaws.{header_of, chain_sections, chain_header, chain_0, chain_1}
+use Rattle.ps_circuit.proofs.ReadCircuits.CircuitTextLaws.{chain_2, chain_3}
+use Rattle.ps_circuit.proofs.ReadCircuits.CircuitTextLaws.{chain_4, is_one, chain_value, chain_reset, chain_input}
+use Rattle.ps_circuit.proofs.ReadCircuits.CircuitTextLaws.{chain_output}
+use Rattle.ps_circuit.proofs.ReadCircuits.CircuitTextLaws.{chain_latch, chain_next, chain_gate, chain_first}
+use Rattle.ps_circuit.proofs.ReadCircuits.CircuitTextLaws.{chain_second}
+use Rattle.ps_circuit.proofs.ReadCircuits.Adding.{LineKind, AddsItem, input_kind, latch_kind, output_kind, gate_kind}
+use Rattle.ps_circuit.proofs.ReadCircuits.Adding.{adds_input}
+use Rattle.ps_circuit.proofs.ReadCircuits.Adding.{adds_latch, adds_output, adds_gate}
+use Rattle.ps_circuit.proofs.ReadCircuits.NumberLemmas.{section}
+use Rattle.ps_circuit.proofs.ReadCircuits.LineLemmas.{reset_value}
 use Rattle.ps_circuit.proofs.CircuitRereading.RereadFields.{Rereads, IsGood, reread_then, reread_mapped, reread_as}
-use Rattle.ps_circuit.proofs.CircuitRereading.RereadFields.{reread_give, reread_word, number_then, field_then, reread_end}
+use Rattle.ps_circuit.proofs.CircuitRereading.RereadFields.{reread_give, reread_word, number_then, field_then}
+use Rattle.ps_circuit.proofs.CircuitRereading.RereadFields.{reread_end}
 use Rattle.ps_circuit.proofs.CircuitRereading.RereadFields.{reread_more, reread_no_more}
 
 -- ## The first line

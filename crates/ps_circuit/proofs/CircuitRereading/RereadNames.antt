@@ -10,11 +10,11 @@ use Rattle.std.proofs.lemmas.Bool.{eqb-true}
 use Rattle.std.proofs.lemmas.List.Elements.{All-head, All-tail}
 use Rattle.ps_text.specs.Parts.{many}
 use Rattle.ps_text.specs.Runs.{AllOf}
-use Rattle.ps_text.proofs.Decimals.{number_text}
-use Rattle.ps_text.proofs.Laws.{Laws, Nothing}
-use Rattle.ps_text.proofs.Simple.{none_is_some, laws_give}
-use Rattle.ps_text.proofs.Exits.{reads_next}
-use Rattle.ps_text.proofs.Branches.{right_otherwise, many_reads, many_ends}
+use Rattle.ps_text.proofs.BytesAndDigits.Decimals.{number_text}
+use Rattle.ps_text.proofs.Combinators.Laws.{Laws, Nothing}
+use Rattle.ps_text.proofs.Combinators.Simple.{none_is_some, laws_give}
+use Rattle.ps_text.proofs.ParsedAnswers.Exits.{reads_next}
+use Rattle.ps_text.proofs.ParsedAnswers.Branches.{right_otherwise, many_reads, many_ends}
 use Rattle.ps_circuit.specs.Circuits.{IsSymbolName}
 use Rattle.ps_text.specs.Bytes.{Seen, is_inner}
 use Rattle.ps_circuit.specs.Signs.{rest_of_line}
@@ -22,13 +22,17 @@ use Rattle.ps_circuit.specs.Texts.{Kind, OfInput, OfLatch, OfOutput, NamesData, 
 use Rattle.ps_circuit.specs.Texts.{take_kind, IsBadSymbol, symbol_line, comment}
 use Rattle.ps_circuit.specs.Written as written
 use Rattle.ps_circuit.specs.Written.{symbol_lines}
-use Rattle.ps_circuit.proofs.CircuitParts.{Odd}
-use Rattle.ps_circuit.proofs.Judges.{bad_symbol}
-use Rattle.ps_circuit.proofs.CircuitTextLaws.{letter, symbol_number, chain_letter, chain_number, chain_space, chain_name}
-use Rattle.ps_circuit.proofs.CircuitTextLaws.{laws_symbol_line, chain_c_line}
-use Rattle.ps_circuit.proofs.SignLaws.{AtKind}
-use Rattle.ps_circuit.proofs.CircuitRereading.RereadFields.{from, Reread, Rereads, reread_then, reread_mapped, reread_as}
-use Rattle.ps_circuit.proofs.CircuitRereading.RereadFields.{reread_branch, reread_give, reread_run, number_then, AnyValue}
+use Rattle.ps_circuit.proofs.ReadCircuits.CircuitParts.{Odd}
+use Rattle.ps_circuit.proofs.ReadCircuits.Judges.{bad_symbol}
+use Rattle.ps_circuit.proofs.ReadCircuits.CircuitTextLaws.{letter, symbol_number, chain_letter, chain_number}
+use Rattle.ps_circuit.proofs.ReadCircuits.CircuitTextLaws.{chain_space}
+use Rattle.ps_circuit.proofs.ReadCircuits.CircuitTextLaws.{chain_name}
+use Rattle.ps_circuit.proofs.ReadCircuits.CircuitTextLaws.{laws_symbol_line, chain_c_line}
+use Rattle.ps_circuit.proofs.ReadCircuits.SignLaws.{AtKind}
+use Rattle.ps_circuit.proofs.CircuitRereading.RereadFields.{from, Reread, Rereads, reread_then, reread_mapped}
+use Rattle.ps_circuit.proofs.CircuitRereading.RereadFields.{reread_as}
+use Rattle.ps_circuit.proofs.CircuitRereading.RereadFields.{reread_branch, reread_give, reread_run, number_then}
+use Rattle.ps_circuit.proofs.CircuitRereading.RereadFields.{AnyValue}
 use Rattle.ps_circuit.proofs.CircuitRereading.RereadFields.{reread_byte, reread_newline}
 
 abbrev pub letter_of : Kind → ℕ

@@ -9,7 +9,7 @@ use Rattle.std.specs.Prelude.{decimal}
 use Rattle.std.proofs.lemmas.List.{length-map, get_or-map}
 use Rattle.ps_text.specs.Answers.{signs}
 use Rattle.ps_text.specs.Parts.{many, PartAnswers, IsRead}
-use Rattle.ps_text.proofs.Whole.{answers_ok}
+use Rattle.ps_text.proofs.ParsedAnswers.Whole.{answers_ok}
 use Rattle.ps_circuit.specs.declared.number.Number.{Number}
 use Rattle.ps_circuit.specs.declared.parts.Latch.{Latch}
 use Rattle.ps_circuit.specs.declared.parts.Gate.{Gate}
@@ -21,12 +21,15 @@ use Rattle.ps_circuit.specs.Texts.{Lines, no_lines, OfInput, OfLatch, OfOutput, 
 use Rattle.ps_circuit.specs.Texts.{DraftData, draft_of, symbols, body, circuit_text, IsDefined, ReadsCircuit, meaning}
 use Rattle.ps_circuit.specs.Written.{line, symbol_line as symbol_line_of, header_line, literal_lines, latch_lines}
 use Rattle.ps_circuit.specs.Written.{gate_lines, symbol_lines, text_of}
-use Rattle.ps_circuit.proofs.CircuitTextLaws.{laws_text, first_names, chain_text, chain_inputs, chain_latches, chain_outputs}
-use Rattle.ps_circuit.proofs.CircuitTextLaws.{chain_gates, chain_symbols}
-use Rattle.ps_circuit.proofs.Adding.{values}
+use Rattle.ps_circuit.proofs.ReadCircuits.CircuitTextLaws.{laws_text, first_names, chain_text, chain_inputs}
+use Rattle.ps_circuit.proofs.ReadCircuits.CircuitTextLaws.{chain_latches}
+use Rattle.ps_circuit.proofs.ReadCircuits.CircuitTextLaws.{chain_outputs}
+use Rattle.ps_circuit.proofs.ReadCircuits.CircuitTextLaws.{chain_gates, chain_symbols}
+use Rattle.ps_circuit.proofs.ReadCircuits.Adding.{values}
 use Rattle.ps_circuit.proofs.CircuitRereading.RereadFields.{Rereads, Reread, reread_then, reread_mapped, reread_as}
 use Rattle.ps_circuit.proofs.CircuitRereading.RereadLines.{IsWritable, header_data, reread_header}
-use Rattle.ps_circuit.proofs.CircuitRereading.RereadCircuits.{InputsRead, LatchesRead, OutputsRead, GatesRead, reread_inputs}
+use Rattle.ps_circuit.proofs.CircuitRereading.RereadCircuits.{InputsRead, LatchesRead, OutputsRead, GatesRead}
+use Rattle.ps_circuit.proofs.CircuitRereading.RereadCircuits.{reread_inputs}
 use Rattle.ps_circuit.proofs.CircuitRereading.RereadCircuits.{reread_latches, reread_outputs, reread_gates}
 use Rattle.ps_circuit.proofs.CircuitRereading.RereadNames.{reread_names, reread_no_names, reread_no_comment}
 

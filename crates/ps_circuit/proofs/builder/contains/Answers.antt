@@ -1,5 +1,5 @@
 use Rattle.std.proofs.Common.{◌∙◌}
-use Rattle.ps_circuit.proofs.GateLemmas.{has_gate}
+use Rattle.ps_circuit.proofs.GatesAndLinks.GateLemmas.{has_gate}
 use Rattle.ps_circuit.proofs.builder.contains.Goals as goal
 
 pub returns : goal.returns

@@ -1,4 +1,4 @@
-use Rattle.ps_circuit.proofs.FieldLemmas.{line_end_tells}
+use Rattle.ps_circuit.proofs.ReadCircuits.FieldLemmas.{line_end_tells}
 use Rattle.ps_circuit.proofs.fields.line_end.Goals as goal
 
 pub returns : goal.returns

@@ -1,8 +1,8 @@
 use Rattle.std.proofs.Common.{arith, refl, false}
-use Rattle.ps_text.proofs.Bytes.Single.{refuted}
-use Rattle.ps_text.proofs.Bytes.Lefts.{exits_at, exits_last, reads_last}
-use Rattle.ps_circuit.proofs.SignLaws.{chain_gap_more}
-use Rattle.ps_circuit.proofs.FieldLemmas.{at_line_end, at_gap, past_gap_ends, past_gap_more}
+use Rattle.ps_text.proofs.BytesAndDigits.Bytes.Single.{refuted}
+use Rattle.ps_text.proofs.BytesAndDigits.Bytes.Lefts.{exits_at, exits_last, reads_last}
+use Rattle.ps_circuit.proofs.ReadCircuits.SignLaws.{chain_gap_more}
+use Rattle.ps_circuit.proofs.ReadCircuits.FieldLemmas.{at_line_end, at_gap, past_gap_ends, past_gap_more}
 use Rattle.ps_circuit.proofs.fields.more.Goals as goal
 
 pub returns-in_err-newline : goal.returns-in_err-newline

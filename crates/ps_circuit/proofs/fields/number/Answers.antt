@@ -1,7 +1,7 @@
 use Rattle.std.proofs.Common.{rules}
 use Rattle.ps_text.specs.Digits.{decimal_value}
-use Rattle.ps_text.proofs.Bytes.Moves.{is_empty_true, is_empty_false}
-use Rattle.ps_circuit.proofs.FieldLemmas.{value_saturated}
+use Rattle.ps_text.proofs.BytesAndDigits.Bytes.Moves.{is_empty_true, is_empty_false}
+use Rattle.ps_circuit.proofs.ReadCircuits.FieldLemmas.{value_saturated}
 use Rattle.ps_circuit.proofs.fields.number.Goals as goal
 
 pub returns-then-is_empty : goal.returns-then-is_empty

@@ -1,9 +1,10 @@
 use Rattle.std.proofs.Common.{◌-◌, arith}
 use Rattle.ps_circuit.specs.Texts.{WrongCount}
-use Rattle.ps_text.proofs.Bytes.Lefts.{stops_at, exits_at}
-use Rattle.ps_circuit.proofs.NumberLemmas.{number_none, sections_end, sections_unread, section_unread, sections_ended}
-use Rattle.ps_circuit.proofs.NumberLemmas.{sections_next, count_zero, count_wrong}
-use Rattle.ps_circuit.proofs.CircuitTextLaws.{laws_sections, chain_sections, chain_counted}
+use Rattle.ps_text.proofs.BytesAndDigits.Bytes.Lefts.{stops_at, exits_at}
+use Rattle.ps_circuit.proofs.ReadCircuits.NumberLemmas.{number_none, sections_end, sections_unread, section_unread}
+use Rattle.ps_circuit.proofs.ReadCircuits.NumberLemmas.{sections_ended}
+use Rattle.ps_circuit.proofs.ReadCircuits.NumberLemmas.{sections_next, count_zero, count_wrong}
+use Rattle.ps_circuit.proofs.ReadCircuits.CircuitTextLaws.{laws_sections, chain_sections, chain_counted}
 use Rattle.ps_circuit.proofs.header.+sections.Goals as goal
 
 pub returns-then-left-eq0 : goal.returns-then-left-eq0

@@ -1,4 +1,4 @@
-use Rattle.ps_circuit.proofs.NumberLemmas.{count_reads, count_fails}
+use Rattle.ps_circuit.proofs.ReadCircuits.NumberLemmas.{count_reads, count_fails}
 use Rattle.ps_circuit.proofs.header.count.Goals as goal
 
 pub returns-in_err-count : goal.returns-in_err-count

@@ -1,6 +1,6 @@
 use Rattle.std.proofs.Common.{arith}
-use Rattle.ps_circuit.proofs.Judges.{judge_most}
-use Rattle.ps_circuit.proofs.NumberLemmas.{most_reads, most_wrong, field_none}
+use Rattle.ps_circuit.proofs.ReadCircuits.Judges.{judge_most}
+use Rattle.ps_circuit.proofs.ReadCircuits.NumberLemmas.{most_reads, most_wrong, field_none}
 use Rattle.ps_circuit.proofs.header.most.Goals as goal
 
 pub returns-in_err-most-clause-exact : goal.returns-in_err-most-clause-exact

@@ -1,8 +1,10 @@
 use Rattle.std.proofs.Common.{arith, refl}
-use Rattle.ps_text.proofs.Bytes.Lefts.{past, stops_at, stops_last, reads_last}
-use Rattle.ps_circuit.proofs.CircuitTextLaws.{chain_header, chain_0, chain_1, chain_2, chain_3, chain_4, header_of}
-use Rattle.ps_circuit.proofs.NumberLemmas.{header_exit, header_unread, past_most, past_inputs, past_latches}
-use Rattle.ps_circuit.proofs.NumberLemmas.{past_outputs, past_gates}
+use Rattle.ps_text.proofs.BytesAndDigits.Bytes.Lefts.{past, stops_at, stops_last, reads_last}
+use Rattle.ps_circuit.proofs.ReadCircuits.CircuitTextLaws.{chain_header, chain_0, chain_1, chain_2, chain_3, chain_4}
+use Rattle.ps_circuit.proofs.ReadCircuits.CircuitTextLaws.{header_of}
+use Rattle.ps_circuit.proofs.ReadCircuits.NumberLemmas.{header_exit, header_unread, past_most, past_inputs}
+use Rattle.ps_circuit.proofs.ReadCircuits.NumberLemmas.{past_latches}
+use Rattle.ps_circuit.proofs.ReadCircuits.NumberLemmas.{past_outputs, past_gates}
 use Rattle.ps_circuit.proofs.header.read_header.Goals as goal
 
 pub returns-in_err-word : goal.returns-in_err-word

@@ -1,6 +1,6 @@
 use Rattle.std.proofs.Common.{arith, ◌∙◌, sym}
 use Rattle.ps_ids.proofs.Members.{Contains-any, Contains-none}
-use Rattle.ps_circuit.proofs.ReadingLemmas.{adds_variable}
+use Rattle.ps_circuit.proofs.ReadCircuits.ReadingLemmas.{adds_variable}
 use Rattle.ps_circuit.proofs.lines.adds.Goals as goal
 
 pub push-requires : goal.push-requires

@@ -2,10 +2,10 @@ use Rattle.std.proofs.Common.{arith, ◌∙◌, Ok, ap}
 use Rattle.ps_circuit.specs.Literals.{variable}
 use Rattle.ps_circuit.specs.Texts.{WrongDefinition}
 use Rattle.ps_circuit.specs.Inner.Reading.{AddsVariable}
-use Rattle.ps_text.proofs.Bytes.Single.{refuted}
-use Rattle.ps_circuit.proofs.NumberLemmas.{number_none}
-use Rattle.ps_circuit.proofs.LineLemmas.{definition_reads, definition_wrong, definition_twice}
-use Rattle.ps_circuit.proofs.ReadingLemmas.{defines_one, at_true}
+use Rattle.ps_text.proofs.BytesAndDigits.Bytes.Single.{refuted}
+use Rattle.ps_circuit.proofs.ReadCircuits.NumberLemmas.{number_none}
+use Rattle.ps_circuit.proofs.ReadCircuits.LineLemmas.{definition_reads, definition_wrong, definition_twice}
+use Rattle.ps_circuit.proofs.ReadCircuits.ReadingLemmas.{defines_one, at_true}
 use Rattle.ps_circuit.proofs.lines.definition.Goals as goal
 
 pub returns-in_err-number-clause-exact : goal.returns-in_err-number-clause-exact

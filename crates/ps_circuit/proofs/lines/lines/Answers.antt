@@ -2,9 +2,9 @@ use Rattle.std.proofs.Common.{rules, arith, []}
 use Rattle.ps_text.specs.Parts.{times}
 use Rattle.ps_circuit.specs.Inner.Reading.{lines_of}
 use Rattle.ps_text.specs.Faults.{found_of}
-use Rattle.ps_text.proofs.Exits.{exits}
+use Rattle.ps_text.proofs.ParsedAnswers.Exits.{exits}
 use Rattle.ps_circuit.specs.Signs.{aig_causes}
-use Rattle.ps_circuit.proofs.LineLemmas.{lining_from, lining_next, lining_fails, lining_ends}
+use Rattle.ps_circuit.proofs.ReadCircuits.LineLemmas.{lining_from, lining_next, lining_fails, lining_ends}
 use Rattle.ps_circuit.proofs.lines.lines.Goals as goal
 
 pub loop-init : goal.loop-init

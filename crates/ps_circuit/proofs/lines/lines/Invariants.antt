@@ -1,6 +1,6 @@
 use Rattle.std.proofs.Common.{[]}
 use Rattle.ps_circuit.specs.Inner.Reading.{lines_of}
-use Rattle.ps_circuit.proofs.LineLemmas.{Lining}
+use Rattle.ps_circuit.proofs.ReadCircuits.LineLemmas.{Lining}
 use Rattle.ps_circuit.proofs.lines.lines.Given as goal
 
 abbrev pub invariant-loop : goal.invariant-loop

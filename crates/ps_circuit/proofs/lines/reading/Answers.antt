@@ -1,11 +1,11 @@
 use Rattle.std.proofs.Common.{arith}
 use Rattle.ps_circuit.specs.Texts.{WrongLiteral, field}
 use Rattle.ps_text.specs.Faults.{found_of}
-use Rattle.ps_text.proofs.Exits.{exits}
+use Rattle.ps_text.proofs.ParsedAnswers.Exits.{exits}
 use Rattle.ps_circuit.specs.Signs.{aig_causes}
-use Rattle.ps_circuit.proofs.Judges.{judge_literal}
-use Rattle.ps_circuit.proofs.NumberLemmas.{field_none}
-use Rattle.ps_circuit.proofs.LineLemmas.{reading_reads, reading_wrong}
+use Rattle.ps_circuit.proofs.ReadCircuits.Judges.{judge_literal}
+use Rattle.ps_circuit.proofs.ReadCircuits.NumberLemmas.{field_none}
+use Rattle.ps_circuit.proofs.ReadCircuits.LineLemmas.{reading_reads, reading_wrong}
 use Rattle.ps_circuit.proofs.lines.reading.Goals as goal
 
 pub returns-in_err-number-clause-exact : goal.returns-in_err-number-clause-exact

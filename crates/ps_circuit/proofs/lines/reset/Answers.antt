@@ -1,9 +1,10 @@
 use Rattle.std.proofs.Common.{arith, refl}
 use Rattle.ps_circuit.specs.Texts.{WrongReset}
-use Rattle.ps_text.proofs.Bytes.Lefts.{past, stops_at, exits_at, exits_last, reads_last}
-use Rattle.ps_circuit.proofs.NumberLemmas.{number_none}
-use Rattle.ps_circuit.proofs.CircuitTextLaws.{is_one, chain_value, chain_reset}
-use Rattle.ps_circuit.proofs.LineLemmas.{reset_unread, reset_none, past_more, reset_unset, reset_wrong, reset_good}
+use Rattle.ps_text.proofs.BytesAndDigits.Bytes.Lefts.{past, stops_at, exits_at, exits_last, reads_last}
+use Rattle.ps_circuit.proofs.ReadCircuits.NumberLemmas.{number_none}
+use Rattle.ps_circuit.proofs.ReadCircuits.CircuitTextLaws.{is_one, chain_value, chain_reset}
+use Rattle.ps_circuit.proofs.ReadCircuits.LineLemmas.{reset_unread, reset_none, past_more, reset_unset, reset_wrong}
+use Rattle.ps_circuit.proofs.ReadCircuits.LineLemmas.{reset_good}
 use Rattle.ps_circuit.proofs.lines.reset.Goals as goal
 
 pub returns-in_err-more : goal.returns-in_err-more

@@ -1,4 +1,4 @@
-use Rattle.ps_circuit.proofs.LinksLemmas.{links-by_variables}
+use Rattle.ps_circuit.proofs.GatesAndLinks.LinksLemmas.{links-by_variables}
 use Rattle.ps_circuit.proofs.links.links_of.Goals as goal
 
 pub returns : goal.returns

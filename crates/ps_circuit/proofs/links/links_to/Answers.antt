@@ -1,7 +1,7 @@
 use Rattle.std.proofs.Common.{◌∙◌, ap}
 use Rattle.ps_circuit.specs.Drafts.{place_in}
 use Rattle.ps_circuit.specs.Literals.{variable}
-use Rattle.ps_circuit.proofs.LinksLemmas.{links_by-more}
+use Rattle.ps_circuit.proofs.GatesAndLinks.LinksLemmas.{links_by-more}
 use Rattle.ps_circuit.proofs.links.links_to.Goals as goal
 
 pub loop-gate-preserved : goal.loop-gate-preserved

@@ -1,5 +1,5 @@
 use Rattle.std.proofs.Common.{◌≡◌, take}
-use Rattle.ps_circuit.proofs.LinksLemmas.{gate_variables}
+use Rattle.ps_circuit.proofs.GatesAndLinks.LinksLemmas.{gate_variables}
 use Rattle.ps_circuit.proofs.links.variables_of.Given as goal
 
 abbrev pub invariant-loop-gate : goal.invariant-loop-gate

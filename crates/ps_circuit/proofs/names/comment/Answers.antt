@@ -1,5 +1,5 @@
 use Rattle.std.proofs.Common.{arith, ◌∙◌, sym}
-use Rattle.ps_circuit.proofs.SymbolLemmas.{comment_none, comment_reads}
+use Rattle.ps_circuit.proofs.ReadCircuits.SymbolLemmas.{comment_none, comment_reads}
 use Rattle.ps_circuit.proofs.names.comment.Goals as goal
 
 pub returns-in-None : goal.returns-in-None

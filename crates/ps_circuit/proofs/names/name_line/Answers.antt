@@ -1,11 +1,12 @@
 use Rattle.std.proofs.Common.{arith, refl}
 use Rattle.ps_circuit.specs.Texts.{AnyNumber}
-use Rattle.ps_text.proofs.Bytes.Lefts.{exits_at, exits_last}
-use Rattle.ps_circuit.proofs.NumberLemmas.{number_any, number_none}
-use Rattle.ps_circuit.proofs.ReadingLemmas.{name_set}
-use Rattle.ps_circuit.proofs.CircuitTextLaws.{chain_number, chain_space, chain_name}
-use Rattle.ps_circuit.proofs.SymbolLemmas.{at_letter, past_no_number, letter_stops, past_number, past_space, past_name}
-use Rattle.ps_circuit.proofs.SymbolLemmas.{symbol_reads, plain_name}
+use Rattle.ps_text.proofs.BytesAndDigits.Bytes.Lefts.{exits_at, exits_last}
+use Rattle.ps_circuit.proofs.ReadCircuits.NumberLemmas.{number_any, number_none}
+use Rattle.ps_circuit.proofs.ReadCircuits.ReadingLemmas.{name_set}
+use Rattle.ps_circuit.proofs.ReadCircuits.CircuitTextLaws.{chain_number, chain_space, chain_name}
+use Rattle.ps_circuit.proofs.ReadCircuits.SymbolLemmas.{at_letter, past_no_number, letter_stops, past_number}
+use Rattle.ps_circuit.proofs.ReadCircuits.SymbolLemmas.{past_space, past_name}
+use Rattle.ps_circuit.proofs.ReadCircuits.SymbolLemmas.{symbol_reads, plain_name}
 use Rattle.ps_circuit.proofs.names.name_line.Goals as goal
 
 pub returns-in_err-number-clause-exact : goal.returns-in_err-number-clause-exact

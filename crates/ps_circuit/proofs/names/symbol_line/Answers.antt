@@ -1,8 +1,8 @@
 use Rattle.std.proofs.Common.{arith, refl}
 use Rattle.ps_circuit.specs.Texts.{OfInput, OfLatch, OfOutput}
 use Rattle.ps_circuit.specs.Inner.Names.{names_data}
-use Rattle.ps_text.proofs.Bytes.Single.{refuted}
-use Rattle.ps_circuit.proofs.SymbolLemmas.{letter_is, symbol_refused}
+use Rattle.ps_text.proofs.BytesAndDigits.Bytes.Single.{refuted}
+use Rattle.ps_circuit.proofs.ReadCircuits.SymbolLemmas.{letter_is, symbol_refused}
 use Rattle.ps_circuit.proofs.names.symbol_line.Goals as goal
 
 pub returns-then-comes-clause-exact : goal.returns-then-comes-clause-exact

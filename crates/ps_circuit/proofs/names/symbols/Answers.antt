@@ -3,9 +3,9 @@ use Rattle.ps_text.specs.Parts.{many}
 use Rattle.ps_circuit.specs.Texts.{symbol_line}
 use Rattle.ps_circuit.specs.Inner.Names.{names_data}
 use Rattle.ps_text.specs.Faults.{found_of}
-use Rattle.ps_text.proofs.Exits.{exits}
+use Rattle.ps_text.proofs.ParsedAnswers.Exits.{exits}
 use Rattle.ps_circuit.specs.Signs.{aig_causes}
-use Rattle.ps_circuit.proofs.SymbolLemmas.{symbol_shrinks, names_next, names_fail, names_end}
+use Rattle.ps_circuit.proofs.ReadCircuits.SymbolLemmas.{symbol_shrinks, names_next, names_fail, names_end}
 use Rattle.ps_circuit.proofs.names.symbols.Goals as goal
 
 pub more-smaller : goal.more-smaller

@@ -1,7 +1,7 @@
 use Rattle.std.proofs.Common.{get_or, length, ap, arith}
 use Rattle.ps_circuit.specs.declared.number.Number.{Number}
 use Rattle.ps_circuit.specs.Texts.{IsDefined}
-use Rattle.ps_circuit.proofs.ReadingLemmas.{known_more, known_all, first_undefined}
+use Rattle.ps_circuit.proofs.ReadCircuits.ReadingLemmas.{known_more, known_all, first_undefined}
 use Rattle.ps_circuit.proofs.reader.all_defined.Goals as goal
 
 abbrev origin : Number

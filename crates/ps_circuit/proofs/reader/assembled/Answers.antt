@@ -1,5 +1,5 @@
 use Rattle.std.proofs.Common.{arith}
-use Rattle.ps_circuit.proofs.ReadingLemmas.{way_within, cyclic_tells}
+use Rattle.ps_circuit.proofs.ReadCircuits.ReadingLemmas.{way_within, cyclic_tells}
 use Rattle.ps_circuit.proofs.reader.assembled.Goals as goal
 
 pub cyclic-requires : goal.cyclic-requires

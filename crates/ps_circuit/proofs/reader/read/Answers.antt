@@ -1,6 +1,6 @@
 use Rattle.std.proofs.Common.{arith, ◌∙◌, length, ap}
 use Rattle.ps_circuit.specs.Inner.Reading.{draft_data}
-use Rattle.ps_circuit.proofs.DraftReading.{answer_fails, answer_undefined, answered, answered_circuit}
+use Rattle.ps_circuit.proofs.ReadCircuits.DraftReading.{answer_fails, answer_undefined, answered, answered_circuit}
 use Rattle.ps_circuit.proofs.reader.read.Goals as goal
 
 pub returns-in_err-parts-clause-exact : goal.returns-in_err-parts-clause-exact

@@ -4,15 +4,21 @@ use Rattle.ps_circuit.specs.declared.parts.Latch.{Latch}
 use Rattle.ps_circuit.specs.Inner.Names.{names_data}
 use Rattle.ps_circuit.specs.Inner.Reading.{lines_of}
 use Rattle.ps_circuit.specs.Texts.{Lines, input_line, latch_line, output_line, gate_line, symbols, HeaderData}
-use Rattle.ps_text.proofs.Bytes.Lefts.{stops_at}
-use Rattle.ps_circuit.proofs.CircuitTextLaws.{laws_input_line, laws_latch_line, laws_output_line, laws_gate_line, body_latches}
-use Rattle.ps_circuit.proofs.CircuitTextLaws.{body_outputs, body_gates, first_names, chain_text, chain_inputs, chain_latches}
-use Rattle.ps_circuit.proofs.CircuitTextLaws.{chain_outputs, chain_gates}
-use Rattle.ps_circuit.proofs.LineLemmas.{is_row}
-use Rattle.ps_circuit.proofs.DraftReading.{Reached, Ahead, numbers, past_header, past_lines, lines_fail, text_unread}
-use Rattle.ps_circuit.proofs.DraftReading.{symbols_fail, all_reads, draft_fails, draft_memory, draft_trails}
-use Rattle.ps_circuit.proofs.DraftReading.{draft_reads, none_named}
-use Rattle.ps_circuit.proofs.DraftLemmas.{each_named, gates_placed, sound_draft}
+use Rattle.ps_text.proofs.BytesAndDigits.Bytes.Lefts.{stops_at}
+use Rattle.ps_circuit.proofs.ReadCircuits.CircuitTextLaws.{laws_input_line, laws_latch_line, laws_output_line}
+use Rattle.ps_circuit.proofs.ReadCircuits.CircuitTextLaws.{laws_gate_line}
+use Rattle.ps_circuit.proofs.ReadCircuits.CircuitTextLaws.{body_latches}
+use Rattle.ps_circuit.proofs.ReadCircuits.CircuitTextLaws.{body_outputs, body_gates, first_names, chain_text}
+use Rattle.ps_circuit.proofs.ReadCircuits.CircuitTextLaws.{chain_inputs}
+use Rattle.ps_circuit.proofs.ReadCircuits.CircuitTextLaws.{chain_latches}
+use Rattle.ps_circuit.proofs.ReadCircuits.CircuitTextLaws.{chain_outputs, chain_gates}
+use Rattle.ps_circuit.proofs.ReadCircuits.LineLemmas.{is_row}
+use Rattle.ps_circuit.proofs.ReadCircuits.DraftReading.{Reached, Ahead, numbers, past_header, past_lines, lines_fail}
+use Rattle.ps_circuit.proofs.ReadCircuits.DraftReading.{text_unread}
+use Rattle.ps_circuit.proofs.ReadCircuits.DraftReading.{symbols_fail, all_reads, draft_fails, draft_memory}
+use Rattle.ps_circuit.proofs.ReadCircuits.DraftReading.{draft_trails}
+use Rattle.ps_circuit.proofs.ReadCircuits.DraftReading.{draft_reads, none_named}
+use Rattle.ps_circuit.proofs.ReadCircuits.DraftLemmas.{each_named, gates_placed, sound_draft}
 use Rattle.ps_circuit.proofs.reader.read_draft.Goals as goal
 use Rattle.ps_circuit.proofs.reader.read_draft.Goals.{After-lines, After-lines-2, After-lines-3, After-lines-4}
 use Rattle.ps_circuit.proofs.reader.read_draft.Goals.{After-symbols}

@@ -1,8 +1,8 @@
 use Rattle.std.proofs.Common.{arith, rules}
 use Rattle.std.proofs.lemmas.Result.{IfOk-weaker}
 use Rattle.ps_circuit.specs.Gates.{chosen_of}
-use Rattle.ps_circuit.proofs.GateLemmas.{chosen_bits, meets-extends, passed_on}
-use Rattle.ps_circuit.proofs.MadeLemmas.{above-first, above-second}
+use Rattle.ps_circuit.proofs.GatesAndLinks.GateLemmas.{chosen_bits, meets-extends, passed_on}
+use Rattle.ps_circuit.proofs.GatesAndLinks.MadeLemmas.{above-first, above-second}
 use Rattle.ps_circuit.proofs.builder.Builder.chosen.Goals as goal
 
 pub returns-in_err-where_true : goal.returns-in_err-where_true

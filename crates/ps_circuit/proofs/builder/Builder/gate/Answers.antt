@@ -4,9 +4,9 @@ use Rattle.std.specs.List.{list_any}
 use Rattle.ps_circuit.specs.contracts.builder.SidesPartialEq.TheImpl as sides_eq
 use Rattle.ps_circuit.specs.Building.{Drafted, AreSides, IsFull, variables_of}
 use Rattle.ps_circuit.specs.Gates.{gate_of, has_sides}
-use Rattle.ps_circuit.proofs.GateLemmas.{Placed, gate_is_at, gates_are, placed, placed-bit, placed-held}
-use Rattle.ps_circuit.proofs.GateLemmas.{true_is_not_false}
-use Rattle.ps_circuit.proofs.MadeLemmas.{made-placed, above-new}
+use Rattle.ps_circuit.proofs.GatesAndLinks.GateLemmas.{Placed, gate_is_at, gates_are, placed, placed-bit, placed-held}
+use Rattle.ps_circuit.proofs.GatesAndLinks.GateLemmas.{true_is_not_false}
+use Rattle.ps_circuit.proofs.GatesAndLinks.MadeLemmas.{made-placed, above-new}
 use Rattle.ps_circuit.proofs.builder.Builder.gate.Goals as goal
 use Rattle.ps_circuit.proofs.builder.Builder.gate.Goals.{In_ok-place}
 use Rattle.ps_circuit.proofs.builder.Builder.gate.Goals.{else-variables-eq-MOST_VARIABLES-via-then-variables-eq-MOST_VARIABLES+else-not-contains}

@@ -1,7 +1,7 @@
 use Rattle.std.proofs.Common.{rules, ℕ, Bool}
 use Rattle.ps_circuit.specs.Building.{MeetsEquations}
 use Rattle.ps_circuit.specs.Gates.{or_of}
-use Rattle.ps_circuit.proofs.GateLemmas.{or_bits}
+use Rattle.ps_circuit.proofs.GatesAndLinks.GateLemmas.{or_bits}
 use Rattle.ps_circuit.proofs.builder.Builder.or.Goals as goal
 
 pub returns : goal.returns

@@ -3,7 +3,7 @@ use Rattle.std.proofs.lemmas.Iterator.{YieldsList-from_range, items_from_collect
 use Rattle.std.proofs.lemmas.Option.{slice_get_within}
 use Rattle.ps_components.specs.Orders.{IsOrder}
 use Rattle.ps_circuit.specs.Circuits.{ReadsGate}
-use Rattle.ps_circuit.proofs.Ordered.{acyclic, order-of_numbers}
+use Rattle.ps_circuit.proofs.GatesAndLinks.Ordered.{acyclic, order-of_numbers}
 use Rattle.ps_circuit.proofs.circuit.Circuit.in_order.Goals as goal
 
 pub invariant_of-result : goal.invariant_of-result

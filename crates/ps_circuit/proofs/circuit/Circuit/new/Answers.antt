@@ -1,6 +1,7 @@
 use Rattle.std.proofs.Common.{arith, refl}
 use Rattle.ps_circuit.specs.Drafts.{data_of}
-use Rattle.ps_circuit.proofs.LinksLemmas.{gates_once, links_within, order-of_links, acyclic-of_links, cyclic-of_links}
+use Rattle.ps_circuit.proofs.GatesAndLinks.LinksLemmas.{gates_once, links_within, order-of_links, acyclic-of_links}
+use Rattle.ps_circuit.proofs.GatesAndLinks.LinksLemmas.{cyclic-of_links}
 use Rattle.ps_circuit.proofs.circuit.Circuit.new.Goals as goal
 
 pub links_of-requires : goal.links_of-requires

@@ -1,6 +1,6 @@
 use Rattle.std.proofs.Common.{refl, arith, length}
 use Rattle.std.proofs.lemmas.Option.{slice_get_read}
-use Rattle.ps_circuit.proofs.LinksLemmas.{side_within}
+use Rattle.ps_circuit.proofs.GatesAndLinks.LinksLemmas.{side_within}
 use Rattle.ps_circuit.proofs.gate_graph.GateGraphGraph.target.Goals as goal
 
 pub returns-then-place-eq0-clause-within : goal.returns-then-place-eq0-clause-within

@@ -1,9 +1,9 @@
 use Rattle.std.proofs.Common.{arith}
 use Rattle.ps_circuit.specs.Inner.Reading.{lines_of}
 use Rattle.ps_circuit.specs.Texts.{add_gate, gate_line}
-use Rattle.ps_text.proofs.Bytes.Lefts.{unread, exits_at, exits_last, reads_last}
-use Rattle.ps_circuit.proofs.CircuitTextLaws.{chain_gate, chain_first, chain_second}
-use Rattle.ps_circuit.proofs.LineLemmas.{past_gate, past_first, past_second}
+use Rattle.ps_text.proofs.BytesAndDigits.Bytes.Lefts.{unread, exits_at, exits_last, reads_last}
+use Rattle.ps_circuit.proofs.ReadCircuits.CircuitTextLaws.{chain_gate, chain_first, chain_second}
+use Rattle.ps_circuit.proofs.ReadCircuits.LineLemmas.{past_gate, past_first, past_second}
 use Rattle.ps_circuit.proofs.lines.GateLineLine.read.Goals as goal
 
 pub returns-in_err-own-clause-exact : goal.returns-in_err-own-clause-exact

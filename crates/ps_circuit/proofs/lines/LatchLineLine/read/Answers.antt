@@ -1,9 +1,9 @@
 use Rattle.std.proofs.Common.{arith}
 use Rattle.ps_circuit.specs.Inner.Reading.{lines_of}
 use Rattle.ps_circuit.specs.Texts.{add_latch, latch_line}
-use Rattle.ps_text.proofs.Bytes.Lefts.{unread, exits_at, exits_last, reads_last}
-use Rattle.ps_circuit.proofs.CircuitTextLaws.{chain_latch, chain_next}
-use Rattle.ps_circuit.proofs.LineLemmas.{past_latch, past_next}
+use Rattle.ps_text.proofs.BytesAndDigits.Bytes.Lefts.{unread, exits_at, exits_last, reads_last}
+use Rattle.ps_circuit.proofs.ReadCircuits.CircuitTextLaws.{chain_latch, chain_next}
+use Rattle.ps_circuit.proofs.ReadCircuits.LineLemmas.{past_latch, past_next}
 use Rattle.ps_circuit.proofs.lines.LatchLineLine.read.Goals as goal
 
 pub returns-in_err-own-clause-exact : goal.returns-in_err-own-clause-exact

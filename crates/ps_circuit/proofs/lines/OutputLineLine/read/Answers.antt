@@ -1,10 +1,10 @@
 use Rattle.std.proofs.Common.{arith}
 use Rattle.ps_circuit.specs.Inner.Reading.{lines_of}
 use Rattle.ps_circuit.specs.Texts.{WrongLiteral, add_output, output_line}
-use Rattle.ps_text.proofs.Bytes.Lefts.{unread, stops_at, exits_at, exits_last, reads_last}
-use Rattle.ps_circuit.proofs.NumberLemmas.{number_none}
-use Rattle.ps_circuit.proofs.CircuitTextLaws.{chain_output}
-use Rattle.ps_circuit.proofs.LineLemmas.{literal_reads, literal_wrong, past_output, output_is}
+use Rattle.ps_text.proofs.BytesAndDigits.Bytes.Lefts.{unread, stops_at, exits_at, exits_last, reads_last}
+use Rattle.ps_circuit.proofs.ReadCircuits.NumberLemmas.{number_none}
+use Rattle.ps_circuit.proofs.ReadCircuits.CircuitTextLaws.{chain_output}
+use Rattle.ps_circuit.proofs.ReadCircuits.LineLemmas.{literal_reads, literal_wrong, past_output, output_is}
 use Rattle.ps_circuit.proofs.lines.OutputLineLine.read.Goals as goal
 
 pub returns-in_err-output-clause-exact : goal.returns-in_err-output-clause-exact

@@ -4,11 +4,12 @@ use Rattle.std.proofs.Common.{refl, sym, ◌∙◌, rules}
 use Rattle.std.proofs.lemmas.Bool.{cases_eq}
 use Rattle.ps_text.specs.Digits.{decimal_value}
 use Rattle.ps_text.specs.Runs.{AllOf, StopsBefore}
-use Rattle.ps_text.proofs.Outcomes.{Judged, good}
-use Rattle.ps_text.proofs.Decisions.{Decided, decide_as, decide_not, decide_both, decide_below, decide_in, judge_none}
-use Rattle.ps_text.proofs.Decisions.{judge_cause, judge_one, judge_as}
-use Rattle.ps_text.proofs.ByteRuns.{same_run}
-use Rattle.ps_text.proofs.Simple.{none_is_some, same_some}
+use Rattle.ps_text.proofs.ParsedAnswers.Outcomes.{Judged, good}
+use Rattle.ps_text.proofs.ParsedAnswers.Decisions.{Decided, decide_as, decide_not, decide_both, decide_below, decide_in}
+use Rattle.ps_text.proofs.ParsedAnswers.Decisions.{judge_none}
+use Rattle.ps_text.proofs.ParsedAnswers.Decisions.{judge_cause, judge_one, judge_as}
+use Rattle.ps_text.proofs.BytesAndDigits.ByteRuns.{same_run}
+use Rattle.ps_text.proofs.Combinators.Simple.{none_is_some, same_some}
 use Rattle.ps_circuit.specs.declared.fault.AigCause.{AigCause}
 use Rattle.ps_circuit.specs.declared.fault.AigCause.TheVariants.{Syntax, Literal, UnsetLatch, Sections}
 use Rattle.ps_circuit.specs.Causes.{cause_number}
@@ -16,8 +17,8 @@ use Rattle.ps_circuit.specs.Circuits.{IsDefinition}
 use Rattle.ps_text.specs.Bytes.{Seen, is_digit}
 use Rattle.ps_circuit.specs.Texts.{AnyNumber, WrongMost, WrongCount, WrongLiteral, WrongDefinition, WrongReset, Kind}
 use Rattle.ps_circuit.specs.Texts.{NamesData, names_of, take_kind, IsBadSymbol}
-use Rattle.ps_text.proofs.Bytes.RunOutcomes.{Spanned, run_of, stops_bytes}
-use Rattle.ps_circuit.proofs.CircuitParts.{Judges}
+use Rattle.ps_text.proofs.BytesAndDigits.Bytes.RunOutcomes.{Spanned, run_of, stops_bytes}
+use Rattle.ps_circuit.proofs.ReadCircuits.CircuitParts.{Judges}
 
 pub syntax_least : (g : AigCause) → cause_number Syntax ≤ cause_number g
 syntax_least g = search rules

@@ -12,8 +12,9 @@ use Rattle.ps_circuit.specs.declared.builder.Sides.{Sides}
 use Rattle.ps_circuit.specs.Building.{Drafted, Extends, variables_of}
 use Rattle.ps_circuit.specs.Literals.{negated}
 use Rattle.ps_circuit.specs.Gates.{Made, has_sides, gate_of, and_of, or_of, chosen_of, mux_of}
-use Rattle.ps_circuit.proofs.GateLemmas.{bool_cases, true_is_not_false, extends-refl, extends-trans, extends-more}
-use Rattle.ps_circuit.proofs.GateLemmas.{same_sides, sides_same, drafted_are, Placed, with_gate}
+use Rattle.ps_circuit.proofs.GatesAndLinks.GateLemmas.{bool_cases, true_is_not_false, extends-refl, extends-trans}
+use Rattle.ps_circuit.proofs.GatesAndLinks.GateLemmas.{extends-more}
+use Rattle.ps_circuit.proofs.GatesAndLinks.GateLemmas.{same_sides, sides_same, drafted_are, Placed, with_gate}
 
 -- making the same gates again, when all of them exist already, adds no gate and returns the same literal
 abbrev pub IsThere : Made → (Drafted → Made) → Drafted → Type 0

@@ -15,15 +15,15 @@ use Rattle.ps_text.specs.Answers.{first_of, signs}
 use Rattle.ps_text.specs.Bytes.{Seen, pieces_at, bytes_of, is_digit}
 use Rattle.ps_text.specs.Parts.{then_by, times, many, mapped}
 use Rattle.ps_text.specs.Runs.{StopsBefore}
-use Rattle.ps_text.proofs.Bytes.Pieces.{bytes_append, bytes_at}
-use Rattle.ps_text.proofs.Simple.{same_some}
+use Rattle.ps_text.proofs.BytesAndDigits.Bytes.Pieces.{bytes_append, bytes_at}
+use Rattle.ps_text.proofs.Combinators.Simple.{same_some}
 use Rattle.ps_circuit.specs.declared.fault.AigCause.{AigCause}
 use Rattle.ps_circuit.specs.declared.number.Number.{Number}
 use Rattle.ps_circuit.specs.Signs.{Field, gap, number}
 use Rattle.ps_circuit.specs.Texts.{field}
 use Rattle.ps_circuit.specs.Inner.Reading.{Grown, none, more}
-use Rattle.ps_circuit.proofs.CircuitParts.{Lawful}
-use Rattle.ps_circuit.proofs.SignLaws.{Separates, separates_digit}
+use Rattle.ps_circuit.proofs.ReadCircuits.CircuitParts.{Lawful}
+use Rattle.ps_circuit.proofs.ReadCircuits.SignLaws.{Separates, separates_digit}
 
 -- each byte of the text has, in the field `behind`, the list of the bytes that follow it
 abbrev pub Placed : List Seen → Type 0

@@ -8,16 +8,17 @@ use Rattle.std.proofs.Common.{◌≡◌, ℕ, ◌⊎◌, Bool, true, false, refl
 use Rattle.std.proofs.lemmas.Bool.{eqb-true}
 use Rattle.ps_text.specs.Parts.{give, then_by, either, mapped}
 use Rattle.ps_text.specs.Digits.{decimal_value}
-use Rattle.ps_text.proofs.Decisions.{judge_none}
-use Rattle.ps_text.proofs.Laws.{Nothing, Apart}
+use Rattle.ps_text.proofs.ParsedAnswers.Decisions.{judge_none}
+use Rattle.ps_text.proofs.Combinators.Laws.{Nothing, Apart}
 use Rattle.ps_circuit.specs.declared.number.Number.{Number}
 use Rattle.ps_circuit.specs.declared.fault.AigCause.{AigCause}
 use Rattle.ps_circuit.specs.Causes.{cause_number}
 use Rattle.ps_text.specs.Bytes.{Seen, is_digit, is_space, is_inner, NoBadRun}
 use Rattle.ps_circuit.specs.Signs.{Field, number_at, number, gap, rest_of_line, newline, line_end, more, by_more}
-use Rattle.ps_text.proofs.Bytes.Single.{At}
-use Rattle.ps_text.proofs.Bytes.Lawful.{byte_of, larger, chained, next, given, mapped_by, either_of, or_nothing, run_by}
-use Rattle.ps_circuit.proofs.CircuitParts.{Lawful, Chain, Judges}
+use Rattle.ps_text.proofs.BytesAndDigits.Bytes.Single.{At}
+use Rattle.ps_text.proofs.BytesAndDigits.Bytes.Lawful.{byte_of, larger, chained, next, given, mapped_by, either_of}
+use Rattle.ps_text.proofs.BytesAndDigits.Bytes.Lawful.{or_nothing, run_by}
+use Rattle.ps_circuit.proofs.ReadCircuits.CircuitParts.{Lawful, Chain, Judges}
 
 -- ## Sets of bytes
 

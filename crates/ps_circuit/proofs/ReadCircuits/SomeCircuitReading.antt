@@ -6,8 +6,8 @@ use Rattle.std.proofs.lemmas.Bool.{cases_eq}
 use Rattle.std.proofs.lemmas.Option.{slice_get-get_or}
 use Rattle.ps_text.specs.Answers.{Found}
 use Rattle.ps_text.specs.Parts.{PartAnswers}
-use Rattle.ps_text.proofs.Outcomes.{some_answer}
-use Rattle.ps_text.proofs.Decisions.{Decided, decide_one, decide_in}
+use Rattle.ps_text.proofs.ParsedAnswers.Outcomes.{some_answer}
+use Rattle.ps_text.proofs.ParsedAnswers.Decisions.{Decided, decide_one, decide_in}
 use Rattle.ps_components.specs.Graphs.{Way}
 use Rattle.ps_components.specs.Orders.{IsFirstOnCycle}
 use Rattle.ps_circuit.specs.declared.number.Number.{Number}
@@ -19,10 +19,10 @@ use Rattle.ps_text.specs.Bytes.{stream_of}
 use Rattle.ps_circuit.specs.Signs.{aig_causes}
 use Rattle.ps_circuit.specs.Texts.{DraftData, circuit_text, IsDefined, IsFirstUndefined, ReadsCircuit, refused}
 use Rattle.ps_circuit.specs.Texts.{undefined, cyclic, meaning}
-use Rattle.ps_circuit.proofs.DraftLemmas.{gates_placed}
-use Rattle.ps_circuit.proofs.GateCycles.{first_cyclic}
-use Rattle.ps_circuit.proofs.ReadingLemmas.{way_within}
-use Rattle.ps_circuit.proofs.CircuitTextLaws.{laws_text}
+use Rattle.ps_circuit.proofs.ReadCircuits.DraftLemmas.{gates_placed}
+use Rattle.ps_circuit.proofs.GatesAndLinks.GateCycles.{first_cyclic}
+use Rattle.ps_circuit.proofs.ReadCircuits.ReadingLemmas.{way_within}
+use Rattle.ps_circuit.proofs.ReadCircuits.CircuitTextLaws.{laws_text}
 
 -- ## The first literal that is not defined
 

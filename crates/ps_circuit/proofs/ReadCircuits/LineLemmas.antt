@@ -7,8 +7,8 @@ use Rattle.std.proofs.Common.{Option, Result, Ok, Err, Contains, refl, subst, in
 use Rattle.ps_text.specs.Answers.{Stream, Found}
 use Rattle.ps_text.specs.Parts.{give, then_by, times, mapped}
 use Rattle.ps_text.specs.Readers.{Reads, Stops, Parses, Carries}
-use Rattle.ps_text.proofs.Exits.{reads_give}
-use Rattle.ps_text.proofs.Branches.{reads_shrinks, times_reads, times_fails, times_fails_later}
+use Rattle.ps_text.proofs.ParsedAnswers.Exits.{reads_give}
+use Rattle.ps_text.proofs.ParsedAnswers.Branches.{reads_shrinks, times_reads, times_fails, times_fails_later}
 use Rattle.ps_circuit.specs.declared.number.Number.{Number}
 use Rattle.ps_circuit.specs.declared.parts.Latch.{Latch}
 use Rattle.ps_circuit.specs.declared.parts.Gate.{Gate}
@@ -25,15 +25,17 @@ use Rattle.ps_circuit.specs.Inner.Cursors.{saturated, NumberIs}
 use Rattle.ps_circuit.specs.Texts.{WrongLiteral, WrongDefinition, WrongReset, field, Lines, add_input, add_latch}
 use Rattle.ps_circuit.specs.Texts.{add_output, add_gate, input_line, reset, latch_line, output_line, gate_line}
 use Rattle.ps_circuit.specs.Inner.Reading.{AddsVariable, Grown, none, more as grow, IsRow, TellsField}
-use Rattle.ps_circuit.proofs.CircuitParts.{Lawful, Left}
-use Rattle.ps_circuit.proofs.Judges.{judge_literal}
-use Rattle.ps_text.proofs.Bytes.Lefts.{unread, past}
-use Rattle.ps_circuit.proofs.FieldExits.{comes, none_comes}
-use Rattle.ps_circuit.proofs.CircuitTextLaws.{is_one, chain_input, chain_output, chain_reset, latch_end, latch_next}
-use Rattle.ps_circuit.proofs.CircuitTextLaws.{chain_next, chain_latch, gate_end, gate_second, gate_first, chain_second}
-use Rattle.ps_circuit.proofs.CircuitTextLaws.{chain_first, chain_gate}
-use Rattle.ps_circuit.proofs.SignLaws.{AtDigit, Separates, separates_digit}
-use Rattle.ps_circuit.proofs.NumberLemmas.{number_small, number_wrong, field_reads, field_fails}
+use Rattle.ps_circuit.proofs.ReadCircuits.CircuitParts.{Lawful, Left}
+use Rattle.ps_circuit.proofs.ReadCircuits.Judges.{judge_literal}
+use Rattle.ps_text.proofs.BytesAndDigits.Bytes.Lefts.{unread, past}
+use Rattle.ps_circuit.proofs.ReadCircuits.FieldExits.{comes, none_comes}
+use Rattle.ps_circuit.proofs.ReadCircuits.CircuitTextLaws.{is_one, chain_input, chain_output, chain_reset, latch_end}
+use Rattle.ps_circuit.proofs.ReadCircuits.CircuitTextLaws.{latch_next}
+use Rattle.ps_circuit.proofs.ReadCircuits.CircuitTextLaws.{chain_next, chain_latch, gate_end, gate_second, gate_first}
+use Rattle.ps_circuit.proofs.ReadCircuits.CircuitTextLaws.{chain_second}
+use Rattle.ps_circuit.proofs.ReadCircuits.CircuitTextLaws.{chain_first, chain_gate}
+use Rattle.ps_circuit.proofs.ReadCircuits.SignLaws.{AtDigit, Separates, separates_digit}
+use Rattle.ps_circuit.proofs.ReadCircuits.NumberLemmas.{number_small, number_wrong, field_reads, field_fails}
 
 -- ## Literals
 

@@ -26,14 +26,15 @@ use Rattle.ps_circuit.specs.Texts.{symbols}
 use Rattle.ps_circuit.specs.Texts.{body, DraftData, draft_of, circuit_text, ReadsCircuit, refused, undefined, cyclic}
 use Rattle.ps_circuit.specs.Texts.{meaning}
 use Rattle.ps_circuit.specs.Inner.Reading.{Defines, AddsInput, AddsLatch, AddsOutput, AddsGate, IsSoundDraft}
-use Rattle.ps_circuit.proofs.DraftLemmas.{gates_placed, sound_draft}
-use Rattle.ps_circuit.proofs.Judges.{decide_definition}
-use Rattle.ps_circuit.proofs.ReadingLemmas.{adds_variable, defines_one}
-use Rattle.ps_circuit.proofs.SoundParts.{Safe, IsRight, Placed, followed_field, followed_number, placed_pieces}
-use Rattle.ps_circuit.proofs.SoundParts.{safe_any}
-use Rattle.ps_circuit.proofs.SoundParts.{safe_before, safe_many, safe_mapped, safe_then, safe_times}
-use Rattle.ps_circuit.proofs.SymbolLemmas.{all_plain}
-use Rattle.ps_circuit.proofs.CircuitTextLaws.{chain_1, chain_first, chain_next, laws_ended}
+use Rattle.ps_circuit.proofs.ReadCircuits.DraftLemmas.{gates_placed, sound_draft}
+use Rattle.ps_circuit.proofs.ReadCircuits.Judges.{decide_definition}
+use Rattle.ps_circuit.proofs.ReadCircuits.ReadingLemmas.{adds_variable, defines_one}
+use Rattle.ps_circuit.proofs.ReadCircuits.SoundParts.{Safe, IsRight, Placed, followed_field, followed_number}
+use Rattle.ps_circuit.proofs.ReadCircuits.SoundParts.{placed_pieces}
+use Rattle.ps_circuit.proofs.ReadCircuits.SoundParts.{safe_any}
+use Rattle.ps_circuit.proofs.ReadCircuits.SoundParts.{safe_before, safe_many, safe_mapped, safe_then, safe_times}
+use Rattle.ps_circuit.proofs.ReadCircuits.SymbolLemmas.{all_plain}
+use Rattle.ps_circuit.proofs.ReadCircuits.CircuitTextLaws.{chain_1, chain_first, chain_next, laws_ended}
 
 -- ## Lines
 

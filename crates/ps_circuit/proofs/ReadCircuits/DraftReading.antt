@@ -15,8 +15,8 @@ use Rattle.std.proofs.lemmas.Result.{err_from_is_err_and}
 use Rattle.ps_text.specs.Answers.{Piece, Stream, Found, offset_of}
 use Rattle.ps_text.specs.Parts.{PartAnswers, then_by, times, many}
 use Rattle.ps_text.specs.Readers.{Reads as ReadsPart, Stops}
-use Rattle.ps_text.proofs.Whole.{answers_ok, answers_fault, answers_trailing}
-use Rattle.ps_text.proofs.Simple.{same_some}
+use Rattle.ps_text.proofs.ParsedAnswers.Whole.{answers_ok, answers_fault, answers_trailing}
+use Rattle.ps_text.proofs.Combinators.Simple.{same_some}
 use Rattle.ps_circuit.specs.declared.reader.Draft.{Draft}
 use Rattle.ps_circuit.specs.Inner.Names.{AreNone, TellsComment}
 use Rattle.ps_circuit.specs.declared.parts.Latch.{Latch}
@@ -35,12 +35,13 @@ use Rattle.ps_circuit.specs.Texts.{HeaderData, header, Lines, no_lines, input_li
 use Rattle.ps_circuit.specs.Texts.{comment, DraftData, draft_of as drafted, symbols, body, circuit_text, IsDefined}
 use Rattle.ps_circuit.specs.Texts.{refused, undefined, cyclic, meaning, IsCircuitAnswer}
 use Rattle.ps_circuit.specs.Inner.Reading.{FoundAnswers, TellsDraft, TellsDefined, TellsCircuit}
-use Rattle.ps_text.proofs.Bytes.Lefts.{unread, past, stops_at, reads_last}
-use Rattle.ps_circuit.proofs.CircuitParts.{Left, Chain}
-use Rattle.ps_text.proofs.Bytes.Single.{Any}
-use Rattle.ps_circuit.proofs.SignLaws.{AtBody}
-use Rattle.ps_circuit.proofs.SymbolLemmas.{comment_other}
-use Rattle.ps_circuit.proofs.CircuitTextLaws.{laws_text, chain_text, chain_symbols, first_names, body_latches}
+use Rattle.ps_text.proofs.BytesAndDigits.Bytes.Lefts.{unread, past, stops_at, reads_last}
+use Rattle.ps_circuit.proofs.ReadCircuits.CircuitParts.{Left, Chain}
+use Rattle.ps_text.proofs.BytesAndDigits.Bytes.Single.{Any}
+use Rattle.ps_circuit.proofs.ReadCircuits.SignLaws.{AtBody}
+use Rattle.ps_circuit.proofs.ReadCircuits.SymbolLemmas.{comment_other}
+use Rattle.ps_circuit.proofs.ReadCircuits.CircuitTextLaws.{laws_text, chain_text, chain_symbols, first_names}
+use Rattle.ps_circuit.proofs.ReadCircuits.CircuitTextLaws.{body_latches}
 
 -- ## From parts to answers
 

@@ -3,7 +3,7 @@ use Rattle.std.proofs.Common.{◌≡◌, Bool, true, false, subst}
 use Rattle.ps_text.specs.Answers.{Stream}
 use Rattle.ps_text.specs.Bytes.{Seen}
 use Rattle.ps_circuit.specs.Signs.{Field, by_more}
-use Rattle.ps_circuit.proofs.CircuitParts.{Left}
+use Rattle.ps_circuit.proofs.ReadCircuits.CircuitParts.{Left}
 
 module _ {V : Type 0} (P Q : Field V) {whole : Field V} {start now : Stream Seen} {b : Bool}
     (l : Left whole start (by_more P Q b) now) where

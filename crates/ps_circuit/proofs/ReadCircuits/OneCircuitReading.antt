@@ -5,8 +5,8 @@ use Rattle.std.proofs.lemmas.List.Elements.{Contains-append_right}
 use Rattle.std.specs.List.{Contains}
 use Rattle.ps_text.specs.Answers.{Found, AreNumbered}
 use Rattle.ps_text.specs.Parts.{PartAnswers, IsWrong}
-use Rattle.ps_text.proofs.OneAnswer.{has_one_answer}
-use Rattle.ps_text.proofs.Splits.{Compared, shorter, same, longer, compared, same_head}
+use Rattle.ps_text.proofs.ParsedAnswers.OneAnswer.{has_one_answer}
+use Rattle.ps_text.proofs.Combinators.Splits.{Compared, shorter, same, longer, compared, same_head}
 use Rattle.ps_circuit.specs.declared.number.Number.{Number}
 use Rattle.ps_circuit.specs.declared.fault.AigCause.{AigCause}
 use Rattle.ps_circuit.specs.declared.fault.AigCause.TheVariants as causes
@@ -18,7 +18,7 @@ use Rattle.ps_text.specs.Bytes.{stream_of}
 use Rattle.ps_circuit.specs.Signs.{aig_causes}
 use Rattle.ps_circuit.specs.Texts.{DraftData, circuit_text, IsDefined, IsFirstUndefined, ReadsCircuit, refused}
 use Rattle.ps_circuit.specs.Texts.{undefined, cyclic, meaning}
-use Rattle.ps_circuit.proofs.CircuitTextLaws.{laws_text}
+use Rattle.ps_circuit.proofs.ReadCircuits.CircuitTextLaws.{laws_text}
 
 abbrev of_number : ℕ → AigCause
 of_number n = if eqb n 61 then causes.Syntax else

@@ -6,8 +6,8 @@ use Rattle.std.proofs.Common.{◌≡◌, ℕ, zero, suc, ◌<◌, ◌≤◌, ◌
 use Rattle.std.proofs.Common.{inl, inr, ◌∙◌, arith, rules}
 use Rattle.std.proofs.lemmas.Bool.{cases_eq, cases_lt}
 use Rattle.std.proofs.lemmas.Option.{slice_get_within}
-use Rattle.ps_text.proofs.Decisions.{Decided, decide_as, decide_both, decide_one}
-use Rattle.ps_text.proofs.Simple.{none_is_some, same_some}
+use Rattle.ps_text.proofs.ParsedAnswers.Decisions.{Decided, decide_as, decide_both, decide_one}
+use Rattle.ps_text.proofs.Combinators.Simple.{none_is_some, same_some}
 use Rattle.ps_components.specs.Graphs.{Way, last, next}
 use Rattle.ps_components.specs.Orders.{IsFirstOnCycle}
 use Rattle.ps_circuit.specs.declared.parts.Gate.{Gate}

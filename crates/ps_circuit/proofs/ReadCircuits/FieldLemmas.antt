@@ -11,22 +11,23 @@ use Rattle.ps_text.specs.Faults.{found_of}
 use Rattle.ps_text.specs.declared.faults.Fault.TheVariants.{Text}
 use Rattle.ps_text.specs.Bytes.{Seen, is_space, is_inner, NoBadRun}
 use Rattle.ps_text.specs.Cursors.{next_byte, stream_offset, Passes}
-use Rattle.ps_text.proofs.Simple.{same_some, laws_give}
-use Rattle.ps_text.proofs.Covered.{Avoids, Enters, enters_read, enters_mapped}
-use Rattle.ps_text.proofs.Exits.{reads_give, then_meets}
-use Rattle.ps_text.proofs.Branches.{left_entered, left_otherwise, right_otherwise, reads_as}
-use Rattle.ps_text.proofs.Bytes.Single.{next_is, avoids, enters_byte}
-use Rattle.ps_text.proofs.Bytes.Runs.{run_reads, run_stops}
-use Rattle.ps_text.proofs.Bytes.Moves.{is_empty_true, is_empty_false, same_place, avoids_run}
+use Rattle.ps_text.proofs.Combinators.Simple.{same_some, laws_give}
+use Rattle.ps_text.proofs.Combinators.Covered.{Avoids, Enters, enters_read, enters_mapped}
+use Rattle.ps_text.proofs.ParsedAnswers.Exits.{reads_give, then_meets}
+use Rattle.ps_text.proofs.ParsedAnswers.Branches.{left_entered, left_otherwise, right_otherwise, reads_as}
+use Rattle.ps_text.proofs.BytesAndDigits.Bytes.Single.{next_is, avoids, enters_byte}
+use Rattle.ps_text.proofs.BytesAndDigits.Bytes.Runs.{run_reads, run_stops}
+use Rattle.ps_text.proofs.BytesAndDigits.Bytes.Moves.{is_empty_true, is_empty_false, same_place, avoids_run}
 use Rattle.ps_circuit.specs.declared.fault.AigCause.{AigCause}
 use Rattle.ps_circuit.specs.declared.fault.AigCause.TheVariants.{Syntax}
 use Rattle.ps_circuit.specs.Causes.{AigFault, cause_number}
 use Rattle.ps_circuit.specs.Signs.{aig_causes, gap, rest_of_line, newline, line_end, more}
 use Rattle.ps_circuit.specs.Inner.Cursors.{Tells, saturated}
-use Rattle.ps_circuit.proofs.CircuitParts.{Odd, Left}
-use Rattle.ps_text.proofs.Bytes.Lefts.{unread, past, branch}
-use Rattle.ps_circuit.proofs.SignLaws.{AtSpace, laws_gap, laws_ends_here, ends_here, gap_more, chain_line_end}
-use Rattle.ps_circuit.proofs.SignLaws.{chain_gap_more, space_newline}
+use Rattle.ps_circuit.proofs.ReadCircuits.CircuitParts.{Odd, Left}
+use Rattle.ps_text.proofs.BytesAndDigits.Bytes.Lefts.{unread, past, branch}
+use Rattle.ps_circuit.proofs.ReadCircuits.SignLaws.{AtSpace, laws_gap, laws_ends_here, ends_here, gap_more}
+use Rattle.ps_circuit.proofs.ReadCircuits.SignLaws.{chain_line_end}
+use Rattle.ps_circuit.proofs.ReadCircuits.SignLaws.{chain_gap_more, space_newline}
 
 pub gap_reads : {old new : Stream Seen} {r : List ℕ} → Passes is_space old new r → 0 < length r → Reads gap old tt new
 unfolding gap

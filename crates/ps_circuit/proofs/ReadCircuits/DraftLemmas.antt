@@ -27,9 +27,11 @@ use Rattle.ps_circuit.specs.Texts.{latch_line, output_line, gate_line, DraftData
 use Rattle.ps_circuit.specs.Inner.Reading.{Defines, IsKnownIn, AddsInput, AddsLatch, AddsOutput, AddsGate, Grown, none}
 use Rattle.ps_circuit.specs.Inner.Reading.{more}
 use Rattle.ps_circuit.specs.Inner.Reading.{IsSoundDraft}
-use Rattle.ps_circuit.proofs.Adding.{values, LineKind, AddsItem, none_more, one_more, input_kind, latch_kind}
-use Rattle.ps_circuit.proofs.Adding.{output_kind, gate_kind, adds_input, adds_latch, adds_output, adds_gate}
-use Rattle.ps_circuit.proofs.ReadingLemmas.{draft_of}
+use Rattle.ps_circuit.proofs.ReadCircuits.Adding.{values, LineKind, AddsItem, none_more, one_more, input_kind}
+use Rattle.ps_circuit.proofs.ReadCircuits.Adding.{latch_kind}
+use Rattle.ps_circuit.proofs.ReadCircuits.Adding.{output_kind, gate_kind, adds_input, adds_latch, adds_output}
+use Rattle.ps_circuit.proofs.ReadCircuits.Adding.{adds_gate}
+use Rattle.ps_circuit.proofs.ReadCircuits.ReadingLemmas.{draft_of}
 
 -- ## Lines
 

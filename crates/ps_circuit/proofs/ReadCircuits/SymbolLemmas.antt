@@ -15,12 +15,13 @@ use Rattle.ps_text.specs.Parts.{StopsAt, times, many}
 use Rattle.ps_text.specs.Readers.{tail, Reads, Stops, Carries}
 use Rattle.ps_text.specs.Digits.{decimal_value}
 use Rattle.ps_text.specs.Runs.{AllOf}
-use Rattle.ps_text.proofs.Simple.{none_is_some, laws_give}
-use Rattle.ps_text.proofs.Laws.{Laws, Nothing}
-use Rattle.ps_text.proofs.Covered.{Avoids, Enters, enters_one, enters_then}
-use Rattle.ps_text.proofs.Exits.{reads_next, stops_bad, reads_give, reads_then}
-use Rattle.ps_text.proofs.Branches.{reads_as, left_entered, right_otherwise, many_ends, many_fails, carries_many}
-use Rattle.ps_text.proofs.Branches.{reads_shrinks}
+use Rattle.ps_text.proofs.Combinators.Simple.{none_is_some, laws_give}
+use Rattle.ps_text.proofs.Combinators.Laws.{Laws, Nothing}
+use Rattle.ps_text.proofs.Combinators.Covered.{Avoids, Enters, enters_one, enters_then}
+use Rattle.ps_text.proofs.ParsedAnswers.Exits.{reads_next, stops_bad, reads_give, reads_then}
+use Rattle.ps_text.proofs.ParsedAnswers.Branches.{reads_as, left_entered, right_otherwise, many_ends, many_fails}
+use Rattle.ps_text.proofs.ParsedAnswers.Branches.{carries_many}
+use Rattle.ps_text.proofs.ParsedAnswers.Branches.{reads_shrinks}
 use Rattle.ps_circuit.specs.declared.number.Number.{Number}
 use Rattle.ps_circuit.specs.declared.fault.AigCause.{AigCause}
 use Rattle.ps_circuit.specs.declared.fault.AigCause.TheVariants.{Syntax}
@@ -35,15 +36,18 @@ use Rattle.ps_circuit.specs.Inner.Cursors.{NumberIs}
 use Rattle.ps_circuit.specs.Texts.{Kind, NamesData, names_of, put_names, add_name, take_kind, IsBadSymbol, symbol_line}
 use Rattle.ps_circuit.specs.Texts.{anything, comment}
 use Rattle.ps_circuit.specs.Inner.Names.{is_kind}
-use Rattle.ps_circuit.proofs.CircuitParts.{Odd, Left}
-use Rattle.ps_circuit.proofs.Judges.{syntax_least, Digits, bad_symbol}
-use Rattle.ps_text.proofs.Bytes.Pieces.{bytes_at}
-use Rattle.ps_text.proofs.Bytes.Single.{stops_here, byte_taken, next_is, byte_reads}
-use Rattle.ps_text.proofs.Bytes.Lefts.{unread, past, stops_at, reads_last}
-use Rattle.ps_circuit.proofs.CircuitTextLaws.{letter, symbol_number, symbol_space, symbol_name, symbol_end, chain_letter}
-use Rattle.ps_circuit.proofs.CircuitTextLaws.{chain_number, chain_space, chain_name, laws_symbol_line, chain_c_line, any_sign}
-use Rattle.ps_circuit.proofs.SignLaws.{AtKind}
-use Rattle.ps_circuit.proofs.NumberLemmas.{number_any}
+use Rattle.ps_circuit.proofs.ReadCircuits.CircuitParts.{Odd, Left}
+use Rattle.ps_circuit.proofs.ReadCircuits.Judges.{syntax_least, Digits, bad_symbol}
+use Rattle.ps_text.proofs.BytesAndDigits.Bytes.Pieces.{bytes_at}
+use Rattle.ps_text.proofs.BytesAndDigits.Bytes.Single.{stops_here, byte_taken, next_is, byte_reads}
+use Rattle.ps_text.proofs.BytesAndDigits.Bytes.Lefts.{unread, past, stops_at, reads_last}
+use Rattle.ps_circuit.proofs.ReadCircuits.CircuitTextLaws.{letter, symbol_number, symbol_space, symbol_name, symbol_end}
+use Rattle.ps_circuit.proofs.ReadCircuits.CircuitTextLaws.{chain_letter}
+use Rattle.ps_circuit.proofs.ReadCircuits.CircuitTextLaws.{chain_number, chain_space, chain_name, laws_symbol_line}
+use Rattle.ps_circuit.proofs.ReadCircuits.CircuitTextLaws.{chain_c_line}
+use Rattle.ps_circuit.proofs.ReadCircuits.CircuitTextLaws.{any_sign}
+use Rattle.ps_circuit.proofs.ReadCircuits.SignLaws.{AtKind}
+use Rattle.ps_circuit.proofs.ReadCircuits.NumberLemmas.{number_any}
 
 -- the list `behind` of the next byte has the bytes that follow this byte in the text
 behind_is : {old new : Stream Seen} {t : Seen} (at : ℕ) {bytes : List ℕ} → IsAhead old → next_of old ≡ Some t →

@@ -6,10 +6,10 @@ use Rattle.std.proofs.Common.{ℕ}
 use Rattle.ps_text.specs.Answers.{Stream}
 use Rattle.ps_text.specs.Outcomes.{HasOutcomes}
 use Rattle.ps_text.specs.Bytes.{Seen}
-use Rattle.ps_text.proofs.Outcomes.{Judged}
-use Rattle.ps_text.proofs.Bytes.Single as bytes
-use Rattle.ps_text.proofs.Bytes.Lawful as lawful
-use Rattle.ps_text.proofs.Bytes.Lefts as lefts
+use Rattle.ps_text.proofs.ParsedAnswers.Outcomes.{Judged}
+use Rattle.ps_text.proofs.BytesAndDigits.Bytes.Single as bytes
+use Rattle.ps_text.proofs.BytesAndDigits.Bytes.Lawful as lawful
+use Rattle.ps_text.proofs.BytesAndDigits.Bytes.Lefts as lefts
 use Rattle.ps_circuit.specs.declared.fault.AigCause.{AigCause}
 use Rattle.ps_circuit.specs.declared.fault.AigCause.TheVariants.{Syntax}
 use Rattle.ps_circuit.specs.Causes.{cause_number}

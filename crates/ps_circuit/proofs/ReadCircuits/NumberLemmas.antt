@@ -8,7 +8,7 @@ use Rattle.ps_text.specs.Answers.{Stream, Found}
 use Rattle.ps_text.specs.Parts.{give, then_by}
 use Rattle.ps_text.specs.Readers.{Reads, Stops}
 use Rattle.ps_text.specs.Digits.{decimal_value}
-use Rattle.ps_text.proofs.Exits.{reads_give, reads_then, stops_first, stops_behind}
+use Rattle.ps_text.proofs.ParsedAnswers.Exits.{reads_give, reads_then, stops_first, stops_behind}
 use Rattle.ps_circuit.specs.declared.number.Number.{Number}
 use Rattle.ps_circuit.specs.declared.sizes.Header.{Header}
 use Rattle.ps_circuit.specs.declared.fault.AigCause.{AigCause}
@@ -22,14 +22,18 @@ use Rattle.ps_text.specs.Faults.{found_of}
 use Rattle.ps_circuit.specs.Inner.Cursors.{Tells, saturated, NumberIs, TellsNumber}
 use Rattle.ps_circuit.specs.Texts.{AnyNumber, WrongMost, WrongCount, sections, field, header}
 use Rattle.ps_circuit.specs.Inner.Reading.{TellsField, TellsCount, TellsHeader}
-use Rattle.ps_text.proofs.Bytes.Runs.{run_reads, run_bad, run_stops}
-use Rattle.ps_text.proofs.Bytes.Lefts.{unread, past}
-use Rattle.ps_circuit.proofs.CircuitParts.{Left, Judges}
-use Rattle.ps_circuit.proofs.FieldExits.{comes, none_comes}
-use Rattle.ps_circuit.proofs.Judges.{judge_any, judge_most}
-use Rattle.ps_circuit.proofs.CircuitTextLaws.{laws_sections, chain_sections, chain_counted, chain_field, chain_header, chain_0}
-use Rattle.ps_circuit.proofs.CircuitTextLaws.{chain_1, chain_2, chain_3, chain_4, header_0, header_1, header_2, header_3}
-use Rattle.ps_circuit.proofs.CircuitTextLaws.{header_4, header_5}
+use Rattle.ps_text.proofs.BytesAndDigits.Bytes.Runs.{run_reads, run_bad, run_stops}
+use Rattle.ps_text.proofs.BytesAndDigits.Bytes.Lefts.{unread, past}
+use Rattle.ps_circuit.proofs.ReadCircuits.CircuitParts.{Left, Judges}
+use Rattle.ps_circuit.proofs.ReadCircuits.FieldExits.{comes, none_comes}
+use Rattle.ps_circuit.proofs.ReadCircuits.Judges.{judge_any, judge_most}
+use Rattle.ps_circuit.proofs.ReadCircuits.CircuitTextLaws.{laws_sections, chain_sections, chain_counted, chain_field}
+use Rattle.ps_circuit.proofs.ReadCircuits.CircuitTextLaws.{chain_header}
+use Rattle.ps_circuit.proofs.ReadCircuits.CircuitTextLaws.{chain_0}
+use Rattle.ps_circuit.proofs.ReadCircuits.CircuitTextLaws.{chain_1, chain_2, chain_3, chain_4, header_0, header_1}
+use Rattle.ps_circuit.proofs.ReadCircuits.CircuitTextLaws.{header_2}
+use Rattle.ps_circuit.proofs.ReadCircuits.CircuitTextLaws.{header_3}
+use Rattle.ps_circuit.proofs.ReadCircuits.CircuitTextLaws.{header_4, header_5}
 
 -- ## Numbers
 

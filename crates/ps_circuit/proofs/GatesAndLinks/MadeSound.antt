@@ -12,9 +12,10 @@ use Rattle.ps_circuit.specs.Building.{Drafted, AreSides, Extends, IsFull, IsHeld
 use Rattle.ps_circuit.specs.Building.{variables_of}
 use Rattle.ps_circuit.specs.Literals.{negated, variable}
 use Rattle.ps_circuit.specs.Gates.{Made, has_sides, gate_of, and_of, or_of, chosen_of, mux_of}
-use Rattle.ps_circuit.proofs.GateLemmas.{bit-negated, chosen_bits, held-extends, held-negated, meets-extends, or_bits}
-use Rattle.ps_circuit.proofs.GateLemmas.{placed, placed-bit}
-use Rattle.ps_circuit.proofs.MadeLemmas.{above-new, and-extends, gate_at, or-extends, place_of}
+use Rattle.ps_circuit.proofs.GatesAndLinks.GateLemmas.{bit-negated, chosen_bits, held-extends, held-negated}
+use Rattle.ps_circuit.proofs.GatesAndLinks.GateLemmas.{meets-extends, or_bits}
+use Rattle.ps_circuit.proofs.GatesAndLinks.GateLemmas.{placed, placed-bit}
+use Rattle.ps_circuit.proofs.GatesAndLinks.MadeLemmas.{above-new, and-extends, gate_at, or-extends, place_of}
 
 -- the literals of all variables fit into 32 bits
 abbrev pub HasRoom : Drafted → Type 0

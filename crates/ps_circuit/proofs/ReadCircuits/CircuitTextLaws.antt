@@ -7,8 +7,8 @@ use Rattle.std.proofs.Common.{◌≡◌, ℕ, zero, suc, Bool, false, eqb, List,
 use Rattle.std.specs.Prelude.{codes}
 use Rattle.std.proofs.lemmas.Bool.{eqb-true}
 use Rattle.ps_text.specs.Parts.{NoBad, one, then_by, times, many, mapped, give}
-use Rattle.ps_text.proofs.Decisions.{judge_none}
-use Rattle.ps_text.proofs.Laws.{Nothing}
+use Rattle.ps_text.proofs.ParsedAnswers.Decisions.{judge_none}
+use Rattle.ps_text.proofs.Combinators.Laws.{Nothing}
 use Rattle.ps_circuit.specs.declared.number.Number.{Number}
 use Rattle.ps_circuit.specs.declared.fault.AigCause.{AigCause}
 use Rattle.ps_circuit.specs.declared.parts.Latch.{Latch}
@@ -21,15 +21,20 @@ use Rattle.ps_circuit.specs.Texts.{WrongReset, sections, field, header, Lines, n
 use Rattle.ps_circuit.specs.Texts.{add_latch, add_output, add_gate, input_line, reset, latch_line, output_line}
 use Rattle.ps_circuit.specs.Texts.{gate_line, Kind, OfInput, NamesData, no_names, add_name, take_kind, IsBadSymbol}
 use Rattle.ps_circuit.specs.Texts.{symbol_line, anything, comment, DraftData, draft_of, symbols, body, circuit_text}
-use Rattle.ps_circuit.proofs.Judges.{judge_any, judge_most, judge_count, judge_literal, judge_definition, judge_reset}
-use Rattle.ps_circuit.proofs.Judges.{judge_symbol}
-use Rattle.ps_text.proofs.Bytes.Lawful.{larger, chained, next, tight, given, mapped_by, or_nothing, many_of, one_sign}
-use Rattle.ps_text.proofs.Bytes.Lawful.{byte_of, word_of}
-use Rattle.ps_circuit.proofs.CircuitParts.{Lawful, Chain, Judges}
-use Rattle.ps_text.proofs.Bytes.Single.{At, Any, seen}
-use Rattle.ps_circuit.proofs.SignLaws.{AtDigit, AtInner, Separates, AtKind, AtTail, AtBody, inner_newline, space_digit}
-use Rattle.ps_circuit.proofs.SignLaws.{digit_separates, separates_digit, digit_space, separates_body, kind_comment}
-use Rattle.ps_circuit.proofs.SignLaws.{laws_number, laws_gap, laws_rest, laws_newline, laws_line_end, numbers, optional}
+use Rattle.ps_circuit.proofs.ReadCircuits.Judges.{judge_any, judge_most, judge_count, judge_literal, judge_definition}
+use Rattle.ps_circuit.proofs.ReadCircuits.Judges.{judge_reset}
+use Rattle.ps_circuit.proofs.ReadCircuits.Judges.{judge_symbol}
+use Rattle.ps_text.proofs.BytesAndDigits.Bytes.Lawful.{larger, chained, next, tight, given, mapped_by, or_nothing}
+use Rattle.ps_text.proofs.BytesAndDigits.Bytes.Lawful.{many_of, one_sign}
+use Rattle.ps_text.proofs.BytesAndDigits.Bytes.Lawful.{byte_of, word_of}
+use Rattle.ps_circuit.proofs.ReadCircuits.CircuitParts.{Lawful, Chain, Judges}
+use Rattle.ps_text.proofs.BytesAndDigits.Bytes.Single.{At, Any, seen}
+use Rattle.ps_circuit.proofs.ReadCircuits.SignLaws.{AtDigit, AtInner, Separates, AtKind, AtTail, AtBody, inner_newline}
+use Rattle.ps_circuit.proofs.ReadCircuits.SignLaws.{space_digit}
+use Rattle.ps_circuit.proofs.ReadCircuits.SignLaws.{digit_separates, separates_digit, digit_space, separates_body}
+use Rattle.ps_circuit.proofs.ReadCircuits.SignLaws.{kind_comment}
+use Rattle.ps_circuit.proofs.ReadCircuits.SignLaws.{laws_number, laws_gap, laws_rest, laws_newline, laws_line_end}
+use Rattle.ps_circuit.proofs.ReadCircuits.SignLaws.{numbers, optional}
 
 -- ## The first line
 
