@@ -6,8 +6,9 @@
 -- - `level chain has`: the priority of an edge, given by the first link whose set the edge has, or by the base
 use Rattle.std.specs.Prelude.{ℕ, ◌+◌, ◌%◌, max, Bool, true, false, not, List, [], ◌∷◌, ◌++◌, Option, None, Some}
 use Rattle.std.specs.Prelude.{if◌then◌else◌, nat_eq}
-use Rattle.ps_hoa.specs.Conditions.{SetData, Condition, Conditions, constant, infinitely, finitely, all_hold, any_holds}
-use Rattle.ps_hoa.specs.Conditions.{last, more}
+use Rattle.ps_hoa.specs.Grammar.Conditions.{SetData, Condition, Conditions, constant, infinitely, finitely, all_hold}
+use Rattle.ps_hoa.specs.Grammar.Conditions.{any_holds}
+use Rattle.ps_hoa.specs.Grammar.Conditions.{last, more}
 
 -- an acceptance set, and whether a run is accepted if it meets this set infinitely often, but no set of an earlier link
 pub record ChainLink : Type 0 where

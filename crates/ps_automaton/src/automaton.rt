@@ -130,6 +130,13 @@ impl Automaton {
         self.states
     }
 
+    /// The parts fit: the names differ, and each letter leads from each state to a step. The prover learns it here.
+    pub fn parts_fit(&self)
+        ensures { IsWhole self.now }
+    {
+        self.states();
+    }
+
     /// The start state.
     pub fn start(&self) -> u32
         ensures start { result ≡ self.now.start }

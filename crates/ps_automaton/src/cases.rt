@@ -24,7 +24,6 @@ pub(crate) fn products_of(
     ensures { IfOk result (λ found. IfSome found (λ products. AreProducts file.now (row_data row.now)
         products.items)) }
 {
-    let _ = file;
     let mut products = Vec::new(alloc);
     for edge in &row.edges {
         let Some(label) = label_of(row, edge) else {

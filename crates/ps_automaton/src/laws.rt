@@ -1,7 +1,7 @@
 //! Laws about the definitions of this crate.
 
 ghost use Rattle.std.specs.Prelude.{◌≡◌, ◌≢◌, ◌⊎◌, ℕ, ◌<◌, Bool, List, Some, length};
-ghost use Rattle.ps_hoa.specs.Conditions.{Condition};
+ghost use Rattle.ps_hoa.specs.Grammar.Conditions.{Condition};
 ghost use Rattle.ps_hoa.specs.Files.{FileData};
 ghost use Rattle.ps_hoa.specs.Sound.{IsSoundFile};
 ghost use Rattle.ps_automaton.specs.Answers.{IsAdmitted, IsRefused};

@@ -61,7 +61,6 @@ impl LetterSets {
         requires within { IsLabelOf file.now (expression label.now) }
         ensures { IfOk result (λ set. IsSetOf file.now (expression label.now) set.items) }
     {
-        let _ = file;
         let mut set = Vec::with_capacity(alloc, self.words.len())?;
         for word in &self.words {
             set.push(set_of(&word.propositions, &word.aliases, label))?;

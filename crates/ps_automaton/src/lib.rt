@@ -15,6 +15,7 @@
 //! | `Automaton::names`, `controllable`, `states`, `start` | what the file's header says |
 //! | `Automaton::step(state, letter)` | the next state, and the priority of the edge to it; allocates no memory |
 //! | `Automaton::store`, `node(state)`, `pair(leaf)` | the diagram of a state's steps; the step that a leaf names |
+//! | `Automaton::parts_fit` | a fact: the names differ, and each letter leads from each state to a step |
 //! | `Automaton::accepts(stem, lap)` | whether the file accepts the word that consists of a stem and a repeated lap |
 //! | `AutomatonFault::number`, `name` | the fault's number and name in psyn's list of faults |
 //!

@@ -1,6 +1,6 @@
 -- The links of an acceptance condition are appended to links that were collected before. (For private functions.)
 use Rattle.std.specs.Prelude.{◌≡◌, ◌<◌, Bool, not, List, length, map, Option, None, Some, option_map, HoldsAt}
-use Rattle.ps_hoa.specs.Conditions.{operands_in}
+use Rattle.ps_hoa.specs.Grammar.Conditions.{operands_in}
 use Rattle.ps_hoa.specs.Values.{condition_of}
 use Rattle.ps_hoa.specs.declared.condition.Cond.{Cond}
 use Rattle.ps_automaton.specs.Chains.{Chain, chain_of, chain_of_all, in_front}

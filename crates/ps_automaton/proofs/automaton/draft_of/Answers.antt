@@ -6,8 +6,8 @@ use Rattle.ps_automaton.specs.Inner.Drafts.{IsDraft}
 use Rattle.ps_automaton.specs.Inner.Numbering.{AreSetsBelow}
 use Rattle.ps_automaton.specs.Inner.Views.{chain_data}
 use Rattle.ps_automaton.specs.declared.draft.Draft.{Draft}
-use Rattle.ps_automaton.proofs.Building.{draft_is_deterministic, draft_refused}
-use Rattle.ps_automaton.proofs.ChainSets.{chain_sets_below}
+use Rattle.ps_automaton.proofs.StepsByState.Building.{draft_is_deterministic, draft_refused}
+use Rattle.ps_automaton.proofs.ChainsOfSets.ChainSets.{chain_sets_below}
 use Rattle.ps_automaton.proofs.automaton.draft_of.Goals as goal
 use Rattle.ps_automaton.proofs.automaton.draft_of.Goals.{In-Some}
 

@@ -3,8 +3,8 @@ use Rattle.std.proofs.lemmas.List.{length-map}
 use Rattle.std.proofs.lemmas.Option.{slice_get_within}
 use Rattle.ps_hoa.specs.Views.{row_data}
 use Rattle.ps_hoa.specs.declared.file.Edge.{Edge}
-use Rattle.ps_automaton.proofs.Fitting.{edge_at, fits}
-use Rattle.ps_automaton.proofs.FirstCases.{products_more, product_of_label}
+use Rattle.ps_automaton.proofs.EdgesAtLetters.Fitting.{edge_at, fits}
+use Rattle.ps_automaton.proofs.EdgesAtLetters.FirstCases.{products_more, product_of_label}
 use Rattle.ps_automaton.proofs.cases.products_of.Goals as goal
 
 pub product_of-requires : goal.product_of-requires

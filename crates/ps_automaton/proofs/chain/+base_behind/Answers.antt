@@ -1,5 +1,5 @@
 use Rattle.std.proofs.Common.{arith}
-use Rattle.ps_automaton.proofs.Gatherings.{behind_any, behind_all, but_gathered}
+use Rattle.ps_automaton.proofs.ChainsOfSets.Gatherings.{behind_any, behind_all, but_gathered}
 use Rattle.ps_automaton.proofs.chain.+base_behind.Goals as goal
 
 pub returns-in-All-2 : goal.returns-in-All-2

@@ -1,5 +1,5 @@
 use Rattle.std.proofs.Common.{◌≡◌, drop, map}
-use Rattle.ps_hoa.specs.Conditions.{operands_in}
+use Rattle.ps_hoa.specs.Grammar.Conditions.{operands_in}
 use Rattle.ps_hoa.specs.Values.{condition_of}
 use Rattle.ps_automaton.specs.Chains.{has_complement, some_has_complement}
 use Rattle.ps_automaton.proofs.chain.+is_complemented.Given as goal

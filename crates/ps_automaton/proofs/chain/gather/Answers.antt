@@ -1,6 +1,7 @@
 use Rattle.std.proofs.Common.{arith, refl}
-use Rattle.ps_automaton.proofs.Gatherings.{gather_link, gather_first_other, gather_further_other, gathered_all}
-use Rattle.ps_automaton.proofs.Gatherings.{gathered_but, from_here, kept}
+use Rattle.ps_automaton.proofs.ChainsOfSets.Gatherings.{gather_link, gather_first_other, gather_further_other}
+use Rattle.ps_automaton.proofs.ChainsOfSets.Gatherings.{gathered_all}
+use Rattle.ps_automaton.proofs.ChainsOfSets.Gatherings.{gathered_but, from_here, kept}
 use Rattle.ps_automaton.proofs.chain.gather.Goals as goal
 use Rattle.ps_automaton.proofs.chain.gather.Goals.{in-Some+in_ok-push-in-Some, in-None-2}
 

@@ -1,4 +1,4 @@
-use Rattle.ps_automaton.proofs.Gatherings.{IsGathering}
+use Rattle.ps_automaton.proofs.ChainsOfSets.Gatherings.{IsGathering}
 use Rattle.ps_automaton.proofs.chain.gather.Given as goal
 
 abbrev pub invariant-loop-k : goal.invariant-loop-k

@@ -4,7 +4,7 @@ use Rattle.std.specs.Option.{option_map}
 use Rattle.std.proofs.lemmas.Option.{slice_get-map}
 use Rattle.ps_hoa.specs.Views.{edge_data, guard_data}
 use Rattle.ps_hoa.specs.declared.file.Edge.{Edge}
-use Rattle.ps_automaton.proofs.Fitting.{by_letters_of}
+use Rattle.ps_automaton.proofs.EdgesAtLetters.Fitting.{by_letters_of}
 use Rattle.ps_automaton.proofs.draft.is_by_letters.Goals as goal
 
 pub returns-in-Letter : goal.returns-in-Letter

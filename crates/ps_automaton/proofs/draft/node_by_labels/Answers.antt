@@ -2,8 +2,8 @@ use Rattle.std.proofs.Common.{◌≡◌, ◌∙◌, length, subst, arith}
 use Rattle.std.proofs.lemmas.List.{length-map}
 use Rattle.ps_hoa.specs.Views.{row_data}
 use Rattle.ps_automaton.specs.Inner.Drafts.{AreSteps, IsUnion}
-use Rattle.ps_automaton.proofs.Meeting.{keeps_both}
-use Rattle.ps_automaton.proofs.RowSteps.{leaf_within, steps_of_row}
+use Rattle.ps_automaton.proofs.EdgesAtLetters.Meeting.{keeps_both}
+use Rattle.ps_automaton.proofs.StepsByState.RowSteps.{leaf_within, steps_of_row}
 use Rattle.ps_automaton.proofs.draft.node_by_labels.Goals as goal
 
 pub node_of_union-requires-clause-within : goal.node_of_union-requires-clause-within

@@ -4,8 +4,8 @@ use Rattle.std.proofs.lemmas.Option.{slice_get-get_or}
 use Rattle.ps_diagram.specs.Table.{leaf_of}
 use Rattle.ps_automaton.specs.Inner.Drafts.{ArePlaces, AreSteps}
 use Rattle.ps_automaton.specs.Inner.Views.{chain_data}
-use Rattle.ps_automaton.proofs.LetterRows.{joined_by_letters}
-use Rattle.ps_automaton.proofs.RowSteps.{steps_of_row}
+use Rattle.ps_automaton.proofs.EdgesAtLetters.LetterRows.{joined_by_letters}
+use Rattle.ps_automaton.proofs.StepsByState.RowSteps.{steps_of_row}
 use Rattle.ps_automaton.proofs.draft.node_by_letters.Goals as goal
 
 pub returns : goal.returns

@@ -4,8 +4,8 @@ use Rattle.ps_hoa.specs.Views.{row_data}
 use Rattle.ps_automaton.specs.Inner.Drafts.{AreJoined, AreSteps}
 use Rattle.ps_automaton.specs.Inner.LetterSets.{edge_at}
 use Rattle.ps_automaton.specs.declared.targets.Target.{Target}
-use Rattle.ps_automaton.proofs.FirstEdges.{joined_mod}
-use Rattle.ps_automaton.proofs.RowSteps.{steps_of_row}
+use Rattle.ps_automaton.proofs.EdgesAtLetters.FirstEdges.{joined_mod}
+use Rattle.ps_automaton.proofs.StepsByState.RowSteps.{steps_of_row}
 use Rattle.ps_automaton.proofs.draft.node_by_sets.Goals as goal
 use Rattle.ps_automaton.proofs.draft.node_by_sets.Goals.{In-Some-2, In_ok-node}
 

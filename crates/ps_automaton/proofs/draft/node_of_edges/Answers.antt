@@ -1,6 +1,6 @@
 use Rattle.std.proofs.Common.{arith, ◌%◌, ◌^◌, ◌<◌, ℕ, length}
 use Rattle.std.proofs.lemmas.Nat.{pow_pos}
-use Rattle.ps_automaton.proofs.FirstEdges.{leaf_at}
+use Rattle.ps_automaton.proofs.EdgesAtLetters.FirstEdges.{leaf_at}
 use Rattle.ps_automaton.proofs.draft.node_of_edges.Goals as goal
 
 pub returns-clause-leaf : goal.returns-clause-leaf

@@ -7,9 +7,9 @@ use Rattle.ps_hoa.specs.Views.{row_data}
 use Rattle.ps_automaton.specs.Inner.Cases.{AreCases}
 use Rattle.ps_automaton.specs.Inner.Drafts.{ArePlaces, AreSteps, Grows}
 use Rattle.ps_automaton.specs.Inner.Views.{chain_data}
-use Rattle.ps_automaton.proofs.FirstCases.{joined_by_cases, leaf_by_cases}
-use Rattle.ps_automaton.proofs.LetterRows.{states_within}
-use Rattle.ps_automaton.proofs.RowSteps.{steps_of_row}
+use Rattle.ps_automaton.proofs.EdgesAtLetters.FirstCases.{joined_by_cases, leaf_by_cases}
+use Rattle.ps_automaton.proofs.EdgesAtLetters.LetterRows.{states_within}
+use Rattle.ps_automaton.proofs.StepsByState.RowSteps.{steps_of_row}
 use Rattle.ps_automaton.proofs.draft.node_of_products.Goals as goal
 
 both_made : {E : Type 0} {P Q R : ℕ → Type 0} (result : Result (Option ℕ) E) →

@@ -2,8 +2,8 @@ use Rattle.std.proofs.Common.{◌≡◌, ℕ, get_or, subst, sym, ap, ◌∙◌,
 use Rattle.std.proofs.lemmas.List.{get_or_append_left, get_or_push}
 use Rattle.ps_diagram.specs.Table.{IsNode, leaf_of}
 use Rattle.ps_automaton.specs.Inner.Views.{chain_data}
-use Rattle.ps_automaton.proofs.Drafting.{steps_stay}
-use Rattle.ps_automaton.proofs.Steps.{extends_same}
+use Rattle.ps_automaton.proofs.StepsByState.Drafting.{steps_stay}
+use Rattle.ps_automaton.proofs.StepsByState.Steps.{extends_same}
 use Rattle.ps_automaton.proofs.draft.nodes_of.Goals as goal
 
 pub returns-clause-draft : goal.returns-clause-draft

@@ -1,7 +1,7 @@
 use Rattle.std.proofs.Common.{arith}
 use Rattle.ps_automaton.specs.Inner.Views.{chain_data}
-use Rattle.ps_automaton.proofs.Ready.{kept_nodes}
-use Rattle.ps_automaton.proofs.Drafting.{steps_stay, one_more, first_fault}
+use Rattle.ps_automaton.proofs.EdgesAtLetters.Ready.{kept_nodes}
+use Rattle.ps_automaton.proofs.StepsByState.Drafting.{steps_stay, one_more, first_fault}
 use Rattle.ps_automaton.proofs.draft.nodes_of_states.Goals as goal
 
 pub returns-in_err-state_node-clause-refused : goal.returns-in_err-state_node-clause-refused

@@ -3,7 +3,7 @@ use Rattle.std.proofs.lemmas.Option.{slice_get-get_or}
 use Rattle.ps_automaton.specs.Inner.Drafts.{Extends}
 use Rattle.ps_automaton.specs.Inner.Places.{IsPlaced}
 use Rattle.ps_automaton.specs.Inner.Views.{chain_data}
-use Rattle.ps_automaton.proofs.Steps.{step_extends, step_within, extends_both, named_more}
+use Rattle.ps_automaton.proofs.StepsByState.Steps.{step_extends, step_within, extends_both, named_more}
 use Rattle.ps_automaton.proofs.draft.places_of.Goals as goal
 
 pub loop-target-preserved : goal.loop-target-preserved

@@ -5,10 +5,10 @@ use Rattle.ps_hoa.specs.declared.file.Edge.{Edge}
 use Rattle.ps_automaton.specs.Inner.Drafts.{Extends}
 use Rattle.ps_automaton.specs.Inner.Places.{IsPlaced}
 use Rattle.ps_automaton.specs.Inner.Views.{chain_data}
-use Rattle.ps_automaton.proofs.DistinctEntries.{at_end}
-use Rattle.ps_automaton.proofs.Fitting.{edge_at, edge_marks_few}
-use Rattle.ps_automaton.proofs.LetterRows.{targets_more}
-use Rattle.ps_automaton.proofs.Steps.{extends_both, named_wider, step_extends, step_within, named_more}
+use Rattle.ps_automaton.proofs.StepsByState.DistinctEntries.{at_end}
+use Rattle.ps_automaton.proofs.EdgesAtLetters.Fitting.{edge_at, edge_marks_few}
+use Rattle.ps_automaton.proofs.EdgesAtLetters.LetterRows.{targets_more}
+use Rattle.ps_automaton.proofs.StepsByState.Steps.{extends_both, named_wider, step_extends, step_within, named_more}
 use Rattle.ps_automaton.proofs.draft.places_of_edges.Goals as goal
 
 pub target_of-target-requires-clause-edge : goal.target_of-target-requires-clause-edge

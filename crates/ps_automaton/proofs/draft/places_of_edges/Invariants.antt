@@ -5,8 +5,8 @@ use Rattle.ps_hoa.specs.Views.{row_data}
 use Rattle.ps_automaton.specs.Inner.Drafts.{AreSteps, Extends}
 use Rattle.ps_automaton.specs.Inner.Views.{chain_data}
 use Rattle.ps_automaton.specs.declared.targets.Target.{Target}
-use Rattle.ps_automaton.proofs.LetterRows.{HaveTargets}
-use Rattle.ps_automaton.proofs.Steps.{AreNamed}
+use Rattle.ps_automaton.proofs.EdgesAtLetters.LetterRows.{HaveTargets}
+use Rattle.ps_automaton.proofs.StepsByState.Steps.{AreNamed}
 use Rattle.ps_automaton.proofs.draft.places_of_edges.Given as goal
 
 -- for each edge visited so far, `places` has the index of the step to its target

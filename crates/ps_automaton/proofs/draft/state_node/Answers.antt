@@ -2,7 +2,7 @@ use Rattle.std.proofs.Common.{arith, sym}
 use Rattle.std.proofs.lemmas.Result.{IfErr-weaker}
 use Rattle.ps_hoa.proofs.Soundness.SoundLaws.{row_of_state}
 use Rattle.ps_hoa.specs.Views.{row_data}
-use Rattle.ps_automaton.proofs.StateSteps.{fault_of_state}
+use Rattle.ps_automaton.proofs.StepsByState.StateSteps.{fault_of_state}
 use Rattle.ps_automaton.proofs.draft.state_node.Goals as goal
 
 pub row_node-requires : goal.row_node-requires

@@ -2,8 +2,8 @@ use Rattle.std.proofs.Common.{List, get_or, ap, ◌∙◌, arith, rules}
 use Rattle.std.proofs.lemmas.List.{length-map}
 use Rattle.std.proofs.lemmas.Option.{slice_get_within}
 use Rattle.ps_hoa.specs.declared.file.Edge.{Edge}
-use Rattle.ps_automaton.proofs.Fitting.{edge_at, edge_marks_few}
-use Rattle.ps_automaton.proofs.LetterRows.{targets_more}
+use Rattle.ps_automaton.proofs.EdgesAtLetters.Fitting.{edge_at, edge_marks_few}
+use Rattle.ps_automaton.proofs.EdgesAtLetters.LetterRows.{targets_more}
 use Rattle.ps_automaton.proofs.draft.targets_of.Goals as goal
 
 pub target_of-requires-clause-edge : goal.target_of-requires-clause-edge

@@ -1,6 +1,6 @@
 use Rattle.std.proofs.Common.{◌≡◌, length}
 use Rattle.ps_hoa.specs.Views.{row_data}
-use Rattle.ps_automaton.proofs.LetterRows.{HaveTargets}
+use Rattle.ps_automaton.proofs.EdgesAtLetters.LetterRows.{HaveTargets}
 use Rattle.ps_automaton.proofs.draft.targets_of.Given as goal
 
 -- the list has the targets of the edges that were visited so far

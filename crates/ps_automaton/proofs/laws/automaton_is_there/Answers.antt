@@ -1,4 +1,4 @@
-use Rattle.ps_automaton.proofs.Existing.{auto_there}
+use Rattle.ps_automaton.proofs.AdmittedFiles.Existing.{auto_there}
 use Rattle.ps_automaton.proofs.laws.automaton_is_there.Goals as goal
 
 pub returns : goal.returns

@@ -1,4 +1,4 @@
-use Rattle.ps_automaton.proofs.ChainLaws.{greatest_decides}
+use Rattle.ps_automaton.proofs.ChainsOfSets.ChainLaws.{greatest_decides}
 use Rattle.ps_automaton.proofs.laws.greatest_level_decides.Goals as goal
 
 pub returns : goal.returns

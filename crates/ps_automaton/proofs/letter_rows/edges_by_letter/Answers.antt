@@ -6,8 +6,9 @@ use Rattle.ps_hoa.specs.Edges.{IsTaken}
 use Rattle.ps_hoa.specs.Views.{edge_data, row_data}
 use Rattle.ps_automaton.specs.Inner.Drafts.{AreJoined}
 use Rattle.ps_automaton.specs.Inner.LetterSets.{edge_at, in_words}
-use Rattle.ps_automaton.proofs.FirstEdges.{firsts_more, firsts_none, joined_more, joined_none, written_back}
-use Rattle.ps_automaton.proofs.Fitting.{fits, edge_at as edge_of}
+use Rattle.ps_automaton.proofs.EdgesAtLetters.FirstEdges.{firsts_more, firsts_none, joined_more, joined_none}
+use Rattle.ps_automaton.proofs.EdgesAtLetters.FirstEdges.{written_back}
+use Rattle.ps_automaton.proofs.EdgesAtLetters.Fitting.{fits, edge_at as edge_of}
 use Rattle.ps_automaton.proofs.letter_rows.edges_by_letter.Goals as goal
 
 pub loop-place-init : goal.loop-place-init

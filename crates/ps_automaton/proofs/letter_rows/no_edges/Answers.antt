@@ -1,5 +1,5 @@
 use Rattle.std.proofs.Common.{arith}
-use Rattle.ps_automaton.proofs.FirstEdges.{none_more}
+use Rattle.ps_automaton.proofs.EdgesAtLetters.FirstEdges.{none_more}
 use Rattle.ps_automaton.proofs.letter_rows.no_edges.Goals as goal
 
 pub loop-preserved : goal.loop-preserved

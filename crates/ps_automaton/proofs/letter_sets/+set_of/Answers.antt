@@ -1,9 +1,9 @@
 use Rattle.std.proofs.Common.{rules, ◌+◌, ◌∙◌}
 use Rattle.ps_label.specs.Expression.{expression}
 use Rattle.ps_label.proofs.OperandLists.{expression-Both, expression-Either}
-use Rattle.ps_automaton.proofs.Bits.{in_not}
+use Rattle.ps_automaton.proofs.ChainsOfSets.Bits.{in_not}
 use Rattle.ps_automaton.specs.Inner.LetterSets.{membership}
-use Rattle.ps_automaton.proofs.LetterSets.{all_with, any_with, from_drop, in_all, in_none}
+use Rattle.ps_automaton.proofs.EdgesAtLetters.LetterSets.{all_with, any_with, from_drop, in_all, in_none}
 use Rattle.ps_automaton.proofs.letter_sets.+set_of.Goals as goal
 
 pub loop-operand-init : goal.loop-operand-init

@@ -1,6 +1,6 @@
 use Rattle.std.proofs.Common.{rules, ◌+◌, ◌∙◌}
 use Rattle.ps_label.specs.Expression.{literal_expression}
-use Rattle.ps_automaton.proofs.LetterSets.{all_with, from_drop, in_all}
+use Rattle.ps_automaton.proofs.EdgesAtLetters.LetterSets.{all_with, from_drop, in_all}
 use Rattle.ps_automaton.proofs.letter_sets.set_of_literals.Goals as goal
 
 pub loop-literal-init : goal.loop-literal-init

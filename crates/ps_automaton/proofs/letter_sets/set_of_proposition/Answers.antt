@@ -1,5 +1,5 @@
 use Rattle.std.proofs.Common.{arith, sym, ◌∙◌}
-use Rattle.ps_automaton.proofs.LetterSets.{letter_with, letter_without}
+use Rattle.ps_automaton.proofs.EdgesAtLetters.LetterSets.{letter_with, letter_without}
 use Rattle.ps_automaton.proofs.letter_sets.set_of_proposition.Goals as goal
 use Rattle.ps_automaton.proofs.letter_sets.set_of_proposition.Goals.{then-is_in, else-is_in}
 

@@ -3,7 +3,7 @@ use Rattle.std.proofs.lemmas.List.{drop_all, length-map}
 use Rattle.ps_label.specs.Truth.{alias_truths, expressions, truths_behind}
 use Rattle.ps_label.specs.declared.label.Label.{Label}
 use Rattle.ps_automaton.specs.Inner.LetterSets.{membership}
-use Rattle.ps_automaton.proofs.LetterSets.{alias_with, from_drop}
+use Rattle.ps_automaton.proofs.EdgesAtLetters.LetterSets.{alias_with, from_drop}
 use Rattle.ps_automaton.proofs.letter_sets.sets_of_aliases.Goals as goal
 
 pub loop-alias-init : goal.loop-alias-init

@@ -1,5 +1,5 @@
 use Rattle.std.proofs.Common.{arith}
-use Rattle.ps_automaton.proofs.LetterSets.{proposition_with}
+use Rattle.ps_automaton.proofs.EdgesAtLetters.LetterSets.{proposition_with}
 use Rattle.ps_automaton.proofs.letter_sets.sets_of_propositions.Goals as goal
 
 pub loop-proposition-preserved : goal.loop-proposition-preserved

@@ -1,8 +1,9 @@
 use Rattle.std.proofs.Common.{rules, ◌≤◌, ap, sym, ◌∙◌, refl, arith}
 use Rattle.ps_automaton.specs.Chains.{base_number, first_number}
 use Rattle.std.proofs.lemmas.List.{get_or-replicate, length-set}
-use Rattle.ps_automaton.proofs.NumberTables.{base_at_most, link_before, none_behind, raised_at_most, set_of_link}
-use Rattle.ps_automaton.proofs.NumberTables.{table_step}
+use Rattle.ps_automaton.proofs.ChainsOfSets.NumberTables.{base_at_most, link_before, none_behind, raised_at_most}
+use Rattle.ps_automaton.proofs.ChainsOfSets.NumberTables.{set_of_link}
+use Rattle.ps_automaton.proofs.ChainsOfSets.NumberTables.{table_step}
 use Rattle.ps_automaton.proofs.numbers.table_of.Goals as goal
 
 pub loop-k-init : goal.loop-k-init

@@ -3,8 +3,9 @@ use Rattle.std.proofs.lemmas.Result.{on_ok_weaker}
 use Rattle.ps_hoa.specs.Views.{edge_data, row_data}
 use Rattle.ps_automaton.specs.Answers.{AreAlike}
 use Rattle.ps_automaton.specs.Inner.Targets.{IsTargetOf}
-use Rattle.ps_automaton.proofs.Fitting.{ready_to, edge_at, edge_marks_few, alike_of_target, target_of_alike}
-use Rattle.ps_automaton.proofs.Meeting.{keeps_both, kept_shows}
+use Rattle.ps_automaton.proofs.EdgesAtLetters.Fitting.{ready_to, edge_at, edge_marks_few, alike_of_target}
+use Rattle.ps_automaton.proofs.EdgesAtLetters.Fitting.{target_of_alike}
+use Rattle.ps_automaton.proofs.EdgesAtLetters.Meeting.{keeps_both, kept_shows}
 use Rattle.ps_automaton.proofs.taken.clashes.Goals as goal
 
 pub target_of-requires-clause-edge : goal.target_of-requires-clause-edge

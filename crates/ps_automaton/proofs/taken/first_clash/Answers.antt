@@ -1,9 +1,9 @@
 use Rattle.std.proofs.Common.{◌≡◌, inl, inr, arith}
 use Rattle.std.proofs.lemmas.Bool.{cases_lt}
-use Rattle.ps_text.proofs.Simple.{same_some}
-use Rattle.ps_automaton.proofs.Fitting.{ready_to, edge_at}
-use Rattle.ps_automaton.proofs.Meeting.{keeps_both, kept_shows}
-use Rattle.ps_automaton.proofs.Ready.{kept_ready}
+use Rattle.ps_text.proofs.Combinators.Simple.{same_some}
+use Rattle.ps_automaton.proofs.EdgesAtLetters.Fitting.{ready_to, edge_at}
+use Rattle.ps_automaton.proofs.EdgesAtLetters.Meeting.{keeps_both, kept_shows}
+use Rattle.ps_automaton.proofs.EdgesAtLetters.Ready.{kept_ready}
 use Rattle.ps_automaton.proofs.taken.first_clash.Goals as goal
 
 pub taken-requires : goal.taken-requires

@@ -1,5 +1,5 @@
 use Rattle.std.proofs.Common.{refl, rules}
-use Rattle.ps_automaton.proofs.Meeting.{guarded_meet, keeps_both}
+use Rattle.ps_automaton.proofs.EdgesAtLetters.Meeting.{guarded_meet, keeps_both}
 use Rattle.ps_automaton.proofs.taken.meet.Goals as goal
 
 pub returns-in-Err-Clash-clause-keeps : goal.returns-in-Err-Clash-clause-keeps

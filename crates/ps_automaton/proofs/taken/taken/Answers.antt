@@ -4,8 +4,8 @@ use Rattle.ps_hoa.specs.Files.{of_state}
 use Rattle.ps_hoa.specs.Views.{row_data}
 use Rattle.ps_diagram.specs.Table.{IsNode, leaf_of}
 use Rattle.ps_automaton.specs.Inner.Drafts.{IsWhere}
-use Rattle.ps_diagram.proofs.MadeDiagrams.{gives}
-use Rattle.ps_automaton.proofs.Meeting.{label_shows}
+use Rattle.ps_diagram.proofs.NodeTables.MadeDiagrams.{gives}
+use Rattle.ps_automaton.proofs.EdgesAtLetters.Meeting.{label_shows}
 use Rattle.ps_automaton.proofs.taken.taken.Goals as goal
 
 shown : (c : goal.In-Some) → IsNode c.args.store.now c.in-Some.node ×

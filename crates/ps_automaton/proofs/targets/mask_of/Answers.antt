@@ -2,7 +2,7 @@ use Rattle.std.proofs.Common.{List, ℕ, ◌+◌, drop, get_or, ap, sym, ◌∙�
 use Rattle.std.specs.Prelude.{◌||◌}
 use Rattle.ps_label.specs.Truth.{is_in}
 use Rattle.ps_hoa.specs.Files.{is_among}
-use Rattle.ps_automaton.proofs.Bits.{one_set_more, from_place}
+use Rattle.ps_automaton.proofs.ChainsOfSets.Bits.{one_set_more, from_place}
 use Rattle.ps_automaton.proofs.targets.mask_of.Goals as goal
 
 pub loop-set-preserved : goal.loop-set-preserved

@@ -1,6 +1,6 @@
 use Rattle.std.proofs.Common.{arith, refl}
 use Rattle.std.proofs.lemmas.Nat.{or_lt}
-use Rattle.ps_automaton.proofs.Bits.{in_or, both_among}
+use Rattle.ps_automaton.proofs.ChainsOfSets.Bits.{in_or, both_among}
 use Rattle.ps_automaton.proofs.targets.target_of.Goals as goal
 
 pub returns : goal.returns

@@ -1,9 +1,9 @@
 use Rattle.std.proofs.Common.{◌^◌, ◌<◌, subst, ◌∙◌, rules}
-use Rattle.ps_automaton.proofs.Fitting.{ready_to, edge_at, edge_marks_few}
-use Rattle.ps_automaton.proofs.Meeting.{keeps_both}
-use Rattle.ps_automaton.proofs.PlaceTables.{placed_is, placed_keeps}
-use Rattle.ps_automaton.proofs.Ready.{kept_ready}
-use Rattle.ps_automaton.proofs.EdgeUnions.{union_grown, union_clash, first_of_row}
+use Rattle.ps_automaton.proofs.EdgesAtLetters.Fitting.{ready_to, edge_at, edge_marks_few}
+use Rattle.ps_automaton.proofs.EdgesAtLetters.Meeting.{keeps_both}
+use Rattle.ps_automaton.proofs.StepsByState.PlaceTables.{placed_is, placed_keeps}
+use Rattle.ps_automaton.proofs.EdgesAtLetters.Ready.{kept_ready}
+use Rattle.ps_automaton.proofs.EdgesAtLetters.EdgeUnions.{union_grown, union_clash, first_of_row}
 use Rattle.ps_automaton.proofs.union.add.Goals as goal
 
 pub target_of-requires-clause-edge : goal.target_of-requires-clause-edge

@@ -3,7 +3,7 @@ use Rattle.std.specs.Prelude.{All}
 use Rattle.ps_automaton.specs.Automata.{auto_of}
 use Rattle.ps_automaton.specs.Autos.{state_behind}
 use Rattle.ps_automaton.specs.Inner.Returning.{Returns}
-use Rattle.ps_automaton.proofs.Accepting.{laps_decide}
+use Rattle.ps_automaton.proofs.AdmittedFiles.Accepting.{laps_decide}
 use Rattle.ps_automaton.proofs.automaton.Automaton.accepts.Goals as goal
 
 pub returns : goal.returns

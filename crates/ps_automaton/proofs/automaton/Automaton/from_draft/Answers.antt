@@ -1,7 +1,7 @@
 use Rattle.std.proofs.Common.{rules, arith, ◌≡◌, map, ◌∙◌}
 use Rattle.ps_hoa.specs.Memory.{bytes_of}
 use Rattle.ps_automaton.specs.Inner.Drafts.{IsDraft}
-use Rattle.ps_automaton.proofs.Building.{auto_built, whole_built}
+use Rattle.ps_automaton.proofs.StepsByState.Building.{auto_built, whole_built}
 use Rattle.ps_automaton.proofs.automaton.Automaton.from_draft.Goals as goal
 use Rattle.ps_automaton.proofs.automaton.Automaton.from_draft.Goals.{In_ok-controllable}
 

@@ -3,7 +3,7 @@ use Rattle.std.specs.List.{slice_get}
 use Rattle.std.proofs.lemmas.Option.{slice_get_read}
 use Rattle.ps_label.specs.Expression.{expression}
 use Rattle.ps_automaton.specs.declared.letter_sets.WordSets.{WordSets}
-use Rattle.ps_automaton.proofs.LetterSets.{mask_is, truths_more}
+use Rattle.ps_automaton.proofs.EdgesAtLetters.LetterSets.{mask_is, truths_more}
 use Rattle.ps_automaton.proofs.letter_sets.LetterSets.of_label.Goals as goal
 
 pub loop-word-preserved : goal.loop-word-preserved

@@ -1,9 +1,10 @@
 use Rattle.std.proofs.Common.{◌≡◌, ◌<◌, ◌^◌, ℕ, Bool, true, false, arith, refl, ap, sym}
 use Rattle.std.specs.Prelude.{◌&&◌, not}
 use Rattle.ps_label.specs.Truth.{is_in}
-use Rattle.ps_automaton.proofs.Bits.{fewer, in_none, least, least_in, least_gone, least_small, others_stay, was_in, without_least}
-use Rattle.ps_automaton.proofs.NumberTables.{greatest_is_level, greatest_more}
-use Rattle.ps_automaton.proofs.NumberTables.{greatest_of_none, greatest_same}
+use Rattle.ps_automaton.proofs.ChainsOfSets.Bits.{fewer, in_none, least, least_in, least_gone, least_small, others_stay}
+use Rattle.ps_automaton.proofs.ChainsOfSets.Bits.{was_in, without_least}
+use Rattle.ps_automaton.proofs.ChainsOfSets.NumberTables.{greatest_is_level, greatest_more}
+use Rattle.ps_automaton.proofs.ChainsOfSets.NumberTables.{greatest_of_none, greatest_same}
 use Rattle.ps_automaton.proofs.numbers.Numbers.level.Goals as goal
 
 neither : (b : Bool) → (b && not b) ≡ false

@@ -1,7 +1,7 @@
 use Rattle.std.proofs.Common.{◌≡◌, ℕ, true}
 use Rattle.std.specs.Prelude.{◌&&◌, not}
 use Rattle.ps_label.specs.Truth.{is_in}
-use Rattle.ps_automaton.proofs.NumberTables.{IsGreatestOf}
+use Rattle.ps_automaton.proofs.ChainsOfSets.NumberTables.{IsGreatestOf}
 use Rattle.ps_automaton.proofs.numbers.Numbers.level.Given as goal
 
 -- `greatest` is the greatest for those of the edge's sets that are no longer in `rest`

@@ -1,6 +1,6 @@
 use Rattle.std.proofs.Common.{◌≡◌, ◌++◌, ◌∷◌, [], inl, arith, refl, sym, ◌∙◌}
-use Rattle.ps_automaton.proofs.DistinctEntries.{at_end}
-use Rattle.ps_automaton.proofs.PlaceTables.{distinct_by_table, table_push, table_same}
+use Rattle.ps_automaton.proofs.StepsByState.DistinctEntries.{at_end}
+use Rattle.ps_automaton.proofs.StepsByState.PlaceTables.{distinct_by_table, table_push, table_same}
 use Rattle.ps_automaton.proofs.places.Places.place_of.Goals as goal
 
 pub returns-in-Some-clause-placed : goal.returns-in-Some-clause-placed

@@ -1,6 +1,6 @@
 use Rattle.std.proofs.Common.{◌≡◌, ◌++◌, ◌∷◌, [], ℕ, arith, inr, get_or, ap, ◌∙◌, List}
-use Rattle.ps_automaton.proofs.DistinctEntries.{at_end}
-use Rattle.ps_automaton.proofs.StepTables.{table_pushed}
+use Rattle.ps_automaton.proofs.StepsByState.DistinctEntries.{at_end}
+use Rattle.ps_automaton.proofs.StepsByState.StepTables.{table_pushed}
 use Rattle.ps_automaton.proofs.step_list.StepList.place_of.Goals as goal
 
 pub invariant_of-self-2 : goal.invariant_of-self-2

@@ -5,7 +5,7 @@ use Rattle.std.specs.List.{slice_get}
 use Rattle.std.specs.Ordering.{is_eq}
 use Rattle.ps_automaton.specs.Inner.Places.{AreDistinct, IsPlaced, IsTableOf, pair_cmp}
 use Rattle.ps_automaton.specs.declared.targets.Target.{Target}
-use Rattle.ps_automaton.proofs.DistinctEntries.{at_end, at_last, at_left}
+use Rattle.ps_automaton.proofs.StepsByState.DistinctEntries.{at_end, at_last, at_left}
 
 -- ## The order of pairs
 

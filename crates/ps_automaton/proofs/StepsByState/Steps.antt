@@ -2,14 +2,14 @@
 use Rattle.std.proofs.Common.{◌≡◌, ℕ, ◌≤◌, inl, inr, List, [], ◌∷◌, ◌++◌, length, Some, arith}
 use Rattle.std.specs.List.{slice_get}
 use Rattle.std.proofs.lemmas.Option.{slice_get_within}
-use Rattle.ps_text.proofs.Simple.{same_some}
+use Rattle.ps_text.proofs.Combinators.Simple.{same_some}
 use Rattle.ps_automaton.specs.Chains.{Chain}
 use Rattle.ps_automaton.specs.Inner.Drafts.{AreSteps, Extends, step_of_target}
 use Rattle.ps_automaton.specs.declared.targets.Target.{Target}
 use Rattle.ps_automaton.specs.declared.step.Step.{Step}
 use Rattle.ps_automaton.specs.Inner.Places.{IsPlaced}
-use Rattle.ps_automaton.proofs.DistinctEntries.{at_last}
-use Rattle.ps_automaton.proofs.PlaceTables.{placed_is, placed_keeps}
+use Rattle.ps_automaton.proofs.StepsByState.DistinctEntries.{at_last}
+use Rattle.ps_automaton.proofs.StepsByState.PlaceTables.{placed_is, placed_keeps}
 
 pub extends_both : (a b c : List Step) → Extends a b → Extends b c → Extends a c
 extends_both a b c f g = λ place step e. g place step (f place step e)

@@ -13,7 +13,7 @@ use Rattle.ps_label.specs.Truth.{all_true, any_true, expressions, is_in, label_t
 use Rattle.ps_label.specs.declared.label.Label.{Label}
 use Rattle.ps_automaton.specs.Inner.LetterSets.{ArePropositionSets, AreWordSets, IsSetOf, membership}
 use Rattle.ps_automaton.specs.declared.letter_sets.WordSets.{WordSets}
-use Rattle.ps_automaton.proofs.Bits.{in_and, in_or, in_with}
+use Rattle.ps_automaton.proofs.ChainsOfSets.Bits.{in_and, in_or, in_with}
 
 -- ## The letters at which a proposition is true
 

@@ -14,7 +14,7 @@ use Rattle.ps_automaton.specs.declared.fault.AutomatonFault.{AutomatonFault}
 use Rattle.ps_automaton.specs.declared.fault.AutomatonFault.TheVariants.{ComplementedSet, NonParity, Nondeterministic}
 use Rattle.ps_automaton.specs.declared.fault.AutomatonFault.TheVariants.{OutOfMemory}
 use Rattle.ps_automaton.specs.declared.step.Step.{Step}
-use Rattle.ps_automaton.proofs.Meeting.{kept_leaf}
+use Rattle.ps_automaton.proofs.EdgesAtLetters.Meeting.{kept_leaf}
 
 extended_within : (old new : List Step) → Extends old new → (k : ℕ) → k < length old → k < length new
 extended_within old new extends k within =

@@ -8,7 +8,7 @@ use Rattle.std.specs.Prelude.{slice_index}
 use Rattle.std.proofs.lemmas.Bool.{cases_lt}
 use Rattle.std.proofs.lemmas.Option.{slice_get_within, slice_get-get_or}
 use Rattle.std.proofs.lemmas.List.{get_or_past}
-use Rattle.ps_text.proofs.Simple.{same_some}
+use Rattle.ps_text.proofs.Combinators.Simple.{same_some}
 use Rattle.ps_diagram.specs.Table.{Table, IsNode, leaf_of}
 use Rattle.ps_hoa.specs.Edges.{Goes, is_marked, row_of}
 use Rattle.ps_hoa.specs.Files.{RowData, FileData}
@@ -21,8 +21,8 @@ use Rattle.ps_automaton.specs.Inner.Drafts.{Stops, TakenEdge, step_of_target}
 use Rattle.ps_automaton.specs.Inner.Numbering.{AreSetsBelow}
 use Rattle.ps_automaton.specs.declared.step.Step.{Step}
 use Rattle.ps_automaton.specs.declared.targets.Target.{Target}
-use Rattle.ps_automaton.proofs.TakenEdges.{edge_of, goes_of}
-use Rattle.ps_automaton.proofs.EdgeUnions.{at_leaf, union_clear}
+use Rattle.ps_automaton.proofs.EdgesAtLetters.TakenEdges.{edge_of, goes_of}
+use Rattle.ps_automaton.proofs.EdgesAtLetters.EdgeUnions.{at_leaf, union_clear}
 
 -- if all sets in a chain's links have numbers less than 64, the priority of an edge depends only on those of its sets
 -- whose numbers are less than 64

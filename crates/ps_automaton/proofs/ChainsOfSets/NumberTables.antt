@@ -10,7 +10,7 @@ use Rattle.ps_automaton.specs.Chains.{ChainLink, Chain, base_number, first_numbe
 use Rattle.ps_automaton.specs.Inner.Numbering.{AreSetsBelow, IsTable}
 use Rattle.ps_automaton.specs.Inner.Views.{link_data}
 use Rattle.ps_automaton.specs.declared.chain.Link as code
-use Rattle.ps_automaton.proofs.ChainLaws.{level_below_first, raised_more}
+use Rattle.ps_automaton.proofs.ChainsOfSets.ChainLaws.{level_below_first, raised_more}
 
 -- the greatest among a base priority and the priorities that the table has for the edge's sets, all of which are less
 -- than 64

@@ -10,15 +10,15 @@ use Rattle.std.proofs.lemmas.Bool.{cases_lt}
 use Rattle.std.proofs.lemmas.List.{get_or_default}
 use Rattle.std.proofs.lemmas.Option.{slice_get-get_or, slice_get-map}
 use Rattle.std.proofs.Math.Nat.{mod-eq_of_lt}
-use Rattle.ps_text.proofs.Simple.{same_some}
+use Rattle.ps_text.proofs.Combinators.Simple.{same_some}
 use Rattle.ps_hoa.specs.Edges.{IsTaken}
 use Rattle.ps_hoa.specs.Files.{EdgeData, RowData, FileData}
 use Rattle.ps_hoa.specs.Sound.{IsSoundRow}
 use Rattle.ps_automaton.specs.Inner.Drafts.{AreJoined, AreTargets, IsTargetAt, TakenEdge}
 use Rattle.ps_automaton.specs.Inner.LetterSets.{IsAdded, edge_at, entry_for}
 use Rattle.ps_automaton.specs.declared.targets.Target.{Target}
-use Rattle.ps_automaton.proofs.LetterRows.{states_within}
-use Rattle.ps_automaton.proofs.EdgeUnions.{wider}
+use Rattle.ps_automaton.proofs.EdgesAtLetters.LetterRows.{states_within}
+use Rattle.ps_automaton.proofs.EdgesAtLetters.EdgeUnions.{wider}
 
 -- each entry of the list is None, or an index of an edge that is less than `count`
 abbrev pub AreFirsts : ℕ → List (Option ℕ) → Type 0

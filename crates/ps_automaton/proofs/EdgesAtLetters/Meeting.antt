@@ -3,7 +3,7 @@
 use Rattle.std.proofs.Common.{arith, ◌≡◌, ℕ, ◌^◌, ◌<◌, inl, inr, Bool, Option, Some, None, IsTrue, refl, sym}
 use Rattle.std.proofs.Common.{ap, ◌∙◌}
 use Rattle.std.specs.Option.{option_map}
-use Rattle.ps_text.proofs.Simple.{none_is_some}
+use Rattle.ps_text.proofs.Combinators.Simple.{none_is_some}
 use Rattle.ps_label.specs.Expression.{Expression}
 use Rattle.ps_diagram.specs.Labels.{one_where}
 use Rattle.ps_diagram.specs.Letters.{assignment}

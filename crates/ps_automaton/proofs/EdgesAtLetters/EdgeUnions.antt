@@ -4,7 +4,7 @@ use Rattle.std.proofs.Common.{rules, subst, ◌∙◌, arith}
 use Rattle.std.specs.List.{slice_get}
 use Rattle.std.specs.Option.{option_map, IsSomeAnd}
 use Rattle.std.proofs.lemmas.Bool.{cases_lt}
-use Rattle.ps_text.proofs.Simple.{same_some}
+use Rattle.ps_text.proofs.Combinators.Simple.{same_some}
 use Rattle.ps_diagram.specs.Leaves.{AreCompatible as AgreeingLeaves, either_leaf}
 use Rattle.ps_diagram.specs.Table.{Table, IsNode, Keeps, leaf_of}
 use Rattle.ps_hoa.specs.Files.{EdgeData, RowData, FileData}
@@ -15,9 +15,9 @@ use Rattle.ps_automaton.specs.Inner.Drafts.{AreJoined, IsFirstOfRow, IsTargetAt,
 use Rattle.ps_automaton.specs.Inner.Places.{AreDistinct}
 use Rattle.ps_automaton.specs.Inner.Targets.{IsTargetOf}
 use Rattle.ps_automaton.specs.declared.targets.Target.{Target}
-use Rattle.ps_automaton.proofs.Fitting.{alike_of_target, target_of_alike}
-use Rattle.ps_automaton.proofs.TakenEdges.{clash_of}
-use Rattle.ps_automaton.proofs.Meeting.{kept_leaf, shown_is_taken, taken_is_shown}
+use Rattle.ps_automaton.proofs.EdgesAtLetters.Fitting.{alike_of_target, target_of_alike}
+use Rattle.ps_automaton.proofs.EdgesAtLetters.TakenEdges.{clash_of}
+use Rattle.ps_automaton.proofs.EdgesAtLetters.Meeting.{kept_leaf, shown_is_taken, taken_is_shown}
 
 -- the diagram of an edge has the given leaf exactly at the letters at which the edge is taken
 pub marked_shows : (file : FileData) (row : RowData) (edge : EdgeData) (t u : Table) (node marked value : ℕ) →

@@ -9,13 +9,13 @@ use Rattle.ps_hoa.specs.Edges.{row_of, is_marked, IsTaken, Goes}
 use Rattle.ps_hoa.specs.Sound.{IsSoundFile}
 use Rattle.ps_automaton.specs.Inner.Drafts.{TakenEdge}
 use Rattle.ps_hoa.proofs.Soundness.SoundLaws.{row_of_state, sound_edge}
-use Rattle.ps_text.proofs.Simple.{same_some}
+use Rattle.ps_text.proofs.Combinators.Simple.{same_some}
 use Rattle.ps_automaton.specs.Answers.{AreAlike, IsDeterministic, IsAdmitted}
 use Rattle.ps_automaton.specs.Autos.{Auto, IsAutoOf}
 use Rattle.ps_automaton.specs.Chains.{Chain, chain_of, level}
-use Rattle.ps_text.proofs.Decisions.{Decided, decide_as, decide_below, decide_both}
-use Rattle.ps_automaton.proofs.Deciding.{some_or_none, open_or_not, alike_or_not, decide_some}
-use Rattle.ps_automaton.proofs.TakenEdges.{clash_of, edge_of, goes_of}
+use Rattle.ps_text.proofs.ParsedAnswers.Decisions.{Decided, decide_as, decide_below, decide_both}
+use Rattle.ps_automaton.proofs.AdmittedFiles.Deciding.{some_or_none, open_or_not, alike_or_not, decide_some}
+use Rattle.ps_automaton.proofs.EdgesAtLetters.TakenEdges.{clash_of, edge_of, goes_of}
 
 taken_or_not : (file : FileData) (row : RowData) (letter : ℕ) → Decided (TakenEdge file row (length row.edges) letter)
 taken_or_not file row letter = decide_as (λ h. grind (arith, slice_get_within row.edges h.0 h.1.0 h.1.1))

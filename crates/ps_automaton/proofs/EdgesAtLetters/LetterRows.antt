@@ -5,7 +5,7 @@ use Rattle.std.specs.List.{slice_get}
 use Rattle.std.proofs.lemmas.Bool.{cases_lt}
 use Rattle.std.proofs.lemmas.Option.{slice_get_within, slice_get-get_or}
 use Rattle.std.proofs.Math.Nat.{mod-eq_of_lt}
-use Rattle.ps_text.proofs.Simple.{same_some}
+use Rattle.ps_text.proofs.Combinators.Simple.{same_some}
 use Rattle.ps_hoa.specs.Edges.{IsEnabled}
 use Rattle.ps_hoa.specs.Files.{EdgeData, RowData, FileData, of_state, at_letter}
 use Rattle.ps_hoa.specs.Sound.{IsSoundRow}
@@ -13,8 +13,8 @@ use Rattle.ps_hoa.proofs.Soundness.SoundLaws.{sound_edge}
 use Rattle.ps_automaton.specs.Inner.Drafts.{AreJoined, AreTargets, IsByLetters, IsTargetAt}
 use Rattle.ps_automaton.specs.Inner.Targets.{IsTargetOf}
 use Rattle.ps_automaton.specs.declared.targets.Target.{Target}
-use Rattle.ps_automaton.proofs.DistinctEntries.{at_end, at_left}
-use Rattle.ps_automaton.proofs.Fitting.{by_letter}
+use Rattle.ps_automaton.proofs.StepsByState.DistinctEntries.{at_end, at_left}
+use Rattle.ps_automaton.proofs.EdgesAtLetters.Fitting.{by_letter}
 
 -- ## Targets, one by one
 

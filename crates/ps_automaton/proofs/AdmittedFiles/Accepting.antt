@@ -14,9 +14,10 @@ use Rattle.ps_automaton.specs.Words.{lasso_word}
 use Rattle.ps_automaton.specs.Autos.{Auto, TakesEdge, IsAutoOf, state_at, priority_at, greatest_from, state_behind}
 use Rattle.ps_automaton.specs.Autos.{state_after, greatest_of_laps}
 use Rattle.ps_automaton.specs.Acceptance.{IsRun, IsAccepted, part}
-use Rattle.ps_automaton.proofs.ChainLaws.{greatest_decides}
-use Rattle.ps_automaton.proofs.Orbits.{any_return_decides, priorities_repeat, word_repeats, word_within, word_behind}
-use Rattle.ps_automaton.proofs.Orbits.{all_below, place_below, laps_are_read, greatest_is_read}
+use Rattle.ps_automaton.proofs.ChainsOfSets.ChainLaws.{greatest_decides}
+use Rattle.ps_automaton.proofs.AdmittedFiles.Orbits.{any_return_decides, priorities_repeat, word_repeats, word_within}
+use Rattle.ps_automaton.proofs.AdmittedFiles.Orbits.{word_behind}
+use Rattle.ps_automaton.proofs.AdmittedFiles.Orbits.{all_below, place_below, laps_are_read, greatest_is_read}
 
 -- f gives the priority of each edge in a part of a run: the greatest priority of the part is the greatest value of f at
 -- the part's indices

@@ -4,7 +4,8 @@ use Rattle.std.proofs.Common.{◌≡◌, ◌≢◌, ◌∙◌, ℕ, zero, suc, �
 use Rattle.std.proofs.Common.{List, [], ◌∷◌, length, Option, Some, None, slice_get, refl, sym, arith}
 use Rattle.std.proofs.lemmas.Bool.{cases_eq, cases_lt}
 use Rattle.std.proofs.lemmas.Option.{slice_get_within}
-use Rattle.ps_text.proofs.Decisions.{Decided, decide_as, decide_below, decide_both, decide_not, decide_true}
+use Rattle.ps_text.proofs.ParsedAnswers.Decisions.{Decided, decide_as, decide_below, decide_both, decide_not}
+use Rattle.ps_text.proofs.ParsedAnswers.Decisions.{decide_true}
 use Rattle.ps_label.specs.Expression.{Expression}
 use Rattle.ps_label.specs.Truth.{label_truth}
 use Rattle.ps_hoa.specs.Files.{GuardData, EdgeData, RowData, FileData, stated, of_state, at_letter, is_among}
@@ -14,8 +15,8 @@ use Rattle.ps_automaton.specs.Chains.{Chain, chain_of, has_complement}
 use Rattle.ps_automaton.specs.declared.fault.AutomatonFault.{AutomatonFault}
 use Rattle.ps_automaton.specs.declared.fault.AutomatonFault.TheVariants.{ComplementedSet, NonParity, Nondeterministic}
 use Rattle.ps_automaton.specs.declared.fault.AutomatonFault.TheVariants.{OutOfMemory}
-use Rattle.ps_text.proofs.Simple.{same_some}
-use Rattle.ps_automaton.proofs.TakenEdges.{clash_of}
+use Rattle.ps_text.proofs.Combinators.Simple.{same_some}
+use Rattle.ps_automaton.proofs.EdgesAtLetters.TakenEdges.{clash_of}
 
 -- if a property is decidable for each number, a smallest number has it, or no number less than n has it
 least_below : (P : ℕ → Type 0) → ((k : ℕ) → Decided (P k)) → (n : ℕ) →

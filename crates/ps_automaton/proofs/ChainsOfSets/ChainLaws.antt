@@ -2,8 +2,8 @@
 -- or more edges, both are true exactly if the greatest priority that the chain gives to these edges is even.
 use Rattle.std.proofs.Common.{rules, ◌≡◌, ℕ, ◌<◌, ◌≤◌, Bool, true, false, cond, List, [], ◌∷◌, ◌++◌, length, Some, refl}
 use Rattle.std.proofs.Common.{ap, sym, ◌∙◌, arith}
-use Rattle.ps_hoa.specs.Conditions.{Condition, Conditions, constant, infinitely, finitely, all_hold, any_holds}
-use Rattle.ps_hoa.specs.Conditions.{last, more}
+use Rattle.ps_hoa.specs.Grammar.Conditions.{Condition, Conditions, constant, infinitely, finitely, all_hold, any_holds}
+use Rattle.ps_hoa.specs.Grammar.Conditions.{last, more}
 use Rattle.ps_automaton.specs.Chains.{ChainLink, Chain, chain_of, chain_of_all, link_of, links_of}
 use Rattle.ps_automaton.specs.Chains.{holds, all_of_them, one_of_them, chain_holds, is_even}
 use Rattle.ps_automaton.specs.Chains.{base_number, raised, first_number, level_by, is_met, greatest_level}

@@ -6,7 +6,7 @@ use Rattle.std.specs.List.{Contains, slice_get}
 use Rattle.std.specs.Option.{IsSomeAnd}
 use Rattle.std.specs.Prelude.{IsTrue, ◌↔◌}
 use Rattle.std.proofs.lemmas.Option.{slice_get_within, slice_get-get_or}
-use Rattle.ps_text.proofs.Simple.{same_some}
+use Rattle.ps_text.proofs.Combinators.Simple.{same_some}
 use Rattle.ps_label.specs.Expression.{Expression}
 use Rattle.ps_label.specs.Truth.{alias_truths, label_truth, truth}
 use Rattle.ps_diagram.specs.Products.{IsLeafByCases, meets}
@@ -21,8 +21,8 @@ use Rattle.ps_automaton.specs.Inner.Drafts.{AreJoined, ArePlaces, AreTargets, Is
 use Rattle.ps_automaton.specs.Inner.LetterSets.{entry_for}
 use Rattle.ps_automaton.specs.declared.step.Step.{Step}
 use Rattle.ps_automaton.specs.declared.targets.Target.{Target}
-use Rattle.ps_automaton.proofs.DistinctEntries.{at_last}
-use Rattle.ps_automaton.proofs.LetterRows.{states_within}
+use Rattle.ps_automaton.proofs.StepsByState.DistinctEntries.{at_last}
+use Rattle.ps_automaton.proofs.EdgesAtLetters.LetterRows.{states_within}
 
 -- ## Products and cases, one by one
 

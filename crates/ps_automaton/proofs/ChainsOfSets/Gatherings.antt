@@ -5,7 +5,7 @@ use Rattle.std.proofs.Common.{drop, get_or, Option, None, Some, ap, append_assoc
 use Rattle.std.proofs.Common.{drop-cons, arith}
 use Rattle.std.specs.Prelude.{is_some, HoldsAt}
 use Rattle.std.proofs.lemmas.List.{map-append, get_or-drop, drop_all}
-use Rattle.ps_hoa.specs.Conditions.{Condition, Conditions, last, more, operands_in}
+use Rattle.ps_hoa.specs.Grammar.Conditions.{Condition, Conditions, last, more, operands_in}
 use Rattle.ps_hoa.specs.Values.{condition_of}
 use Rattle.ps_hoa.specs.declared.condition.Cond.{Cond, All, Any}
 use Rattle.ps_hoa.proofs.Reading.CondRows.{condition_of-All, condition_of-Any}

@@ -3,8 +3,9 @@
 use Rattle.std.proofs.Common.{rules, ◌≡◌, ℕ, ◌<◌, ◌≤◌, Bool, true, false, List, [], ◌∷◌, ◌++◌, Option, Some, None}
 use Rattle.std.proofs.Common.{arith}
 use Rattle.std.specs.List.{AllByRecursion}
-use Rattle.ps_hoa.specs.Conditions.{SetData, Condition, Conditions, constant, infinitely, finitely, all_hold, any_holds}
-use Rattle.ps_hoa.specs.Conditions.{last, more}
+use Rattle.ps_hoa.specs.Grammar.Conditions.{SetData, Condition, Conditions, constant, infinitely, finitely, all_hold}
+use Rattle.ps_hoa.specs.Grammar.Conditions.{any_holds}
+use Rattle.ps_hoa.specs.Grammar.Conditions.{last, more}
 use Rattle.ps_hoa.specs.Sound.{AreConditions, IsCondition}
 use Rattle.ps_hoa.proofs.Soundness.SoundLaws.{all_at}
 use Rattle.ps_automaton.specs.Chains.{Chain, ChainLink, chain_of, chain_of_all, in_front, link_of, link_to, links_of}

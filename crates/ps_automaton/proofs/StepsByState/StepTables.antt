@@ -1,6 +1,7 @@
 -- In a list of different steps, the steps to one state are chained. When a step is appended, each chain is kept, and
 -- the new step becomes the last of the chain of its state.
-use Rattle.std.proofs.Common.{◌≡◌, ℕ, ◌+◌, ◌<◌, ◌≤◌, ◌⊎◌, inl, inr, List, [], ◌∷◌, ◌++◌, length, Some, arith, set, get_or}
+use Rattle.std.proofs.Common.{◌≡◌, ℕ, ◌+◌, ◌<◌, ◌≤◌, ◌⊎◌, inl, inr, List, [], ◌∷◌, ◌++◌, length, Some, arith, set}
+use Rattle.std.proofs.Common.{get_or}
 use Rattle.std.proofs.Common.{sym, refl, ◌∙◌, Bool, true, false, eqb}
 use Rattle.std.specs.List.{slice_get}
 use Rattle.std.proofs.lemmas.Option.{slice_get_within}
@@ -9,7 +10,7 @@ use Rattle.std.proofs.lemmas.List.{length-append, get_or_append_left, get_or-set
 use Rattle.ps_automaton.specs.Inner.Places.{AreDistinct}
 use Rattle.ps_automaton.specs.Inner.StepTables.{ArePrevious, IsCount, IsStepTable}
 use Rattle.ps_automaton.specs.declared.step.Step.{Step}
-use Rattle.ps_automaton.proofs.DistinctEntries.{at_last}
+use Rattle.ps_automaton.proofs.StepsByState.DistinctEntries.{at_last}
 
 pub table_of_none : IsStepTable [] [] []
 table_of_none = record {

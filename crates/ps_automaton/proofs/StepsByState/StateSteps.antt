@@ -1,6 +1,6 @@
 -- The steps of a state are computed from the state's row in the file, which has the edges of the state.
 use Rattle.std.proofs.Common.{arith, ◌≡◌, ℕ, Some, sym, ◌∙◌}
-use Rattle.ps_text.proofs.Simple.{same_some}
+use Rattle.ps_text.proofs.Combinators.Simple.{same_some}
 use Rattle.ps_hoa.specs.Edges.{row_of}
 use Rattle.ps_hoa.specs.Files.{RowData, FileData}
 use Rattle.ps_automaton.specs.Answers.{AreClashing, Clash}
