@@ -8,7 +8,7 @@ use Rattle.std.specs.Prelude.{slice_index_or}
 use Rattle.std.specs.Str.{bytes_eq}
 use Rattle.std.proofs.lemmas.Bool.{cases_Bool, cases_eq}
 use Rattle.std.proofs.lemmas.Slice.Eq.{bytes_eq-Decides}
-use Rattle.ps_text.proofs.Decisions.{Decided, decide_as, decide_below, decide_both}
+use Rattle.ps_text.proofs.ParsedAnswers.Decisions.{Decided, decide_as, decide_below, decide_both}
 use Rattle.ps_circuit.specs.Circuits.{CircuitData}
 use Rattle.ps_hoa.specs.Files.{is_among}
 use Rattle.ps_simulate.specs.Symbols.{AreNamesOnce, HasSymbols, IsSymbol, reads_controllable, sets_controllable}

@@ -13,7 +13,7 @@ use Rattle.std.proofs.lemmas.Slice.Eq.{bytes_eq-Decides}
 use Rattle.std.proofs.lemmas.List.{get_or-set_same, get_or-set_other, length-set, get_or_past, get_or_default}
 use Rattle.std.proofs.lemmas.List.{get_or-map}
 use Rattle.ps_hoa.specs.Files.{is_among}
-use Rattle.ps_hoa.specs.Header.{is_name_among}
+use Rattle.ps_hoa.specs.Grammar.Header.{is_name_among}
 use Rattle.ps_hoa.specs.Sound.{AreNames}
 use Rattle.ps_simulate.specs.declared.role.Role.{Role}
 use Rattle.ps_simulate.specs.Symbols.{AreDistinct, IsPropositionOf, IsSymbol, AreNamesOnce, reads_controllable}

@@ -4,7 +4,7 @@ use Rattle.std.proofs.Common.{rules, [], ◌∷◌, length, take, drop, refl, sy
 use Rattle.std.proofs.Common.{length-drop}
 use Rattle.std.proofs.lemmas.Bool.{cases_eq, cases_lt, eq-eqb, ne_eqb}
 use Rattle.std.proofs.lemmas.List.{drop-drop, length-take-le}
-use Rattle.ps_text.proofs.Decisions.{Decided, decide_as, decide_one}
+use Rattle.ps_text.proofs.ParsedAnswers.Decisions.{Decided, decide_as, decide_one}
 use Rattle.ps_simulate.specs.declared.fault.StimulusCause.{StimulusCause}
 use Rattle.ps_simulate.specs.declared.fault.StimulusCause.TheVariants.{Width, Stimulus}
 use Rattle.ps_simulate.specs.Faults.{rank}

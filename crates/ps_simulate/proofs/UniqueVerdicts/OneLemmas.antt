@@ -10,10 +10,12 @@ use Rattle.ps_circuit.specs.Circuits.{CircuitData, IsCircuit, IsKnown, ReadsGate
 use Rattle.ps_circuit.specs.Literals.{variable}
 use Rattle.ps_circuit.specs.Values.{AreValues, HasOneValues, value_of, bit_of}
 use Rattle.ps_simulate.specs.Plans.{no_gate}
-use Rattle.ps_simulate.proofs.PlacesLemmas.{sides_known}
-use Rattle.ps_simulate.proofs.RowLemmas.{no_latch, length-definitions, length-variables, definitions_input}
-use Rattle.ps_simulate.proofs.RowLemmas.{definitions_latch, definitions_gate}
-use Rattle.ps_simulate.proofs.ValueLemmas.{bit_of-definition, HasSources-first_table, AreValues-work_out}
+use Rattle.ps_simulate.proofs.EvaluationPlans.PlacesLemmas.{sides_known}
+use Rattle.ps_simulate.proofs.EvaluationPlans.RowLemmas.{no_latch, length-definitions, length-variables}
+use Rattle.ps_simulate.proofs.EvaluationPlans.RowLemmas.{definitions_input}
+use Rattle.ps_simulate.proofs.EvaluationPlans.RowLemmas.{definitions_latch, definitions_gate}
+use Rattle.ps_simulate.proofs.EvaluationPlans.ValueLemmas.{bit_of-definition, HasSources-first_table}
+use Rattle.ps_simulate.proofs.EvaluationPlans.ValueLemmas.{AreValues-work_out}
 
 module _ {c : CircuitData} (is : IsCircuit c) {order : List ℕ}
     (is_order : IsOrder (ReadsGate c.gates) (length c.gates) order) {inputs latches values others : List Bool}

@@ -9,7 +9,7 @@ use Rattle.ps_circuit.specs.Values.{Moment}
 use Rattle.ps_simulate.specs.declared.role.Role.{Role}
 use Rattle.ps_simulate.specs.Symbols.{HasSymbols, reads_controllable, sets_controllable}
 use Rattle.ps_simulate.specs.Lassos.{IsLetterOf, AreLetters}
-use Rattle.ps_automaton.proofs.Bits.{same_bit}
+use Rattle.ps_automaton.proofs.ChainsOfSets.Bits.{same_bit}
 
 -- both for a controller and for an environment, each proposition belongs to the inputs or to the outputs
 pub side : (role : Role) (b : Bool) → (b ≡ reads_controllable role) ⊎ (b ≡ sets_controllable role)

@@ -3,8 +3,8 @@ use Rattle.std.proofs.Common.{◌≡◌, ◌∙◌, ℕ, suc, ◌<◌, Bool, Lis
 use Rattle.ps_circuit.specs.Circuits.{CircuitData, IsCircuit}
 use Rattle.ps_circuit.specs.declared.parts.Latch.{Latch}
 use Rattle.ps_circuit.specs.Values.{Moment, Steps, GoesOn, HasOneValues, bit_of}
-use Rattle.ps_simulate.proofs.PlacesLemmas.{output_known, next_known}
-use Rattle.ps_simulate.proofs.RowLemmas.{no_latch}
+use Rattle.ps_simulate.proofs.EvaluationPlans.PlacesLemmas.{output_known, next_known}
+use Rattle.ps_simulate.proofs.EvaluationPlans.RowLemmas.{no_latch}
 
 -- ---- lists
 

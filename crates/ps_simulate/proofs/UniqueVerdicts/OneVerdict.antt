@@ -17,7 +17,7 @@ use Rattle.ps_simulate.specs.Lassos.{laps_of, latches_along, RepeatsLatches, IsV
 use Rattle.ps_simulate.specs.Words.{TraceWordData}
 use Rattle.ps_simulate.proofs.UniqueVerdicts.OneTrace.{firsts_agree}
 use Rattle.ps_simulate.proofs.UniqueVerdicts.OneLetter.{one_letters}
-use Rattle.ps_simulate.proofs.LassoLemmas.{along_more, at_end, length_trace}
+use Rattle.ps_simulate.proofs.LapsOfRuns.LassoLemmas.{along_more, at_end, length_trace}
 
 -- if j is at most n, the word that repeats `lap` n times begins with the word that repeats it j times
 laps_front : (lap : List (List Bool)) (j n : ℕ) → j ≤ n → (more : List (List Bool)) ×

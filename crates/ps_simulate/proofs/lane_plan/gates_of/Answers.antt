@@ -1,5 +1,5 @@
 use Rattle.std.proofs.Common.{arith}
-use Rattle.ps_simulate.proofs.LanePlanLemmas.{rows_more}
+use Rattle.ps_simulate.proofs.EvaluationPlans.LanePlanLemmas.{rows_more}
 use Rattle.ps_simulate.proofs.lane_plan.gates_of.Goals as goal
 
 pub loop-row-preserved : goal.loop-row-preserved

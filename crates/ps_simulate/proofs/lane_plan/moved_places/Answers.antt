@@ -3,7 +3,7 @@ use Rattle.std.specs.List.{range_with_len}
 use Rattle.std.proofs.lemmas.Iterator.{YieldsList-from_range, items_from_collect}
 use Rattle.std.proofs.lemmas.List.FromFn.{get_or-range_with_len, length-range_with_len}
 use Rattle.ps_simulate.specs.LanePlans.{moved}
-use Rattle.ps_simulate.proofs.LanePlanLemmas.{kept_more, order_more}
+use Rattle.ps_simulate.proofs.EvaluationPlans.LanePlanLemmas.{kept_more, order_more}
 use Rattle.ps_simulate.proofs.lane_plan.moved_places.Goals as goal
 
 pub loop-number-init : goal.loop-number-init

@@ -1,7 +1,7 @@
 use Rattle.std.proofs.Common.{◌∙◌, ap, rules}
 use Rattle.ps_simulate.specs.Lanes.{all_or_none}
 use Rattle.ps_simulate.specs.LanePlans.{wire_in}
-use Rattle.ps_simulate.proofs.LaneLemmas.{bit_in-read}
+use Rattle.ps_simulate.proofs.EvaluationPlans.LaneLemmas.{bit_in-read}
 use Rattle.ps_simulate.proofs.lanes.bits.Goals as goal
 
 pub returns : goal.returns

@@ -1,6 +1,6 @@
 use Rattle.std.proofs.Common.{◌≡◌, ◌∙◌, length, arith}
 use Rattle.ps_simulate.specs.Lanes.{lane_of}
-use Rattle.ps_simulate.proofs.LaneLemmas.{same_lane, length-lane}
+use Rattle.ps_simulate.proofs.EvaluationPlans.LaneLemmas.{same_lane, length-lane}
 use Rattle.ps_simulate.proofs.lanes.fill_words.Goals as goal
 
 pub returns : goal.returns

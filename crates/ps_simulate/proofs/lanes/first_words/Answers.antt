@@ -1,7 +1,7 @@
 use Rattle.std.proofs.Common.{ℕ, List, map, length, ap, arith}
 use Rattle.std.proofs.lemmas.List.{get_or_default, take_all}
 use Rattle.ps_simulate.specs.Lanes.{lane_bit}
-use Rattle.ps_simulate.proofs.LaneLemmas.{reset_on}
+use Rattle.ps_simulate.proofs.EvaluationPlans.LaneLemmas.{reset_on}
 use Rattle.ps_simulate.proofs.lanes.first_words.Goals as goal
 
 pub loop-latch-init : goal.loop-latch-init

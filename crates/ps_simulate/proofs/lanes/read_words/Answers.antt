@@ -1,6 +1,6 @@
 use Rattle.std.proofs.Common.{◌∙◌, arith}
 use Rattle.std.proofs.lemmas.List.{get_or_default}
-use Rattle.ps_simulate.proofs.LaneLemmas.{read_on}
+use Rattle.ps_simulate.proofs.EvaluationPlans.LaneLemmas.{read_on}
 use Rattle.ps_simulate.proofs.lanes.read_words.Goals as goal
 
 pub loop-place-preserved : goal.loop-place-preserved

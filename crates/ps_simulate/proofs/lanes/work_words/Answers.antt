@@ -1,6 +1,6 @@
 use Rattle.std.proofs.Common.{length, rules, arith}
 use Rattle.std.proofs.lemmas.List.{get_or_default}
-use Rattle.ps_simulate.proofs.LanePlanLemmas.{all_done, gate_on, gate_fits}
+use Rattle.ps_simulate.proofs.EvaluationPlans.LanePlanLemmas.{all_done, gate_on, gate_fits}
 use Rattle.ps_simulate.proofs.lanes.work_words.Goals as goal
 
 pub loop-number-preserved : goal.loop-number-preserved

@@ -1,7 +1,7 @@
 use Rattle.std.proofs.Common.{[], arith}
 use Rattle.std.proofs.lemmas.Bool.{cases_eq}
 use Rattle.std.proofs.lemmas.List.{length-map}
-use Rattle.ps_simulate.proofs.LassoLemmas.{letter_at}
+use Rattle.ps_simulate.proofs.LapsOfRuns.LassoLemmas.{letter_at}
 use Rattle.ps_simulate.proofs.lassos.are_wide.Goals as goal
 
 pub returns-then-len-width-clause-not : goal.returns-then-len-width-clause-not

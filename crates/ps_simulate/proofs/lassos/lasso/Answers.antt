@@ -2,7 +2,7 @@ use Rattle.std.proofs.Common.{length, ap, arith}
 use Rattle.std.proofs.lemmas.List.{length-map}
 use Rattle.ps_hoa.specs.Memory.{bytes_of}
 use Rattle.ps_simulate.proofs.NamingLemmas.{names_differ}
-use Rattle.ps_simulate.proofs.WordLemmas.{few_in_stem, few_in_lap, some_in_lap}
+use Rattle.ps_simulate.proofs.LapsOfRuns.WordLemmas.{few_in_stem, few_in_lap, some_in_lap}
 use Rattle.ps_simulate.proofs.lassos.lasso.Goals as goal
 
 pub trace_word-requires-clause-few : goal.trace_word-requires-clause-few

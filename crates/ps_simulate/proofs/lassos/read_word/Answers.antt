@@ -5,7 +5,7 @@ use Rattle.ps_circuit.specs.Circuits.{CircuitData}
 use Rattle.ps_circuit.specs.Values.{Moment, Steps}
 use Rattle.ps_simulate.specs.Lassos.{IsLetterOf}
 use Rattle.ps_simulate.specs.Inner.Namings.{names_of, bit_at_place}
-use Rattle.ps_simulate.proofs.LassoLemmas.{letter_is, letter_fits, ReadsWord-letter}
+use Rattle.ps_simulate.proofs.LapsOfRuns.LassoLemmas.{letter_is, letter_fits, ReadsWord-letter}
 use Rattle.ps_simulate.proofs.lassos.read_word.Goals as goal
 
 pub step-requires-clause-inputs_fit : goal.step-requires-clause-inputs_fit

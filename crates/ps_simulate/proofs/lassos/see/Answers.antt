@@ -2,7 +2,7 @@ use Rattle.std.proofs.Common.{arith, ◌≡◌, ◌∙◌, ℕ, ◌+◌, ◌++�
 use Rattle.std.specs.Prelude.{if◌then◌else◌, is_some}
 use Rattle.std.specs.BTreeMap.{btree_map_len, get}
 use Rattle.ps_simulate.specs.LassoRuns.{bits_cmp}
-use Rattle.ps_simulate.proofs.SeenLemmas.{not_seen, places_push, seen_before}
+use Rattle.ps_simulate.proofs.LapsOfRuns.SeenLemmas.{not_seen, places_push, seen_before}
 use Rattle.ps_simulate.proofs.lassos.see.Goals as goal
 
 pub returns-in-Some : goal.returns-in-Some

@@ -1,6 +1,6 @@
 use Rattle.std.proofs.Common.{arith}
-use Rattle.ps_simulate.proofs.LassoLemmas.{lap_within_items}
-use Rattle.ps_simulate.proofs.WordLemmas.{word_is_items}
+use Rattle.ps_simulate.proofs.LapsOfRuns.LassoLemmas.{lap_within_items}
+use Rattle.ps_simulate.proofs.LapsOfRuns.WordLemmas.{word_is_items}
 use Rattle.ps_simulate.proofs.lassos.word_of.Goals as goal
 
 pub overflow_mul-start : goal.overflow_mul-start

@@ -1,4 +1,4 @@
-use Rattle.ps_simulate.proofs.GateOrders.{gates_in_order}
+use Rattle.ps_simulate.proofs.EvaluationPlans.GateOrders.{gates_in_order}
 use Rattle.ps_simulate.proofs.UniqueVerdicts.OneLemmas.{HasOneValues-circuit}
 use Rattle.ps_simulate.proofs.laws.circuit_has_one_values.Goals as goal
 

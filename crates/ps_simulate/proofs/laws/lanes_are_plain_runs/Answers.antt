@@ -1,4 +1,4 @@
-use Rattle.ps_simulate.proofs.RunLemmas.{AreLanesPlain-circuit}
+use Rattle.ps_simulate.proofs.EvaluationPlans.RunLemmas.{AreLanesPlain-circuit}
 use Rattle.ps_simulate.proofs.laws.lanes_are_plain_runs.Goals as goal
 
 pub returns : goal.returns

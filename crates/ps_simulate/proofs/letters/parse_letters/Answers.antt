@@ -1,7 +1,7 @@
 use Rattle.std.proofs.Common.{◌≡◌, ◌-◌, take, drop, length, arith}
 use Rattle.std.proofs.lemmas.Result.{err_from_is_err_and}
 use Rattle.std.proofs.lemmas.List.{length-map}
-use Rattle.ps_simulate.proofs.BitLists.{letters_in-push, whole-push, IsLettersAnswer-line}
+use Rattle.ps_simulate.proofs.LapsOfRuns.BitLists.{letters_in-push, whole-push, IsLettersAnswer-line}
 use Rattle.ps_simulate.proofs.Stimuli.StimulusSteps.{HasRead-letter}
 use Rattle.ps_simulate.proofs.Stimuli.StimulusLines.{line_length}
 use Rattle.ps_simulate.proofs.letters.parse_letters.Goals as goal

@@ -1,5 +1,5 @@
 use Rattle.std.proofs.Common.{sym, ◌∙◌}
-use Rattle.ps_simulate.proofs.LetterBitLaws.{bit_put, bit_kept, bit_few}
+use Rattle.ps_simulate.proofs.LapsOfRuns.LetterBitLaws.{bit_put, bit_kept, bit_few}
 use Rattle.ps_simulate.proofs.naming.with_bit.Goals as goal
 
 pub returns-then-bit-clause-at : goal.returns-then-bit-clause-at

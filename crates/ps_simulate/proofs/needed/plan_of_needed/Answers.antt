@@ -1,7 +1,7 @@
 use Rattle.std.proofs.Common.{rules}
 use Rattle.std.proofs.lemmas.Fn.{filter_same}
-use Rattle.ps_simulate.proofs.RowLemmas.{IsScheduled-rows}
-use Rattle.ps_simulate.proofs.StepLemmas.{nexts_within, outputs_within, rows_within}
+use Rattle.ps_simulate.proofs.EvaluationPlans.RowLemmas.{IsScheduled-rows}
+use Rattle.ps_simulate.proofs.EvaluationPlans.StepLemmas.{nexts_within, outputs_within, rows_within}
 use Rattle.ps_simulate.proofs.needed.plan_of_needed.Goals as goal
 
 pub needed_places-requires-clause-rows : goal.needed_places-requires-clause-rows

@@ -1,6 +1,6 @@
 use Rattle.std.proofs.Common.{arith}
 use Rattle.std.proofs.lemmas.Grind.{common_steps}
-use Rattle.ps_simulate.proofs.PlacesLemmas.{next_known}
+use Rattle.ps_simulate.proofs.EvaluationPlans.PlacesLemmas.{next_known}
 use Rattle.ps_simulate.proofs.plan.next_wires.Goals as goal
 
 pub wire-requires : goal.wire-requires

@@ -1,6 +1,6 @@
 use Rattle.std.proofs.Common.{arith}
 use Rattle.std.proofs.lemmas.Grind.{common_steps}
-use Rattle.ps_simulate.proofs.PlacesLemmas.{output_known}
+use Rattle.ps_simulate.proofs.EvaluationPlans.PlacesLemmas.{output_known}
 use Rattle.ps_simulate.proofs.plan.output_wires.Goals as goal
 
 pub wire-requires : goal.wire-requires

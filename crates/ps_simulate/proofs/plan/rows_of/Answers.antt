@@ -7,7 +7,7 @@ use Rattle.ps_circuit.specs.declared.parts.Gate.{Gate}
 use Rattle.ps_simulate.specs.declared.plan.Row.{Row}
 use Rattle.ps_simulate.specs.declared.plan.Wire.{Wire}
 use Rattle.ps_simulate.specs.Plans.{no_gate, row_at, wire_of}
-use Rattle.ps_simulate.proofs.PlacesLemmas.{gate_known, sides_known}
+use Rattle.ps_simulate.proofs.EvaluationPlans.PlacesLemmas.{gate_known, sides_known}
 use Rattle.ps_simulate.proofs.plan.rows_of.Goals as goal
 use Rattle.ps_simulate.proofs.plan.rows_of.Goals.{After-order-order}
 

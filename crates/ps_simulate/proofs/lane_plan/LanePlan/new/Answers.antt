@@ -3,10 +3,11 @@ use Rattle.ps_simulate.specs.Inner.Moving.{CanMove}
 use Rattle.ps_simulate.specs.LanePlans.{AreInOrder, AreMoved}
 use Rattle.ps_simulate.specs.Plans.{variables}
 use Rattle.ps_simulate.specs.declared.plan.Wire.{Wire}
-use Rattle.ps_simulate.proofs.RowLemmas.{length-variables}
-use Rattle.ps_simulate.proofs.StepLemmas.{rows_within, outputs_within, nexts_within}
-use Rattle.ps_simulate.proofs.LanePlanLemmas.{few_variables, few_rows, gate_rows_at, rows_once_at, AreMoved_at}
-use Rattle.ps_simulate.proofs.LanePlanLemmas.{moved_small}
+use Rattle.ps_simulate.proofs.EvaluationPlans.RowLemmas.{length-variables}
+use Rattle.ps_simulate.proofs.EvaluationPlans.StepLemmas.{rows_within, outputs_within, nexts_within}
+use Rattle.ps_simulate.proofs.EvaluationPlans.LanePlanLemmas.{few_variables, few_rows, gate_rows_at, rows_once_at}
+use Rattle.ps_simulate.proofs.EvaluationPlans.LanePlanLemmas.{AreMoved_at}
+use Rattle.ps_simulate.proofs.EvaluationPlans.LanePlanLemmas.{moved_small}
 use Rattle.ps_simulate.proofs.lane_plan.LanePlan.new.Goals as goal
 use Rattle.ps_simulate.proofs.lane_plan.LanePlan.new.Goals.{After-deref, After-deref-2}
 

@@ -1,5 +1,5 @@
 use Rattle.std.proofs.Common.{rules}
-use Rattle.ps_simulate.proofs.LaneStepLemmas.{AreLaneTables-zeros}
+use Rattle.ps_simulate.proofs.EvaluationPlans.LaneStepLemmas.{AreLaneTables-zeros}
 use Rattle.ps_simulate.proofs.lanes.LaneSimulator.new.Goals as goal
 
 pub invariant_of-result : goal.invariant_of-result

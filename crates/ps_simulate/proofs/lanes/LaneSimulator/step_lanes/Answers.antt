@@ -3,9 +3,11 @@ use Rattle.std.proofs.lemmas.List.{take_at}
 use Rattle.ps_simulate.specs.LanePlans.{rows_from}
 use Rattle.ps_simulate.specs.Lanes.{LaneSimulation, lane_of}
 use Rattle.ps_simulate.specs.Plans.{IsWorkedOut}
-use Rattle.ps_simulate.proofs.LaneStepLemmas.{room, latches_many, gates_fit, gates_within, outputs_in_table}
-use Rattle.ps_simulate.proofs.LaneStepLemmas.{nexts_in_table, outputs_many, nexts_many, constant_there, Steps-lane}
-use Rattle.ps_simulate.proofs.LaneStepLemmas.{IsValueTable-lane}
+use Rattle.ps_simulate.proofs.EvaluationPlans.LaneStepLemmas.{room, latches_many, gates_fit, gates_within}
+use Rattle.ps_simulate.proofs.EvaluationPlans.LaneStepLemmas.{outputs_in_table}
+use Rattle.ps_simulate.proofs.EvaluationPlans.LaneStepLemmas.{nexts_in_table, outputs_many, nexts_many, constant_there}
+use Rattle.ps_simulate.proofs.EvaluationPlans.LaneStepLemmas.{Steps-lane}
+use Rattle.ps_simulate.proofs.EvaluationPlans.LaneStepLemmas.{IsValueTable-lane}
 use Rattle.ps_simulate.proofs.lanes.LaneSimulator.step_lanes.Goals as goal
 use Rattle.ps_simulate.proofs.lanes.LaneSimulator.step_lanes.Goals.{After-fill_words, After-read_words-2}
 

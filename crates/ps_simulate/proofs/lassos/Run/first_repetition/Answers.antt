@@ -1,8 +1,8 @@
 use Rattle.std.proofs.Common.{◌≡◌, None, arith}
 use Rattle.std.proofs.lemmas.List.{length-map}
 use Rattle.ps_simulate.specs.LassoRuns.{IsSeen}
-use Rattle.ps_simulate.proofs.LassoLemmas.{HasRead-next, HasRead-start, fewer, goes_wide, repeats}
-use Rattle.ps_simulate.proofs.SeenLemmas.{places_start}
+use Rattle.ps_simulate.proofs.LapsOfRuns.LassoLemmas.{HasRead-next, HasRead-start, fewer, goes_wide, repeats}
+use Rattle.ps_simulate.proofs.LapsOfRuns.SeenLemmas.{places_start}
 use Rattle.ps_simulate.proofs.lassos.Run.first_repetition.Goals as goal
 
 pub laps-init : goal.laps-init

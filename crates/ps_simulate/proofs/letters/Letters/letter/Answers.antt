@@ -1,5 +1,5 @@
 use Rattle.std.proofs.Common.{◌+◌, ◌*◌, ◌<◌, ◌≤◌, length, arith}
-use Rattle.ps_simulate.proofs.BitLists.{length-letters_in, slice_get-letters_in, letter_within}
+use Rattle.ps_simulate.proofs.LapsOfRuns.BitLists.{length-letters_in, slice_get-letters_in, letter_within}
 use Rattle.ps_simulate.proofs.letters.Letters.letter.Goals as goal
 use Rattle.ps_simulate.proofs.letters.Letters.letter.Goals.{After-self}
 

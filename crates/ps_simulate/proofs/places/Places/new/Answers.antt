@@ -1,5 +1,5 @@
 use Rattle.std.proofs.Common.{arith}
-use Rattle.ps_simulate.proofs.PlacesLemmas.{variables_once}
+use Rattle.ps_simulate.proofs.EvaluationPlans.PlacesLemmas.{variables_once}
 use Rattle.ps_simulate.proofs.places.Places.new.Goals as goal
 
 pub ids_of-requires : goal.ids_of-requires

@@ -2,8 +2,8 @@ use Rattle.std.proofs.Common.{rules, arith, ◌≡◌, refl, position, Some}
 use Rattle.ps_circuit.specs.Literals.{variable}
 use Rattle.ps_ids.proofs.IdPlaces.{position_here}
 use Rattle.ps_simulate.specs.Plans.{place_of_variable}
-use Rattle.ps_simulate.proofs.LanePlanLemmas.{few_variables}
-use Rattle.ps_simulate.proofs.PlacesLemmas.{place_known, variables_once}
+use Rattle.ps_simulate.proofs.EvaluationPlans.LanePlanLemmas.{few_variables}
+use Rattle.ps_simulate.proofs.EvaluationPlans.PlacesLemmas.{place_known, variables_once}
 use Rattle.ps_simulate.proofs.places.Places.wire.Goals as goal
 use Rattle.ps_simulate.proofs.places.Places.wire.Goals.{After-place}
 

@@ -1,9 +1,10 @@
 use Rattle.std.proofs.Common.{◌≡◌, ◌∙◌, ◌++◌, length, take, drop, ap, arith}
 use Rattle.std.proofs.lemmas.List.{take_at}
 use Rattle.ps_simulate.specs.Plans.{IsWorkedOut, variables}
-use Rattle.ps_simulate.proofs.NeededLemmas.{cut_within, cut_nexts_within, cut_outputs_within, IsValueTable-cut}
-use Rattle.ps_simulate.proofs.NeededLemmas.{Steps-cut}
-use Rattle.ps_simulate.proofs.RowLemmas.{length-variables}
+use Rattle.ps_simulate.proofs.EvaluationPlans.NeededLemmas.{cut_within, cut_nexts_within, cut_outputs_within}
+use Rattle.ps_simulate.proofs.EvaluationPlans.NeededLemmas.{IsValueTable-cut}
+use Rattle.ps_simulate.proofs.EvaluationPlans.NeededLemmas.{Steps-cut}
+use Rattle.ps_simulate.proofs.EvaluationPlans.RowLemmas.{length-variables}
 use Rattle.ps_simulate.proofs.simulator.Simulator.step.Goals as goal
 use Rattle.ps_simulate.proofs.simulator.Simulator.step.Goals.{After-fill, After-read_all-2}
 

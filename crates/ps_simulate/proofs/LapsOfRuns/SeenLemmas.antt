@@ -9,9 +9,9 @@ use Rattle.std.specs.Global.{Global}
 use Rattle.std.specs.Ordering.{bool_cmp, is_eq}
 use Rattle.std.proofs.lemmas.Cmp.{lists_total, tied_itself}
 use Rattle.std.proofs.lemmas.Option.{slice_get_within, slice_get-get_or, get_or_from_slice_get}
-use Rattle.ps_text.proofs.Simple.{none_is_some}
+use Rattle.ps_text.proofs.Combinators.Simple.{none_is_some}
 use Rattle.ps_simulate.specs.LassoRuns.{IsSeen, HavePlaces, bits_cmp}
-use Rattle.ps_automaton.proofs.DistinctEntries.{at_end, at_last, at_left}
+use Rattle.ps_automaton.proofs.StepsByState.DistinctEntries.{at_end, at_last, at_left}
 
 -- ## The lexicographic order of lists of bits
 

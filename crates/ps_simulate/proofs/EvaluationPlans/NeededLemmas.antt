@@ -16,9 +16,9 @@ use Rattle.ps_simulate.specs.NeededGates.{IsPlanOfNeeded, IsScheduled, Needs, Ne
 use Rattle.ps_simulate.specs.NeededGates.{no_row, numbered_row}
 use Rattle.ps_simulate.specs.Plans.{IsPlan, IsRowInTable, IsWorkedOut, read, variables, work_out, work_row}
 use Rattle.ps_simulate.specs.Tables.{IsValueTable}
-use Rattle.ps_simulate.proofs.StepLemmas.{Steps-worked_out, nexts_within, outputs_within, rows_within}
-use Rattle.ps_simulate.proofs.RowLemmas.{target_is}
-use Rattle.ps_simulate.proofs.WorkLemmas.{length-work_out, read-same, work_out-other}
+use Rattle.ps_simulate.proofs.EvaluationPlans.StepLemmas.{Steps-worked_out, nexts_within, outputs_within, rows_within}
+use Rattle.ps_simulate.proofs.EvaluationPlans.RowLemmas.{target_is}
+use Rattle.ps_simulate.proofs.EvaluationPlans.WorkLemmas.{length-work_out, read-same, work_out-other}
 
 -- ---- the values that are needed
 

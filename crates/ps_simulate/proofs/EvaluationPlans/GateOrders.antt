@@ -14,9 +14,9 @@ use Rattle.ps_components.proofs.Ways.{Way-join}
 use Rattle.ps_circuit.specs.declared.parts.Gate.{Gate}
 use Rattle.ps_circuit.specs.Circuits.{CircuitData, IsCircuit, ReadsGate}
 use Rattle.ps_circuit.specs.Literals.{variable}
-use Rattle.ps_simulate.proofs.CountLemmas.{at_push, few_below}
-use Rattle.ps_text.proofs.Decisions.{Decided, decide_as, decide_below, decide_in, decide_one}
-use Rattle.ps_automaton.proofs.Deciding.{decide_some}
+use Rattle.ps_simulate.proofs.LapsOfRuns.CountLemmas.{at_push, few_below}
+use Rattle.ps_text.proofs.ParsedAnswers.Decisions.{Decided, decide_as, decide_below, decide_in, decide_one}
+use Rattle.ps_automaton.proofs.AdmittedFiles.Deciding.{decide_some}
 
 abbrev Stands : List ℕ → ℕ → Type 0
 Stands xs j = (l : ℕ) × (l < length xs) × (get_or xs l 0 ≡ j)

@@ -9,7 +9,8 @@ use Rattle.ps_circuit.specs.Circuits.{CircuitData, IsCircuit, IsKnown, definitio
 use Rattle.ps_circuit.specs.Literals.{variable}
 use Rattle.ps_simulate.specs.declared.plan.Row.{Row}
 use Rattle.ps_simulate.specs.Plans.{variables, place_of_variable, row_at, no_gate, AreGateRows, IsRowInTable}
-use Rattle.ps_simulate.proofs.PlacesLemmas.{variables_at, place_of-at, place_known, gate_known, sides_known}
+use Rattle.ps_simulate.proofs.EvaluationPlans.PlacesLemmas.{variables_at, place_of-at, place_known, gate_known}
+use Rattle.ps_simulate.proofs.EvaluationPlans.PlacesLemmas.{sides_known}
 use Rattle.ps_simulate.specs.NeededGates.{numbered_row, no_row, IsScheduled}
 
 -- the latch that `get_or` gives for an index outside a list of latches

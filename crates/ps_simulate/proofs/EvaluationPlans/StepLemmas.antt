@@ -9,11 +9,11 @@ use Rattle.ps_simulate.specs.declared.plan.Plan.{Plan}
 use Rattle.ps_circuit.specs.Values.{Steps, bit_of}
 use Rattle.ps_simulate.specs.Plans.{IsPlan, IsRowInTable, IsWorkedOut, read, wire_of, variables}
 use Rattle.ps_simulate.specs.Tables.{IsValueTable}
-use Rattle.ps_simulate.proofs.PlacesLemmas.{place_known, output_known, next_known}
-use Rattle.ps_simulate.proofs.RowLemmas.{no_latch, target_is, IsRowInTable-row}
+use Rattle.ps_simulate.proofs.EvaluationPlans.PlacesLemmas.{place_known, output_known, next_known}
+use Rattle.ps_simulate.proofs.EvaluationPlans.RowLemmas.{no_latch, target_is, IsRowInTable-row}
 use Rattle.ps_simulate.specs.NeededGates.{no_row}
-use Rattle.ps_simulate.proofs.WorkLemmas.{length-work_out, work_out-other}
-use Rattle.ps_simulate.proofs.ValueLemmas.{values_by, bit_of-values_by, AreValues-work_out}
+use Rattle.ps_simulate.proofs.EvaluationPlans.WorkLemmas.{length-work_out, work_out-other}
+use Rattle.ps_simulate.proofs.EvaluationPlans.ValueLemmas.{values_by, bit_of-values_by, AreValues-work_out}
 
 module _ {c : CircuitData} (is : IsCircuit c) {plan : Plan} (p : IsPlan c plan) where
   pub rows_within : All (IsRowInTable (length (variables c))) plan.rows.items

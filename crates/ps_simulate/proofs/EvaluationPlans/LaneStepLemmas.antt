@@ -14,12 +14,12 @@ use Rattle.ps_simulate.specs.Plans.{IsRowInTable, IsWorkedOut, variables, read}
 use Rattle.ps_simulate.specs.LanePlans.{wire_in, rows_from, move_wire, move_row, unmoved, AreMoved, IsLanePlan}
 use Rattle.ps_simulate.specs.Lanes.{AreLaneTables, lane_of}
 use Rattle.ps_simulate.specs.Tables.{IsValueTable}
-use Rattle.ps_simulate.proofs.LaneLemmas.{length-lane, bit_in-mask}
-use Rattle.ps_simulate.proofs.LanePlanLemmas.{few_rows, gates_end}
-use Rattle.ps_simulate.proofs.MoveLemmas.{IsWorkedOut-unmoved, reads-unmoved, unmoved_at}
-use Rattle.ps_simulate.proofs.RowLemmas.{length-variables}
-use Rattle.ps_simulate.proofs.StepLemmas.{rows_within, outputs_within, nexts_within, Steps-worked_out}
-use Rattle.ps_simulate.proofs.StepLemmas.{IsValueTable-worked_out}
+use Rattle.ps_simulate.proofs.EvaluationPlans.LaneLemmas.{length-lane, bit_in-mask}
+use Rattle.ps_simulate.proofs.EvaluationPlans.LanePlanLemmas.{few_rows, gates_end}
+use Rattle.ps_simulate.proofs.EvaluationPlans.MoveLemmas.{IsWorkedOut-unmoved, reads-unmoved, unmoved_at}
+use Rattle.ps_simulate.proofs.EvaluationPlans.RowLemmas.{length-variables}
+use Rattle.ps_simulate.proofs.EvaluationPlans.StepLemmas.{rows_within, outputs_within, nexts_within, Steps-worked_out}
+use Rattle.ps_simulate.proofs.EvaluationPlans.StepLemmas.{IsValueTable-worked_out}
 use Rattle.ps_simulate.specs.NeededGates.{no_wire}
 
 -- the variables of renumbered literals are indices within the table of values

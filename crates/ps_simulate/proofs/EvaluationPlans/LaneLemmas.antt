@@ -18,7 +18,7 @@ use Rattle.ps_simulate.specs.declared.plan.Row.{Row}
 use Rattle.ps_simulate.specs.Lanes.{all_or_none, lane_bit, lane_of}
 use Rattle.ps_simulate.specs.LanePlans.{wire_in}
 use Rattle.ps_simulate.specs.Plans.{read, work_out}
-use Rattle.ps_simulate.proofs.RowLemmas.{no_latch}
+use Rattle.ps_simulate.proofs.EvaluationPlans.RowLemmas.{no_latch}
 use Rattle.ps_simulate.specs.NeededGates.{no_row}
 
 both : (x y : ℕ) → x < 2 → y < 2 → (min x y == 1) ≡ ((x == 1) && (y == 1))

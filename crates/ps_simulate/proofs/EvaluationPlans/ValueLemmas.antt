@@ -14,12 +14,14 @@ use Rattle.ps_simulate.specs.declared.plan.Row.{Row}
 use Rattle.ps_circuit.specs.Values.{AreValues, MeetsGate, value_of, bit_of}
 use Rattle.ps_simulate.specs.Plans.{variables, place_of_variable, wire_of, row_at, no_gate, AreGateRows, HasSources}
 use Rattle.ps_simulate.specs.Plans.{read, work_out}
-use Rattle.ps_simulate.proofs.PlacesLemmas.{place_of-at, sides_known}
-use Rattle.ps_simulate.proofs.RowLemmas.{no_latch, length-definitions, length-variables, definitions_input}
-use Rattle.ps_simulate.proofs.RowLemmas.{definitions_latch, definitions_gate, place_of-definition, row_is, row_of_gate}
-use Rattle.ps_simulate.proofs.RowLemmas.{target_is, IsScheduled-rows, IsRowInTable-row}
+use Rattle.ps_simulate.proofs.EvaluationPlans.PlacesLemmas.{place_of-at, sides_known}
+use Rattle.ps_simulate.proofs.EvaluationPlans.RowLemmas.{no_latch, length-definitions, length-variables}
+use Rattle.ps_simulate.proofs.EvaluationPlans.RowLemmas.{definitions_input}
+use Rattle.ps_simulate.proofs.EvaluationPlans.RowLemmas.{definitions_latch, definitions_gate, place_of-definition}
+use Rattle.ps_simulate.proofs.EvaluationPlans.RowLemmas.{row_is, row_of_gate}
+use Rattle.ps_simulate.proofs.EvaluationPlans.RowLemmas.{target_is, IsScheduled-rows, IsRowInTable-row}
 use Rattle.ps_simulate.specs.NeededGates.{numbered_row}
-use Rattle.ps_simulate.proofs.WorkLemmas.{work_out-other, work_out-row}
+use Rattle.ps_simulate.proofs.EvaluationPlans.WorkLemmas.{work_out-other, work_out-row}
 
 -- the value of each variable, from 0 to the greatest, taken from a table that has the values by index
 abbrev pub values_by : CircuitData → List Bool → List Bool

@@ -17,7 +17,7 @@ use Rattle.ps_simulate.specs.Lassos.{IsLetterOf, AreLetters, laps_of, latches_al
 use Rattle.ps_simulate.specs.LassoRuns.{IsSeen, ReadsWord, RepeatsBy, HasRead}
 use Rattle.ps_simulate.specs.Inner.Namings.{IsNaming, names_of, bit_at_place}
 use Rattle.ps_simulate.specs.declared.naming.Naming.{Naming}
-use Rattle.ps_simulate.proofs.CountLemmas.{at_push, few_seen}
+use Rattle.ps_simulate.proofs.LapsOfRuns.CountLemmas.{at_push, few_seen}
 use Rattle.std.proofs.Math.Bool.{or-false}
 
 -- ## Traces

@@ -5,7 +5,7 @@ use Rattle.std.specs.Prelude.{◌||◌}
 use Rattle.std.proofs.lemmas.Bool.{eq-eqb, ne_eqb}
 use Rattle.std.proofs.lemmas.Nat.{one_shl, or_lt, pow_below}
 use Rattle.ps_label.specs.Truth.{is_in}
-use Rattle.ps_automaton.proofs.Bits.{one_set_more}
+use Rattle.ps_automaton.proofs.ChainsOfSets.Bits.{one_set_more}
 use Rattle.std.proofs.Math.Bool.{or-false}
 
 with_one : (letter p q : ℕ) {b : Bool} → p < 64 → nat_eq q p ≡ b →

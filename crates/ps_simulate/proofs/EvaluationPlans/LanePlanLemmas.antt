@@ -18,11 +18,12 @@ use Rattle.ps_simulate.specs.Lanes.{lane_bit, lane_of}
 use Rattle.ps_simulate.specs.Plans.{variables, read, work_out, AreGateRows, IsRowInTable}
 use Rattle.ps_simulate.specs.LanePlans.{wire_in, rows_from, moved, move_wire, move_row, AreKept, AreInOrder, AreOnce}
 use Rattle.ps_simulate.specs.LanePlans.{IsGateRow, AreMoved}
-use Rattle.ps_simulate.proofs.CountLemmas.{few_below}
-use Rattle.ps_simulate.proofs.LaneLemmas.{worked_on}
-use Rattle.ps_simulate.proofs.PlacesLemmas.{variables_once, variables_at}
-use Rattle.ps_simulate.proofs.RowLemmas.{length-variables, gate_within, length-rows, row_of_gate, target_is}
-use Rattle.ps_simulate.proofs.RowLemmas.{IsScheduled-rows}
+use Rattle.ps_simulate.proofs.LapsOfRuns.CountLemmas.{few_below}
+use Rattle.ps_simulate.proofs.EvaluationPlans.LaneLemmas.{worked_on}
+use Rattle.ps_simulate.proofs.EvaluationPlans.PlacesLemmas.{variables_once, variables_at}
+use Rattle.ps_simulate.proofs.EvaluationPlans.RowLemmas.{length-variables, gate_within, length-rows, row_of_gate}
+use Rattle.ps_simulate.proofs.EvaluationPlans.RowLemmas.{target_is}
+use Rattle.ps_simulate.proofs.EvaluationPlans.RowLemmas.{IsScheduled-rows}
 use Rattle.ps_simulate.specs.NeededGates.{numbered_row, no_row}
 
 module _ {c : CircuitData} (is : IsCircuit c) where

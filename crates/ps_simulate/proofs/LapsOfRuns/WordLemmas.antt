@@ -14,7 +14,7 @@ use Rattle.ps_simulate.specs.Stimuli.{letters_of}
 use Rattle.ps_simulate.specs.Words.{TraceWordData}
 use Rattle.ps_simulate.specs.Lassos.{IsWordOf}
 use Rattle.ps_simulate.specs.LassoRuns.{RepeatsBy}
-use Rattle.ps_simulate.proofs.LassoLemmas.{few_letters, lap_within}
+use Rattle.ps_simulate.proofs.LapsOfRuns.LassoLemmas.{few_letters, lap_within}
 
 -- ## A run to the first repetition
 
