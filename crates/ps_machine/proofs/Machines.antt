@@ -10,3 +10,5 @@ pub mod MachineLemmas
 pub mod Extracted
 pub mod PartsThere
 pub mod MachineThere
+pub mod CertificateThere
+pub mod Diagrams

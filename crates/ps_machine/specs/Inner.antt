@@ -10,5 +10,4 @@ pub mod Moving
 pub mod Naming
 pub mod Placing
 pub mod Planning
-pub mod Trying
 pub mod Visits

@@ -8,6 +8,7 @@ pub mod FaultNames
 pub mod FileGames
 pub mod KeyNames
 pub mod Keys
+pub mod LeastCertificates
 pub mod Machines
 pub mod Numbering
 pub mod Parts

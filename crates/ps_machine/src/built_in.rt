@@ -3,7 +3,7 @@
 ghost use Rattle.std.specs.Prelude.{◌≡◌, true, None, IfOk, IfNone, IfSome};
 ghost use Rattle.ps_game.specs.Flat.{FitsWithin};
 ghost use Rattle.ps_referee.specs.Solutions.{AreSizedFor, IsSolution};
-ghost use Rattle.ps_machine.specs.Inner.Certificates.{Finds, IsLeastCertificate};
+ghost use Rattle.ps_machine.specs.LeastCertificates.{Finds, IsLeastCertificate};
 
 use crate::fault::SolveFault;
 use crate::solver::Solver;
@@ -106,12 +106,18 @@ impl Solver for BuiltIn {
     }
 
     fn solve(&mut self, game: &NamedGame) -> Result<Certificate, SolveFault> {
-        let game = game.game();
-        if fits_narrow(game) {
-            certificate_in::<u32>(self.alloc, game)
-        } else {
-            certificate_in::<usize>(self.alloc, game)
-        }
+        least_certificate(self.alloc, game.game())
+    }
+}
+
+/// A certificate of a game, with the least counts for its moves. Fails only if out of memory.
+pub fn least_certificate(alloc: Global, game: &Game) -> Result<Certificate, SolveFault>
+    ensures { Finds result (IsLeastCertificate game.now) }
+{
+    if fits_narrow(game) {
+        certificate_in::<u32>(alloc, game)
+    } else {
+        certificate_in::<usize>(alloc, game)
     }
 }
 

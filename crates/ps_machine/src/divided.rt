@@ -3,19 +3,9 @@
 ghost use Rattle.std.specs.Prelude.{◌≡◌, ◌<◌, ℕ, IfOk, IsSome, None, Some, nat_eq};
 ghost use Rattle.indexmap.specs.IndexMap.{get};
 
-use crate::few_letters::FewLetters;
 use indexmap::IndexMap;
 use ps_diagram::{Classes, Store};
 use std::alloc::{AllocError, Global};
-
-/// What is known of the classes of the first player's letters.
-#[derive(Drop)]
-pub enum Division {
-    /// Each player has few letters, which are tried one by one.
-    ByLetters(FewLetters),
-    /// The classes at the states.
-    ByClasses(Divided),
-}
 
 /// The classes of the first player's letters at some states: those of one class lead to the same steps.
 #[derive(Drop)]

@@ -5,6 +5,7 @@ ghost use Rattle.std.specs.Prelude.{slice_index};
 ghost use Rattle.std.specs.List.{All, Contains};
 ghost use Rattle.ps_automaton.specs.Automata.{pair_of};
 ghost use Rattle.ps_certificate.specs.Certificates.{choice_of};
+ghost use Rattle.ps_diagram.specs.Table.{Keeps};
 ghost use Rattle.ps_game.specs.Games.{successors_of, vertex_count};
 ghost use Rattle.ps_machine.specs.Boards.{IsGameOf};
 ghost use Rattle.ps_machine.specs.Inner.Drawing.{IsOwn};
@@ -12,19 +13,18 @@ ghost use Rattle.ps_machine.specs.Inner.Moving.{step_key};
 ghost use Rattle.ps_machine.specs.Extracting.{StandsFor};
 ghost use Rattle.ps_machine.specs.Numbering.{StandsAt};
 ghost use Rattle.ps_machine.specs.Inner.Placing.{PlaysClass};
-ghost use Rattle.ps_machine.specs.Inner.Planning.{AddsRows, AreRowsBy, CanDraw, CanDrawAt, CanEnterBy};
+ghost use Rattle.ps_machine.specs.Inner.Planning.{AddsRows, AreRowsBy, CanDivide, CanDraw, CanEnterBy};
 ghost use Rattle.ps_machine.specs.Inner.Planning.{Draws, IsEnteredBy, IsPlacedBy, IsPlanned, LeadsBy, board_by};
 ghost use Rattle.ps_machine.specs.Keys.{mover_of};
 ghost use Rattle.ps_machine.specs.declared.key.Key.TheVariants.{First};
 
-use crate::divided::Divided;
 use crate::key::{Key, Order};
 use crate::machine::Row;
 use crate::memories::{Memories, anchor};
 use indexmap::IndexSet;
 use ps_automaton::{Automaton, Step};
 use ps_certificate::Certificate;
-use ps_diagram::{Class, Node, Store};
+use ps_diagram::{Class, Classes, Node, Store};
 use ps_game::{Arena, Game};
 use std::alloc::{AllocError, Global};
 
@@ -56,6 +56,18 @@ pub(crate) struct Drawing {
 }
 
 impl Plan<'_> {
+    /// The state for which the vertex of a memory state stands.
+    pub fn state_at(&self, vertex: usize) -> u32
+        requires plan { IsPlanned self.now }
+        requires kept { Contains self.now.memories.now.kept.items vertex }
+        ensures { (p : ℕ) × StandsAt self.now.keys.now vertex (First result p) }
+    {
+        match self.keys[vertex] {
+            Key::First { state, .. } => state,
+            Key::Second { .. } => unreachable!(),
+        }
+    }
+
     /// The memory state after a step, given the vertex that stands for it.
     pub fn memory_at(&self, vertex: usize, step: Step) -> usize
         requires enters { CanEnterBy self.now step.state step.priority }
@@ -131,24 +143,43 @@ impl Plan<'_> {
 }
 
 impl Drawing {
-    /// Makes the diagram of the memory state that a vertex has.
+    /// Makes the diagram of the memory state that a vertex has, after dividing the letters of the vertex's state.
+    /// `store` began as a copy of the automaton's store, and `mask` has the first player's propositions.
+    pub fn node_by_dividing(
+        &mut self,
+        alloc: Global,
+        plan: &Plan<'_>,
+        store: &mut Store,
+        mask: u64,
+        vertex: usize,
+    ) -> Result<Node, AllocError>
+        requires { CanDivide plan.now mask store.old self.old vertex }
+        ensures drawn { Draws plan.now self.old self.new vertex result }
+        ensures keeps { Keeps store.old store.new }
+    {
+        let state = plan.state_at(vertex);
+        let node = plan.automaton.node(state);
+        let classes = store.classes_in_copy(plan.automaton.store(), node, mask)?;
+        self.node(alloc, plan, store, &classes, vertex, state)
+    }
+
+    /// Makes the diagram of the memory state that a vertex has, given the classes of the vertex's state.
     pub fn node(
         &mut self,
         alloc: Global,
         plan: &Plan<'_>,
-        divided: &Divided,
+        store: &Store,
+        classes: &Classes,
         vertex: usize,
+        state: u32,
     ) -> Result<Node, AllocError>
-        requires { CanDraw plan.now divided.now self.old vertex }
+        requires { CanDraw plan.now store.now classes.now self.old vertex state }
         ensures { Draws plan.now self.old self.new vertex result }
     {
-        match plan.keys[vertex] {
-            Key::First { state, .. } => if plan.moves_first {
-                self.first_node(plan, divided, vertex, state)
-            } else {
-                self.second_node(alloc, plan, divided, vertex, state)
-            },
-            Key::Second { .. } => unreachable!(),
+        if plan.moves_first {
+            self.first_node(plan, store, classes, vertex)
+        } else {
+            self.second_node(alloc, plan, store, classes, vertex, state)
         }
     }
 
@@ -157,18 +188,19 @@ impl Drawing {
     fn first_node(
         &mut self,
         plan: &Plan<'_>,
-        divided: &Divided,
+        store: &Store,
+        classes: &Classes,
         vertex: usize,
-        state: u32,
     ) -> Result<Node, AllocError>
-        requires { CanDrawAt true plan.now divided.now self.old vertex state }
+        requires turn { plan.now.moves_first ≡ true }
+        requires ready { (q : ℕ) × CanDraw plan.now store.now classes.now self.old vertex q }
         ensures { Draws plan.now self.old self.new vertex result }
     {
         let (chosen, letter) = plan.move_at(vertex);
-        let rest = rest_of(&divided.of(state).list, letter);
-        let leaves = divided.store.leaves(rest)?;
+        let rest = rest_of(&classes.list, letter);
+        let leaves = store.leaves(rest)?;
         self.place_rows(plan, chosen, letter, &leaves)?;
-        self.store.relabel_from(&divided.store, rest, &self.places)
+        self.store.relabel_from(store, rest, &self.places)
     }
 
     /// Adds a row for each leaf that needs one: the output `letter`, and the memory state after the leaf's step from

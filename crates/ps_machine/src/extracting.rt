@@ -1,6 +1,6 @@
 //! The machine of a certificate.
 
-ghost use Rattle.std.specs.Prelude.{◌≡◌, ◌<◌, ◌≤◌, ℕ, List, IfOk, OnOk, length, map};
+ghost use Rattle.std.specs.Prelude.{◌≡◌, ◌<◌, ◌≤◌, ℕ, List, IfOk, OnOk, length, map, option_copied};
 ghost use Rattle.ps_automaton.specs.Automata.{IsBuiltFrom};
 ghost use Rattle.ps_automaton.specs.Chains.{Chain};
 ghost use Rattle.ps_certificate.specs.Certificates.{Fits, IsValid};
@@ -12,26 +12,23 @@ ghost use Rattle.ps_machine.specs.Inner.Assembling.{HasRoles};
 ghost use Rattle.ps_machine.specs.Behaviours.{LassosWon};
 ghost use Rattle.ps_machine.specs.Boards.{IsGameOf};
 ghost use Rattle.ps_machine.specs.BuiltBoards.{board_of};
-ghost use Rattle.ps_machine.specs.Dividing.{AreFewLetters, HasClasses};
+ghost use Rattle.ps_machine.specs.Dividing.{HasClasses};
 ghost use Rattle.ps_machine.specs.Inner.Certificates.{IsValidFor};
 ghost use Rattle.ps_machine.specs.Inner.Drawing.{AreMemories, AreUsed};
 ghost use Rattle.ps_machine.specs.Extracting.{HasPropositions, IsMachineOf};
 ghost use Rattle.ps_machine.specs.Keys.{mover_of};
 ghost use Rattle.ps_machine.specs.Machines.{behaviour};
 ghost use Rattle.ps_machine.specs.Parts.{ArePartsOf};
-ghost use Rattle.ps_machine.specs.Inner.Planning.{AreDrawnBy, AreKnownBy, AreRowsBy, IsPlanned, IsReadyPlan, board_by};
-ghost use Rattle.ps_machine.specs.Inner.Trying.{IsReadyToTry};
+ghost use Rattle.ps_machine.specs.Inner.Planning.{AreDividedBy, AreDrawnBy, AreKnownBy, AreRowsBy, IsPlanned, board_by};
 ghost use Rattle.ps_machine.specs.declared.key.Key.{Key};
 
-use crate::divided::{Divided, Division};
+use crate::divided::Divided;
 use crate::drawing::{Drawing, Plan};
-use crate::few_letters::FewLetters;
 use crate::game::AutomatonGame;
 use crate::key::{Key, Order};
-use crate::letter_plan::LetterPlan;
 use crate::machine::{Machine, MachineParts, Propositions};
 use crate::memories::{Memories, remembered};
-use crate::moves::is_first;
+use crate::moves::{first_mask, is_first};
 use crate::used::used_vertices;
 use indexmap::IndexSet;
 use ps_automaton::Automaton;
@@ -102,7 +99,7 @@ pub fn machine_of_certificate(
         moves_first,
         memories: &memories,
     };
-    machine_by(alloc, &plan, &game.divided)
+    machine_by(alloc, &plan, game.divided.as_ref())
 }
 
 /// Makes the machine of a player from its diagrams and rows, with the automaton's propositions. Fails if out of memory.
@@ -145,9 +142,13 @@ fn memories_of(
     remembered(alloc, keys, &used, moves_first)
 }
 
-fn machine_by(alloc: Global, plan: &Plan<'_>, division: &Division) -> Result<Machine, AllocError>
+fn machine_by(
+    alloc: Global,
+    plan: &Plan<'_>,
+    divided: Option<&Divided>,
+) -> Result<Machine, AllocError>
     requires plan { IsPlanned plan.now }
-    requires division { AreKnownBy plan.now division.now }
+    requires divided { AreKnownBy plan.now (option_copied divided) }
     ensures machine { IfOk result (λ m. (game : ParityGame)
         → IsGameOf (board_by plan.now) (mover_of plan.now.order) plan.now.keys.now game
         → IsMachineOf (board_by plan.now) (mover_of plan.now.order) plan.now.keys.now game plan.now.certificate.now
@@ -157,46 +158,33 @@ fn machine_by(alloc: Global, plan: &Plan<'_>, division: &Division) -> Result<Mac
     ensures won { IfOk result (λ m. (file : FileData) (chain : Chain) → IsBuiltFrom file chain plan.now.automaton.now →
         LassosWon file (behaviour m)) }
 {
-    let diagrams = draw(alloc, plan, division)?;
+    let diagrams = draw(alloc, plan, divided)?;
     let propositions = roles(alloc, plan.automaton, plan.order, plan.moves_first)?;
     let player = Player::of_number(plan.certificate.winner(0));
     Ok(Machine::new(player, plan.moves_first, propositions, diagrams))
 }
 
-/// Makes the diagrams of all memory states, and their rows.
-fn draw(alloc: Global, plan: &Plan<'_>, division: &Division) -> Result<MachineParts, AllocError>
-    requires plan { IsPlanned plan.now }
-    requires division { AreKnownBy plan.now division.now }
-    ensures letters { IfOk result (λ made. made.store.propositions ≡ length plan.now.automaton.now.names) }
-    ensures drawn { IfOk result (λ made. AreDrawnBy plan.now made.store made.rows.keys made.nodes.items
-        (length plan.now.memories.now.kept.items)) }
-{
-    match division {
-        Division::ByLetters(letters) => draw_by_letters(alloc, plan, letters),
-        Division::ByClasses(divided) => draw_by_classes(alloc, plan, divided),
-    }
-}
-
-/// Like `draw`, letter by letter.
-fn draw_by_letters(
+/// Makes the diagrams of all memory states, and their rows. Letters are divided here if no classes are known.
+fn draw(
     alloc: Global,
     plan: &Plan<'_>,
-    letters: &FewLetters,
+    divided: Option<&Divided>,
 ) -> Result<MachineParts, AllocError>
     requires plan { IsPlanned plan.now }
-    requires letters { AreFewLetters (board_by plan.now) letters.now }
+    requires divided { AreKnownBy plan.now (option_copied divided) }
     ensures letters { IfOk result (λ made. made.store.propositions ≡ length plan.now.automaton.now.names) }
     ensures drawn { IfOk result (λ made. AreDrawnBy plan.now made.store made.rows.keys made.nodes.items
         (length plan.now.memories.now.kept.items)) }
 {
-    let _ = plan.automaton.states();
-    let letters = LetterPlan::new(alloc, plan, letters)?;
     let mut drawing = Drawing {
-        store: Store::new(alloc, letters.store.propositions()),
+        store: Store::new(alloc, plan.automaton.store().propositions()),
         rows: IndexSet::new(alloc),
         places: Vec::new(alloc),
     };
-    let nodes = nodes_by_letters(alloc, plan, &letters, &mut drawing)?;
+    let nodes = match divided {
+        Some(divided) => nodes_of(alloc, plan, divided, &mut drawing)?,
+        None => nodes_by_dividing(alloc, plan, &mut drawing)?,
+    };
     Ok(MachineParts {
         store: drawing.store,
         nodes,
@@ -204,66 +192,48 @@ fn draw_by_letters(
     })
 }
 
-fn nodes_by_letters(
-    alloc: Global,
-    plan: &Plan<'_>,
-    letters: &LetterPlan<'_>,
-    drawing: &mut Drawing,
-) -> Result<Vec<Node>, AllocError>
-    requires ready { IsReadyToTry plan.now letters.now }
-    requires letters { letters.now.store.propositions ≡ drawing.old.store.propositions }
-    requires rows { AreRowsBy plan.now drawing.old.rows.keys }
-    ensures letters { OnOk result (drawing.new.store.propositions ≡ drawing.old.store.propositions) }
-    ensures drawn { IfOk result (λ nodes. AreDrawnBy plan.now drawing.new.store drawing.new.rows.keys nodes.items
-        (length plan.now.memories.now.kept.items)) }
-{
-    let mut nodes = Vec::with_capacity(alloc, plan.memories.kept.len())?;
-    for vertex in &plan.memories.kept {
-        nodes.push(drawing.node_by_letters(alloc, plan, letters, *vertex)?)?;
-    }
-    Ok(nodes)
-}
-
-/// Like `draw`, from the classes of letters.
-fn draw_by_classes(
-    alloc: Global,
-    plan: &Plan<'_>,
-    divided: &Divided,
-) -> Result<MachineParts, AllocError>
-    requires { IsReadyPlan plan.now divided.now }
-    ensures letters { IfOk result (λ made. made.store.propositions ≡ length plan.now.automaton.now.names) }
-    ensures drawn { IfOk result (λ made. AreDrawnBy plan.now made.store made.rows.keys made.nodes.items
-        (length plan.now.memories.now.kept.items)) }
-{
-    let mut drawing = Drawing {
-        store: Store::new(alloc, divided.store.propositions()),
-        rows: IndexSet::new(alloc),
-        places: Vec::new(alloc),
-    };
-    let nodes = nodes_of(alloc, plan, divided, &mut drawing)?;
-    Ok(MachineParts {
-        store: drawing.store,
-        nodes,
-        rows: drawing.rows,
-    })
-}
-
+/// The diagrams of all memory states, from the classes that are known.
 fn nodes_of(
     alloc: Global,
     plan: &Plan<'_>,
     divided: &Divided,
     drawing: &mut Drawing,
 ) -> Result<Vec<Node>, AllocError>
-    requires ready { IsReadyPlan plan.now divided.now }
-    requires letters { divided.now.store.propositions ≡ drawing.old.store.propositions }
+    requires plan { IsPlanned plan.now }
+    requires divided { AreDividedBy plan.now divided.now }
+    requires letters { drawing.old.store.propositions ≡ length plan.now.automaton.now.names }
     requires rows { AreRowsBy plan.now drawing.old.rows.keys }
-    ensures letters { OnOk result (drawing.new.store.propositions ≡ drawing.old.store.propositions) }
+    ensures letters { OnOk result (drawing.new.store.propositions ≡ length plan.now.automaton.now.names) }
     ensures drawn { IfOk result (λ nodes. AreDrawnBy plan.now drawing.new.store drawing.new.rows.keys nodes.items
         (length plan.now.memories.now.kept.items)) }
 {
     let mut nodes = Vec::with_capacity(alloc, plan.memories.kept.len())?;
     for vertex in &plan.memories.kept {
-        nodes.push(drawing.node(alloc, plan, divided, *vertex)?)?;
+        let state = plan.state_at(*vertex);
+        let classes = divided.of(state);
+        nodes.push(drawing.node(alloc, plan, &divided.store, classes, *vertex, state)?)?;
+    }
+    Ok(nodes)
+}
+
+/// The same, after dividing the letters of each memory state's automaton state.
+fn nodes_by_dividing(
+    alloc: Global,
+    plan: &Plan<'_>,
+    drawing: &mut Drawing,
+) -> Result<Vec<Node>, AllocError>
+    requires plan { IsPlanned plan.now }
+    requires letters { drawing.old.store.propositions ≡ length plan.now.automaton.now.names }
+    requires rows { AreRowsBy plan.now drawing.old.rows.keys }
+    ensures letters { OnOk result (drawing.new.store.propositions ≡ length plan.now.automaton.now.names) }
+    ensures drawn { IfOk result (λ nodes. AreDrawnBy plan.now drawing.new.store drawing.new.rows.keys nodes.items
+        (length plan.now.memories.now.kept.items)) }
+{
+    let mask = first_mask(plan.automaton, plan.order);
+    let mut store = plan.automaton.store().copy()?;
+    let mut nodes = Vec::with_capacity(alloc, plan.memories.kept.len())?;
+    for vertex in &plan.memories.kept {
+        nodes.push(drawing.node_by_dividing(alloc, plan, &mut store, mask, *vertex)?)?;
     }
     Ok(nodes)
 }

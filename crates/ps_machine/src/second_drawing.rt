@@ -5,17 +5,16 @@ ghost use Rattle.std.specs.List.{All, AllZip};
 ghost use Rattle.ps_automaton.specs.Automata.{pair_of};
 ghost use Rattle.ps_machine.specs.Boards.{IsClassLetter};
 ghost use Rattle.ps_machine.specs.Inner.Drawing.{IsReply};
-ghost use Rattle.ps_machine.specs.Inner.Planning.{AddsRows, AreRowsBy, CanDrawAt, CanEnterBy, CanReply};
+ghost use Rattle.ps_machine.specs.Inner.Planning.{AddsRows, AreRowsBy, CanDraw, CanEnterBy, CanReply};
 ghost use Rattle.ps_machine.specs.Inner.Planning.{Draws, IsAnswerBy, IsRestBy, NamesAnswerBy, board_by};
 ghost use Rattle.ps_machine.specs.Numbering.{StandsAt};
 ghost use Rattle.ps_machine.specs.declared.key.Key.TheVariants.{First};
 
-use crate::divided::Divided;
 use crate::drawing::{Drawing, Plan};
 use crate::key::Key;
 use crate::machine::Row;
 use ps_automaton::{Automaton, Step};
-use ps_diagram::{Class, Node};
+use ps_diagram::{Class, Classes, Node, Store};
 use std::alloc::{AllocError, Global};
 
 impl Plan<'_> {
@@ -39,17 +38,17 @@ impl Plan<'_> {
     /// The row for a class, the one at the index `number` of the state of a vertex.
     fn row_of_class(
         &self,
-        divided: &Divided,
+        store: &Store,
         vertex: usize,
         number: usize,
         state: u32,
         class: Class,
     ) -> Result<Row, AllocError>
         requires ready { CanReply self.now vertex state class.letter }
-        requires rest { IsRestBy self.now divided.now state class.letter class.rest }
+        requires rest { IsRestBy self.now store.now state class.letter class.rest }
         ensures { IfOk result (IsAnswerBy self.now state class.letter) }
     {
-        let leaves = divided.store.leaves(class.rest)?;
+        let leaves = store.leaves(class.rest)?;
         let (next, step) = self.reply(vertex, number, state, class.letter);
         Ok(Row {
             memory: self.memory_at(next, step),
@@ -65,17 +64,17 @@ impl Drawing {
         &mut self,
         alloc: Global,
         plan: &Plan<'_>,
-        divided: &Divided,
+        store: &Store,
+        classes: &Classes,
         vertex: usize,
         state: u32,
     ) -> Result<Node, AllocError>
-        requires { CanDrawAt false plan.now divided.now self.old vertex state }
+        requires turn { plan.now.moves_first ≡ false }
+        requires ready { CanDraw plan.now store.now classes.now self.old vertex state }
         ensures { Draws plan.now self.old self.new vertex result }
     {
-        let classes = divided.of(state);
-        let values = self.rows_of_classes(alloc, plan, divided, vertex, state, &classes.list)?;
-        self.store
-            .relabel_from(&divided.store, classes.places, &values)
+        let values = self.rows_of_classes(alloc, plan, store, vertex, state, &classes.list)?;
+        self.store.relabel_from(store, classes.places, &values)
     }
 
     /// For each class at a vertex, the index of its row.
@@ -83,7 +82,7 @@ impl Drawing {
         &mut self,
         alloc: Global,
         plan: &Plan<'_>,
-        divided: &Divided,
+        store: &Store,
         vertex: usize,
         state: u32,
         classes: &[Class],
@@ -92,7 +91,7 @@ impl Drawing {
         requires entered { (p : ℕ) × CanEnterBy plan.now state p }
         requires stands { (p : ℕ) × StandsAt plan.now.keys.now vertex (First state p) }
         requires classes { All (λ class. IsClassLetter (board_by plan.now) state class.letter) classes.now }
-        requires rests { All (λ class. IsRestBy plan.now divided.now state class.letter class.rest) classes.now }
+        requires rests { All (λ class. IsRestBy plan.now store.now state class.letter class.rest) classes.now }
         requires rows { AreRowsBy plan.now self.old.rows.keys }
         ensures added { AddsRows plan.now self.old self.new }
         ensures values { IfOk result
@@ -101,7 +100,7 @@ impl Drawing {
     {
         let mut values = Vec::with_capacity(alloc, classes.len())?;
         for (number, class) in classes.iter().enumerate() {
-            let row = plan.row_of_class(divided, vertex, number, state, *class)?;
+            let row = plan.row_of_class(store, vertex, number, state, *class)?;
             let (place, _) = self.rows.insert_full(row)?;
             values.push(place as u64)?;
         }

@@ -10,11 +10,11 @@ use Rattle.std.proofs.lemmas.List.{length-append, get_or-append-add}
 use Rattle.std.proofs.lemmas.Bool.{cases_Bool, cases_lt, le-ltb, lt-ltb}
 use Rattle.ps_label.specs.Truth.{is_in}
 use Rattle.ps_automaton.specs.Words.{lasso_word}
-use Rattle.ps_automaton.proofs.Orbits.{word_within, word_behind}
+use Rattle.ps_automaton.proofs.AdmittedFiles.Orbits.{word_within, word_behind}
 use Rattle.ps_machine.specs.Boards.{Board}
 use Rattle.ps_machine.specs.Behaviours.{Behaviour, IsMachine, IsInput, IsOutput, IsLasso, Makes}
 use Rattle.ps_machine.specs.Extracting.{HasPropositions, IsOtherLetter}
-use Rattle.ps_machine.proofs.LeastLetters.{sum_within}
+use Rattle.ps_machine.proofs.AutomatonGames.LeastLetters.{sum_within}
 use Rattle.ps_machine.proofs.Lassos.Walking.{IsEndless}
 
 -- ## Indices

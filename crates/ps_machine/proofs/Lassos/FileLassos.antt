@@ -9,7 +9,7 @@ use Rattle.ps_hoa.specs.Files.{FileData}
 use Rattle.ps_automaton.specs.Acceptance.{IsAccepted}
 use Rattle.ps_automaton.specs.Autos.{state_at, priority_at, greatest_from}
 use Rattle.ps_automaton.specs.Words.{lasso_word}
-use Rattle.ps_automaton.proofs.Accepting.{even_is_accepted, accepted_is_even}
+use Rattle.ps_automaton.proofs.AdmittedFiles.Accepting.{even_is_accepted, accepted_is_even}
 use Rattle.ps_game.specs.Games.{NamedGameData}
 use Rattle.ps_certificate.specs.Certificates.{CertificateData, Fits, IsValid}
 use Rattle.ps_machine.specs.Extracting.{IsOtherLetter, HasPropositions, IsMachineOf}
@@ -18,7 +18,7 @@ use Rattle.ps_machine.specs.Solving.{winner_at_start}
 use Rattle.ps_machine.specs.Keys.{mover_of}
 use Rattle.ps_machine.specs.Behaviours.{Behaviour, IsMachine, IsInput, IsLasso, LassosWon}
 use Rattle.ps_machine.specs.declared.key.Order.{Order}
-use Rattle.ps_machine.proofs.Movers.{small_mover}
+use Rattle.ps_machine.proofs.AutomatonGames.Movers.{small_mover}
 use Rattle.ps_machine.proofs.Lassos.Rounds.{Setting}
 use Rattle.ps_machine.proofs.Lassos.Walking.{state_returns, parity_of_part}
 use Rattle.ps_machine.proofs.Lassos.EndlessRuns.{memories_on, endless, memory_returns, letter_returns, letter_within}

@@ -15,8 +15,8 @@ use Rattle.ps_machine.specs.Extracting.{GoesTo, StepsFirst, StepsSecond}
 use Rattle.ps_machine.specs.Solving.{winner_at_start}
 use Rattle.ps_machine.specs.declared.key.Key.{Key}
 use Rattle.ps_machine.specs.declared.key.Key.TheVariants.{First, Second}
-use Rattle.ps_machine.proofs.GameKeys.Standing.{same_some, zip_vertex}
-use Rattle.ps_machine.proofs.LeastLetters.{none_without_least, contained_or_not}
+use Rattle.ps_machine.proofs.AutomatonGames.GameKeys.Standing.{same_some, zip_vertex}
+use Rattle.ps_machine.proofs.AutomatonGames.LeastLetters.{none_without_least, contained_or_not}
 
 -- ## Keys
 

@@ -8,12 +8,12 @@ use Rattle.std.proofs.Math.Nat.{le-max_left, le-max_right, le_antisymm}
 use Rattle.std.proofs.lemmas.Option.{slice_get_within, slice_get-get_or}
 use Rattle.std.proofs.lemmas.Bool.{eqb-true, eqb-false, eq-eqb}
 use Rattle.ps_automaton.specs.Autos.{Auto, state_at, priority_at, greatest_from}
-use Rattle.ps_automaton.proofs.Orbits.{all_below}
+use Rattle.ps_automaton.proofs.AdmittedFiles.Orbits.{all_below}
 use Rattle.ps_game.specs.Games.{ParityGame, owner_of, priority_of, HasEdge}
 use Rattle.ps_game.specs.Plays.{IsLoop, WinsLoop, loop_priority}
-use Rattle.ps_game.proofs.LoopPriorities.{le-loop_priority, loop_priority_stands}
+use Rattle.ps_game.proofs.PathsAndLoops.LoopPriorities.{le-loop_priority, loop_priority_stands}
 use Rattle.ps_certificate.specs.Certificates.{CertificateData, winner_of, choice_of}
-use Rattle.ps_certificate.proofs.Holding.{BothHold-from_valid}
+use Rattle.ps_certificate.proofs.FlawsAndValidity.Holding.{BothHold-from_valid}
 use Rattle.ps_machine.specs.Numbering.{StandsAt}
 use Rattle.ps_machine.specs.Boards.{Board}
 use Rattle.ps_machine.specs.Behaviours.{Behaviour, IsInput, Makes}
@@ -23,7 +23,7 @@ use Rattle.ps_machine.specs.Solving.{winner_at_start}
 use Rattle.ps_machine.specs.declared.key.Key.{Key}
 use Rattle.ps_machine.specs.declared.key.Key.TheVariants.{First}
 use Rattle.ps_machine.proofs.Machines.UsedVertices.{used_first}
-use Rattle.ps_machine.proofs.GameKeys.Standing.{one_state}
+use Rattle.ps_machine.proofs.AutomatonGames.GameKeys.Standing.{one_state}
 use Rattle.ps_machine.proofs.Lassos.Rounds.{Setting, Round, within_game, same_place, first_owner, priority_here}
 use Rattle.ps_machine.proofs.Lassos.Rounds.{to_class, round_first, round_second}
 use Rattle.ps_machine.proofs.Lassos.ListedPaths.{list_of, length-list_of, get_or-list_of, twice, twice_rises}

@@ -8,7 +8,7 @@ use Rattle.std.proofs.lemmas.Bool.{cases_eq}
 use Rattle.std.proofs.lemmas.List.{get_or_push, get_or_append_left, length_push}
 use Rattle.ps_certificate.specs.Certificates.{CertificateData}
 use Rattle.ps_diagram.specs.Table.{Table, Keeps}
-use Rattle.ps_diagram.proofs.Cells.{true_is_not_false}
+use Rattle.ps_diagram.proofs.NodeTables.Cells.{true_is_not_false}
 use Rattle.ps_hoa.specs.Memory.{bytes_of}
 use Rattle.ps_machine.specs.Inner.Assembling.{AreDrawn}
 use Rattle.ps_machine.specs.Boards.{Board}
@@ -16,7 +16,7 @@ use Rattle.ps_machine.specs.Inner.Drawing.{IsDrawn, IsRow, KeepsRows}
 use Rattle.ps_machine.specs.Extracting.{is_others}
 use Rattle.ps_machine.specs.declared.key.Key.{Key}
 use Rattle.ps_machine.specs.declared.machine.Row.{Row}
-use Rattle.ps_machine.proofs.Diagrams.DrawingLemmas.{drawn_kept}
+use Rattle.ps_machine.proofs.Machines.Diagrams.DrawingLemmas.{drawn_kept}
 
 -- ## Names
 

@@ -5,7 +5,7 @@ use Rattle.std.specs.List.{All, AllPairs, Contains}
 use Rattle.std.proofs.lemmas.Bool.{cases_lt}
 use Rattle.std.proofs.lemmas.List.{get_or_default}
 use Rattle.std.proofs.lemmas.Option.{slice_get_within, slice_get-get_or}
-use Rattle.ps_diagram.proofs.KnownLemmas.{some_nat}
+use Rattle.ps_diagram.proofs.NodeTables.KnownLemmas.{some_nat}
 use Rattle.ps_game.specs.Games.{ParityGame}
 use Rattle.ps_certificate.specs.Certificates.{CertificateData}
 use Rattle.ps_machine.specs.Inner.Drawing.{AreUsed, AreMemories, anchor_of}
@@ -13,7 +13,7 @@ use Rattle.ps_machine.specs.Extracting.{IsRepresentative, Shares, StandsFor}
 use Rattle.ps_machine.specs.Numbering.{StandsAt}
 use Rattle.ps_machine.specs.declared.key.Key.{Key}
 use Rattle.ps_machine.specs.declared.key.Key.TheVariants.{First}
-use Rattle.ps_machine.proofs.Diagrams.DrawingLemmas.{stands_for}
+use Rattle.ps_machine.proofs.Machines.Diagrams.DrawingLemmas.{stands_for}
 use Rattle.ps_machine.proofs.Lassos.Rounds.{one_place}
 
 -- If the machine's player moves first, only equal vertices share a memory state; if the player moves second, exactly

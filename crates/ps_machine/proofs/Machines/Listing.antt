@@ -6,7 +6,7 @@ use Rattle.std.proofs.Common.{get_or, nat_eq, refl, ap, sym, ◌∙◌, arith, i
 use Rattle.std.proofs.lemmas.Bool.{cases_Bool, cases_eq, eq-eqb, ne_eqb}
 use Rattle.std.specs.List.{Contains}
 use Rattle.std.proofs.lemmas.List.Quantifiers.{all_pairs_push}
-use Rattle.ps_diagram.proofs.Cells.{true_is_not_false}
+use Rattle.ps_diagram.proofs.NodeTables.Cells.{true_is_not_false}
 use Rattle.ps_hoa.specs.Files.{is_among}
 use Rattle.ps_machine.specs.Inner.Assembling.{AreListedBelow}
 use Rattle.ps_machine.proofs.Uniqueness.Rising.{Within, same_numbers}

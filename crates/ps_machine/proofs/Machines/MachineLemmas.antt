@@ -7,7 +7,7 @@ use Rattle.std.proofs.lemmas.Option.{slice_get_within, slice_get-get_or, get_or_
 use Rattle.ps_label.specs.Truth.{is_in}
 use Rattle.ps_certificate.specs.Certificates.{CertificateData}
 use Rattle.ps_diagram.specs.Table.{leaf_of}
-use Rattle.ps_diagram.proofs.Cells.{true_is_not_false}
+use Rattle.ps_diagram.proofs.NodeTables.Cells.{true_is_not_false}
 use Rattle.ps_diagram.proofs.Letters.{no_bit}
 use Rattle.ps_hoa.specs.Files.{is_among}
 use Rattle.ps_machine.specs.Inner.Assembling.{IsAssembled}
@@ -18,7 +18,7 @@ use Rattle.ps_machine.specs.Extracting.{IsPlayed, IsOtherLetter, IsStep, is_othe
 use Rattle.ps_machine.specs.Machines.{MachineData, IsWholeMachine, behaviour, row_at_leaf, machine_row}
 use Rattle.ps_machine.specs.declared.key.Key.{Key}
 use Rattle.ps_machine.specs.declared.machine.Row.{Row}
-use Rattle.ps_machine.proofs.DecidedMoves.{not_false, over_other, part, part_bit, part_over}
+use Rattle.ps_machine.proofs.AutomatonGames.DecidedMoves.{not_false, over_other, part, part_bit, part_over}
 
 back_not : (b : Bool) → not b ≡ true → b ≡ false
 back_not b h = search rules

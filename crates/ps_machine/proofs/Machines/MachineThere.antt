@@ -20,14 +20,16 @@ use Rattle.ps_machine.specs.Solving.{winner_at_start}
 use Rattle.ps_machine.specs.declared.key.Key.{Key}
 use Rattle.ps_machine.specs.declared.key.Key.TheVariants.{First}
 use Rattle.ps_machine.specs.declared.machine.Row.{Row}
-use Rattle.ps_machine.proofs.DecidedMoves.{not_false, other_over, over_other, class_there, move_there, part, part_itself}
-use Rattle.ps_machine.proofs.DecidedMoves.{part_over, part_same, same_priorities, same_states}
-use Rattle.ps_machine.proofs.Diagrams.DrawingLemmas.{class_at, move_at, move_to, to_class_of, to_pair_of, used_more}
+use Rattle.ps_machine.proofs.AutomatonGames.DecidedMoves.{not_false, other_over, over_other, class_there, move_there}
+use Rattle.ps_machine.proofs.AutomatonGames.DecidedMoves.{part, part_itself}
+use Rattle.ps_machine.proofs.AutomatonGames.DecidedMoves.{part_over, part_same, same_priorities, same_states}
+use Rattle.ps_machine.proofs.Machines.Diagrams.DrawingLemmas.{class_at, move_at, move_to, to_class_of, to_pair_of}
+use Rattle.ps_machine.proofs.Machines.Diagrams.DrawingLemmas.{used_more}
 use Rattle.ps_machine.proofs.Machines.UsedVertices.{used_first}
 use Rattle.ps_machine.proofs.Machines.KeptMemories.{all_kept, each_kept, memory_of, some_kept}
 use Rattle.ps_machine.proofs.Machines.MachineLemmas.{own_none, own_within}
 use Rattle.ps_machine.proofs.Lassos.Rounds.{Setting, first_owner, second_owner, within_game}
-use Rattle.ps_machine.proofs.GameKeys.Standing.{same_some, stand-within}
+use Rattle.ps_machine.proofs.AutomatonGames.GameKeys.Standing.{same_some, stand-within}
 use Rattle.ps_machine.proofs.Machines.PartsThere.{listed_there, used_there, memories_there}
 
 -- ## Rows

@@ -15,9 +15,9 @@ use Rattle.ps_machine.specs.Inner.Drawing.{AreMemories, HasMemory, IsMemory, Kee
 use Rattle.ps_machine.specs.Numbering.{StandsAt}
 use Rattle.ps_machine.specs.declared.key.Key.{Key}
 use Rattle.ps_machine.specs.declared.key.Key.TheVariants.{First}
-use Rattle.ps_machine.proofs.GameKeys.Exploring.{less_or_last}
+use Rattle.ps_machine.proofs.AutomatonGames.GameKeys.Exploring.{less_or_last}
 use Rattle.ps_machine.proofs.Machines.UsedVertices.{different_push, inserted}
-use Rattle.ps_machine.proofs.GameKeys.Standing.{one_state, slice_get-left, slice_get-seam}
+use Rattle.ps_machine.proofs.AutomatonGames.GameKeys.Standing.{one_state, slice_get-left, slice_get-seam}
 
 not_not : (b : Bool) → not (not b) ≡ b
 not_not b = search rules

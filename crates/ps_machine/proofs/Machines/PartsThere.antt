@@ -16,14 +16,14 @@ use Rattle.ps_machine.specs.Numbering.{StandsAt}
 use Rattle.ps_machine.specs.Solving.{winner_at_start}
 use Rattle.ps_machine.specs.declared.key.Key.{Key}
 use Rattle.ps_machine.specs.declared.key.Key.TheVariants.{First, Second}
-use Rattle.ps_machine.proofs.Diagrams.DrawingLemmas.{not_both}
+use Rattle.ps_machine.proofs.Machines.Diagrams.DrawingLemmas.{not_both}
 use Rattle.ps_machine.proofs.Machines.UsedVertices.{IsSearched, adds_all, adds_move, adds_next, adds_no_move, adds_none}
 use Rattle.ps_machine.proofs.Machines.UsedVertices.{search_bounded, search_done, search_first, search_next, used_at}
 use Rattle.ps_machine.proofs.Machines.UsedVertices.{used_within}
-use Rattle.ps_machine.proofs.LeastLetters.{contained_or_not}
+use Rattle.ps_machine.proofs.AutomatonGames.LeastLetters.{contained_or_not}
 use Rattle.ps_machine.proofs.Machines.Listing.{listed_none, listed_with, listed_without}
 use Rattle.ps_machine.proofs.Machines.MemorySteps.{AreMemoriesBelow, all_below, below_more, below_skip, none_below}
-use Rattle.ps_machine.proofs.GameKeys.Standing.{same_some}
+use Rattle.ps_machine.proofs.AutomatonGames.GameKeys.Standing.{same_some}
 
 -- ## Used vertices
 

@@ -15,7 +15,7 @@ use Rattle.ps_machine.specs.Extracting.{IsOtherLetter, is_others}
 use Rattle.ps_machine.specs.Machines.{MachineData, IsWholeMachine, behaviour, row_at_leaf, machine_row}
 use Rattle.ps_machine.specs.Parts.{IsDiagramOf, IsOwnLetter, LeadsToRowAt}
 use Rattle.ps_machine.specs.declared.machine.Row.{Row}
-use Rattle.ps_machine.proofs.DecidedMoves.{not_false, over_other, part, part_bit, part_over}
+use Rattle.ps_machine.proofs.AutomatonGames.DecidedMoves.{not_false, over_other, part, part_bit, part_over}
 
 back_not : (b : Bool) → not b ≡ true → b ≡ false
 back_not b h = search rules

@@ -11,8 +11,8 @@ use Rattle.std.proofs.lemmas.List.Elements.{All-nil, All-cons, All-head, All-tai
 use Rattle.std.proofs.lemmas.List.Folds.{Any-from_list_any}
 use Rattle.std.proofs.lemmas.List.FromFn.{get_or-range_with_len, length-range_with_len}
 use Rattle.ps_game.specs.Drafts.{distinct}
-use Rattle.ps_game.proofs.DistinctByStamps.{distinct-push}
-use Rattle.ps_machine.proofs.GameKeys.Standing.{came, not_come, range-push}
+use Rattle.ps_game.proofs.StoredGames.DistinctByStamps.{distinct-push}
+use Rattle.ps_machine.proofs.AutomatonGames.GameKeys.Standing.{came, not_come, range-push}
 
 abbrev pub Counts : List ℕ → ℕ → Type 0
 Counts list count = distinct list ≡ range_with_len 0 count

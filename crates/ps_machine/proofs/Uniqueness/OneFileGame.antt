@@ -11,7 +11,7 @@ use Rattle.std.specs.List.{All, Contains}
 use Rattle.std.proofs.lemmas.Bool.{cases_lt}
 use Rattle.std.proofs.lemmas.List.Elements.{All-contains, All-map, Contains-append_cases}
 use Rattle.std.proofs.lemmas.Option.{slice_get_within}
-use Rattle.ps_text.proofs.Simple.{same_some as same_value}
+use Rattle.ps_text.proofs.Combinators.Simple.{same_some as same_value}
 use Rattle.ps_hoa.specs.Files.{FileData}
 use Rattle.ps_automaton.specs.Autos.{Auto, IsAutoOf}
 use Rattle.ps_automaton.specs.Chains.{Chain}
@@ -25,12 +25,12 @@ use Rattle.ps_machine.specs.Numbering.{listed, StandsAt, IsVertexOf}
 use Rattle.ps_machine.specs.declared.key.Key.{Key}
 use Rattle.ps_machine.specs.declared.key.Key.TheVariants.{First, Second}
 use Rattle.ps_machine.specs.declared.key.Order.{Order}
-use Rattle.ps_machine.proofs.BoardLetters.{sum_within}
-use Rattle.ps_machine.proofs.BoardSteps.{map_same}
+use Rattle.ps_machine.proofs.AutomatonGames.BoardLetters.{sum_within}
+use Rattle.ps_machine.proofs.AutomatonGames.BoardSteps.{map_same}
 use Rattle.ps_machine.proofs.Uniqueness.OneGame.{ahead, count_at, one_game_of, zipped}
 use Rattle.ps_machine.proofs.Uniqueness.Counting.{has_it}
 use Rattle.ps_machine.proofs.Uniqueness.Rising.{in_cons, none_in}
-use Rattle.ps_machine.proofs.GameKeys.Standing.{came, same_some}
+use Rattle.ps_machine.proofs.AutomatonGames.GameKeys.Standing.{came, same_some}
 
 -- ## Steps
 

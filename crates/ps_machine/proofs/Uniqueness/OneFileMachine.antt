@@ -16,7 +16,7 @@ use Rattle.ps_machine.specs.Numbering.{StandsAt}
 use Rattle.ps_machine.specs.declared.key.Key.{Key}
 use Rattle.ps_machine.specs.declared.key.Key.TheVariants.{First, Second}
 use Rattle.ps_machine.specs.declared.key.Order.{Order}
-use Rattle.ps_machine.proofs.BoardLetters.{sum_within}
+use Rattle.ps_machine.proofs.AutomatonGames.BoardLetters.{sum_within}
 use Rattle.ps_machine.proofs.Uniqueness.OneFileGame.{alike, class_too, first_too, game_too, key_fine, on, one_chain}
 use Rattle.ps_machine.proofs.Uniqueness.OneFileGame.{second_too, steps_too}
 use Rattle.ps_machine.proofs.Uniqueness.OneGame.{one_game_of}

@@ -7,17 +7,17 @@ use Rattle.std.proofs.lemmas.List.{append-nil, append_assoc, length-map, get_or-
 use Rattle.std.proofs.lemmas.List.Elements.{All-contains, Contains-append_cases}
 use Rattle.std.proofs.lemmas.Option.{slice_get-get_or}
 use Rattle.ps_diagram.specs.Letters.{IsBefore}
-use Rattle.ps_diagram.proofs.Cells.{true_is_not_false}
+use Rattle.ps_diagram.proofs.NodeTables.Cells.{true_is_not_false}
 use Rattle.ps_game.specs.Games.{ParityGame, VertexData, no_vertex, vertex_count, owner_of, priority_of, successors_of}
 use Rattle.ps_machine.specs.Boards.{Board, IsListOf, LeadsTo, IsGameOf}
 use Rattle.ps_machine.specs.Keys.{owner_of_key, priority_of_key}
 use Rattle.ps_machine.specs.Numbering.{listed, StandsAt, IsVertexOf}
 use Rattle.ps_machine.specs.declared.key.Key.{Key}
 use Rattle.ps_machine.specs.declared.key.Key.TheVariants.{First, Second}
-use Rattle.ps_machine.proofs.GameKeys.Exploring.{less_or_last}
+use Rattle.ps_machine.proofs.AutomatonGames.GameKeys.Exploring.{less_or_last}
 use Rattle.ps_machine.proofs.Uniqueness.Rising.{same_rising}
 use Rattle.ps_machine.proofs.Lassos.Rounds.{one_place}
-use Rattle.ps_machine.proofs.GameKeys.Standing.{came, same_some, zip_at}
+use Rattle.ps_machine.proofs.AutomatonGames.GameKeys.Standing.{came, same_some, zip_at}
 use Rattle.ps_machine.proofs.Uniqueness.Counting.{Counts, counts_one, counts_below, has_it, counts_old, counts_new}
 use Rattle.ps_machine.proofs.Uniqueness.Counting.{none, counts_front, old_or_next}
 

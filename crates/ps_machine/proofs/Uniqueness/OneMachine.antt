@@ -8,7 +8,7 @@ use Rattle.std.proofs.lemmas.List.Elements.{All-contains}
 use Rattle.std.proofs.lemmas.Option.{slice_get_within, get_or_from_slice_get}
 use Rattle.ps_game.specs.Games.{ParityGame}
 use Rattle.ps_certificate.specs.Certificates.{CertificateData, choice_of}
-use Rattle.ps_diagram.proofs.KnownLemmas.{some_nat}
+use Rattle.ps_diagram.proofs.NodeTables.KnownLemmas.{some_nat}
 use Rattle.ps_machine.specs.Inner.Assembling.{AreListedBelow}
 use Rattle.ps_machine.specs.Behaviours.{Behaviour, IsMachine, AreSameOn}
 use Rattle.ps_machine.specs.Behaving.{BehavesAs}
@@ -20,14 +20,14 @@ use Rattle.ps_machine.specs.Extracting.{StandsFor, is_others}
 use Rattle.ps_machine.specs.Numbering.{StandsAt}
 use Rattle.ps_machine.specs.declared.key.Key.{Key}
 use Rattle.ps_machine.specs.declared.key.Key.TheVariants.{First}
-use Rattle.ps_machine.proofs.BoardLetters.{neither_before, one_least}
-use Rattle.ps_machine.proofs.DecidedMoves.{part, part_bit, part_over, steps_sym, steps_trans, over_other}
+use Rattle.ps_machine.proofs.AutomatonGames.BoardLetters.{neither_before, one_least}
+use Rattle.ps_machine.proofs.AutomatonGames.DecidedMoves.{part, part_bit, part_over, steps_sym, steps_trans, over_other}
 use Rattle.ps_machine.proofs.Machines.KeptMemories.{anchor_shares, shares_anchor}
 use Rattle.ps_machine.proofs.Machines.Listing.{one_listed}
 use Rattle.ps_machine.proofs.Machines.MachineLemmas.{one_letter}
 use Rattle.ps_machine.proofs.Uniqueness.Rising.{same_numbers}
 use Rattle.ps_machine.proofs.Lassos.Rounds.{one_place}
-use Rattle.ps_machine.proofs.GameKeys.Standing.{one_state}
+use Rattle.ps_machine.proofs.AutomatonGames.GameKeys.Standing.{one_state}
 
 -- ## Propositions
 

@@ -2,28 +2,26 @@
 -- files, such as `Drawing` and `Placing`, with fields of the `Plan` as arguments. (For private functions.)
 -- - `IsPlanned plan`: the machine can be made from the plan
 -- - `AreDividedBy plan divided`: `divided` has the classes of letters of each state at which the first player moves
--- - `AreKnownBy plan division`: the letters are few and known, or `AreDividedBy` holds
--- - `IsReadyPlan plan divided`: the plan satisfies `IsPlanned`, and `divided` satisfies `AreDividedBy`
--- - `CanDraw plan divided drawing v`: the diagram of the memory state of the vertex v can be added to the `Drawing`,
--- which has
---   the machine's diagrams and rows so far
+-- - `AreKnownBy plan divided`: if `divided` is there, `AreDividedBy` holds
+-- - `CanDraw plan t classes drawing v q`: the diagram of the memory state of the vertex v, whose state has these classes,
+--   can be added to the `Drawing`, which has the machine's diagrams and rows so far
+-- - `CanDivide plan mask t drawing v`: the same, after dividing the letters of the vertex's state in the store t
 -- - `Draws plan old new v result`: a call changes the `Drawing` from `old` to `new`, which keeps all diagrams and rows;
 --   the call returns the diagram of the memory state of the vertex v, or fails
-use Rattle.std.specs.Prelude.{◌≡◌, ℕ, nat_eq, Bool, false, IfOk, List, Result}
+use Rattle.std.specs.Prelude.{◌≡◌, ℕ, nat_eq, false, IfOk, List, Option, Result, length}
 use Rattle.std.specs.List.{All, Contains}
 use Rattle.indexmap.specs.IndexMap.{get}
 use Rattle.ps_diagram.specs.Table.{Keeps, Table}
+use Rattle.ps_diagram.specs.declared.classes.Classes.{Classes}
 use Rattle.ps_machine.specs.Inner.Assembling.{AreDrawn}
 use Rattle.ps_machine.specs.Boards.{Board, IsClassLetter}
 use Rattle.ps_machine.specs.BuiltBoards.{board_of}
-use Rattle.ps_machine.specs.Dividing.{AreDivided, AreKnown}
+use Rattle.ps_machine.specs.Dividing.{AreClassesOf, AreDivided, AreKnown, IsFit}
 use Rattle.ps_machine.specs.Inner.Drawing.{CanEnter, IsReplyRow, IsDrawn, IsPlan, IsRow, KeepsRows, Leads, NamesAnswer}
-use Rattle.ps_machine.specs.Dividing.{IsFit}
 use Rattle.ps_machine.specs.Inner.Moving.{IsRest}
 use Rattle.ps_machine.specs.Inner.Placing.{IsEntered, IsPlaced}
 use Rattle.ps_machine.specs.Numbering.{StandsAt}
 use Rattle.ps_machine.specs.declared.divided.Divided.{Divided}
-use Rattle.ps_machine.specs.declared.divided.Division.{Division}
 use Rattle.ps_machine.specs.declared.drawing.Drawing.{Drawing}
 use Rattle.ps_machine.specs.declared.drawing.Plan.{Plan}
 use Rattle.ps_machine.specs.declared.key.Key.{Key}
@@ -41,7 +39,7 @@ IsPlanned p =
 abbrev pub AreDividedBy : Plan → Divided → Type 0
 AreDividedBy p d = AreDivided p.order p.automaton.now p.keys.now d.store (get nat_eq d.classes)
 
-abbrev pub AreKnownBy : Plan → Division → Type 0
+abbrev pub AreKnownBy : Plan → Option Divided → Type 0
 AreKnownBy p = AreKnown p.order p.automaton.now p.keys.now
 
 -- the relation that holds for a state and a priority if some reachable vertex stands for this state, entered by an edge
@@ -60,9 +58,9 @@ IsEnteredBy p =
     p.memories.now.anchors.keys
 
 -- the diagram of the steps from the state q after the letter x of the first player
-abbrev pub IsRestBy : Plan → Divided → ℕ → ℕ → ℕ → Type 0
-IsRestBy p d q x rest =
-    (mask : ℕ) × IsFit p.order p.automaton.now mask d.store × IsRest p.order p.automaton.now mask d.store q x rest
+abbrev pub IsRestBy : Plan → Table → ℕ → ℕ → ℕ → Type 0
+IsRestBy p t q x rest =
+    (mask : ℕ) × IsFit p.order p.automaton.now mask t × IsRest p.order p.automaton.now mask t q x rest
 
 abbrev pub AreRowsBy : Plan → List Row → Type 0
 AreRowsBy p = All (IsRow p.moves_first (board_by p) p.memories.now.kept.items)
@@ -84,22 +82,23 @@ NamesAnswerBy p = NamesAnswer (board_by p) p.keys.now p.memories.now.kept.items 
 
 -- ## What functions that draw require, and what they give
 
-pub record IsReadyPlan (p : Plan) (d : Divided) : Type 0 where
-  pub plan : IsPlanned p
-  pub divided : AreDividedBy p d
-
-pub record CanDraw (p : Plan) (d : Divided) (drawing : Drawing) (v : ℕ) : Type 0 where
+-- the vertex v of a memory state stands for the state q; `c` are the classes of q, and their diagrams are in the table t
+pub record CanDraw (p : Plan) (t : Table) (c : Classes) (drawing : Drawing) (v q : ℕ) : Type 0 where
   pub plan : IsPlanned p
   pub kept : Contains p.memories.now.kept.items v
-  pub divided : AreDividedBy p d
-  pub letters : d.store.propositions ≡ drawing.store.propositions
+  pub stands : (priority : ℕ) × StandsAt p.keys.now v (First q priority)
+  pub mask : ℕ
+  pub fit : IsFit p.order p.automaton.now mask t
+  pub classes : AreClassesOf p.automaton.now mask t q c
+  pub letters : drawing.store.propositions ≡ length p.automaton.now.names
   pub rows : AreRowsBy p drawing.rows.keys
 
--- `CanDraw` holds, the vertex v stands for the state q, and `is_first` states whether the machine's player moves first
-pub record CanDrawAt (is_first : Bool) (p : Plan) (d : Divided) (drawing : Drawing) (v q : ℕ) : Type 0 where
-  pub ready : CanDraw p d drawing v
-  pub turn : p.moves_first ≡ is_first
-  pub stands : (priority : ℕ) × StandsAt p.keys.now v (First q priority)
+pub record CanDivide (p : Plan) (mask : ℕ) (t : Table) (drawing : Drawing) (v : ℕ) : Type 0 where
+  pub plan : IsPlanned p
+  pub kept : Contains p.memories.now.kept.items v
+  pub fit : IsFit p.order p.automaton.now mask t
+  pub letters : drawing.store.propositions ≡ length p.automaton.now.names
+  pub rows : AreRowsBy p drawing.rows.keys
 
 -- the machine's player moves second, the vertex v and some reachable vertex stand for the state q, and x is the least
 -- letter of its class at q

@@ -1,7 +1,7 @@
 use Rattle.std.proofs.Common.{◌≡◌, ◌≢◌, Some, rules}
 use Rattle.std.proofs.lemmas.Iterator.{YieldsList-from_slice, first_from_find}
 use Rattle.ps_diagram.specs.declared.classes.Class.{Class}
-use Rattle.ps_machine.proofs.Diagrams.ClassRests.{any_class}
+use Rattle.ps_machine.proofs.Machines.Diagrams.ClassRests.{any_class}
 use Rattle.ps_machine.proofs.drawing.rest_of.Goals as goal
 
 pub returns : goal.returns

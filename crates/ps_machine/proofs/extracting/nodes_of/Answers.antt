@@ -1,6 +1,10 @@
 use Rattle.std.proofs.Common.{ap, ◌∙◌, get_or}
+use Rattle.ps_machine.proofs.Machines.Diagrams.ClassTables.{classes_there, lent}
 use Rattle.ps_machine.proofs.Machines.Assembling.{drawn_more}
 use Rattle.ps_machine.proofs.extracting.nodes_of.Goals as goal
+
+pub of-classes-requires : goal.of-classes-requires
+of-classes-requires c = lent _ c.requires.divided c.state_at-state.ensures.1
 
 pub loop-vertex-preserved : goal.loop-vertex-preserved
 loop-vertex-preserved c =

@@ -1,4 +1,4 @@
-use Rattle.std.proofs.Common.{◌≡◌}
+use Rattle.std.proofs.Common.{◌≡◌, length}
 use Rattle.ps_machine.specs.Inner.Assembling.{AreDrawn}
 use Rattle.ps_machine.specs.BuiltBoards.{board_of}
 use Rattle.ps_machine.proofs.extracting.nodes_of.Given as goal
@@ -6,7 +6,7 @@ use Rattle.ps_machine.proofs.extracting.nodes_of.Given as goal
 -- each memory state that was visited so far has its diagram
 abbrev pub invariant-loop-vertex : goal.invariant-loop-vertex
 invariant-loop-vertex l = record {
-  letters : l.drawing.store.propositions ≡ l.fn.drawing.store.propositions;
+  letters : l.drawing.store.propositions ≡ length l.plan.automaton.now.names;
   drawn : AreDrawn l.plan.moves_first (board_of l.plan.order l.plan.automaton.now) l.plan.keys.now
       l.plan.memories.now.kept.items l.plan.certificate.now l.drawing.store l.drawing.rows.keys l.nodes.items
       l.vertex-index;

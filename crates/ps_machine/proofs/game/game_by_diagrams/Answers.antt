@@ -1,4 +1,4 @@
-use Rattle.ps_machine.proofs.Diagrams.StoredClasses.{all_divided}
+use Rattle.ps_machine.proofs.Machines.Diagrams.StoredClasses.{all_divided}
 use Rattle.ps_machine.proofs.game.game_by_diagrams.Goals as goal
 
 pub returns-clause-classes : goal.returns-clause-classes

@@ -1,5 +1,5 @@
 use Rattle.std.proofs.Common.{rules}
-use Rattle.ps_machine.proofs.GameKeys.KeyNames.{range_more}
+use Rattle.ps_machine.proofs.AutomatonGames.GameKeys.KeyNames.{range_more}
 use Rattle.ps_machine.proofs.game.ids_of.Goals as goal
 
 pub loop-id-preserved : goal.loop-id-preserved

@@ -1,5 +1,5 @@
 use Rattle.std.proofs.Common.{arith}
-use Rattle.ps_machine.proofs.GameKeys.Starting.{names_more, plain_names_more}
+use Rattle.ps_machine.proofs.AutomatonGames.GameKeys.Starting.{names_more, plain_names_more}
 use Rattle.ps_machine.proofs.game.names_of.Goals as goal
 
 pub loop-key-preserved : goal.loop-key-preserved

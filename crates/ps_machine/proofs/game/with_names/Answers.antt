@@ -9,7 +9,7 @@ use Rattle.ps_machine.specs.BuiltBoards.{board_of}
 use Rattle.ps_machine.specs.KeyNames.{AreNamed}
 use Rattle.ps_machine.specs.Keys.{mover_of}
 use Rattle.ps_machine.proofs.FileBoards.{game_of_file}
-use Rattle.ps_machine.proofs.GameKeys.KeyNames.{ids_differ}
+use Rattle.ps_machine.proofs.AutomatonGames.GameKeys.KeyNames.{ids_differ}
 use Rattle.ps_machine.proofs.game.with_names.Goals as goal
 
 pub with_names-requires : goal.with_names-requires

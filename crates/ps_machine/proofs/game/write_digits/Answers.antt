@@ -2,7 +2,7 @@ use Rattle.std.proofs.Common.{◌≡◌, ◌∙◌, ◌^◌, ◌<◌, ◌/◌, a
 use Rattle.std.proofs.lemmas.List.{length-map}
 use Rattle.std.proofs.lemmas.Nat.Bits.{shr_and_one}
 use Rattle.ps_machine.specs.BuiltBoards.{board_of}
-use Rattle.ps_machine.proofs.GameKeys.KeyNames.{digits_more, plain_more}
+use Rattle.ps_machine.proofs.AutomatonGames.GameKeys.KeyNames.{digits_more, plain_more}
 use Rattle.ps_machine.proofs.game.write_digits.Goals as goal
 
 pub loop-proposition-preserved : goal.loop-proposition-preserved

@@ -1,5 +1,5 @@
 use Rattle.std.proofs.Common.{rules}
-use Rattle.ps_machine.proofs.GameKeys.KeyNames.{plain_decimal}
+use Rattle.ps_machine.proofs.AutomatonGames.GameKeys.KeyNames.{plain_decimal}
 use Rattle.ps_machine.proofs.game.write_number.Goals as goal
 
 pub returns-clause-plain : goal.returns-clause-plain

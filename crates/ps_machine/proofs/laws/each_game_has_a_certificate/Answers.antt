@@ -1,4 +1,4 @@
-use Rattle.ps_machine.proofs.CertificateThere.{certificate_there}
+use Rattle.ps_machine.proofs.Machines.CertificateThere.{certificate_there}
 use Rattle.ps_machine.proofs.laws.each_game_has_a_certificate.Goals as goal
 
 pub returns : goal.returns

@@ -1,4 +1,4 @@
-use Rattle.ps_machine.proofs.GameKeys.GameThere.{game_there}
+use Rattle.ps_machine.proofs.AutomatonGames.GameKeys.GameThere.{game_there}
 use Rattle.ps_machine.proofs.laws.game_is_there.Goals as goal
 
 pub returns : goal.returns

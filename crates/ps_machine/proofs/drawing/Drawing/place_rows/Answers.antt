@@ -3,8 +3,8 @@ use Rattle.std.specs.List.{slice_get}
 use Rattle.std.proofs.lemmas.List.{get_or_default}
 use Rattle.ps_machine.specs.contracts.machine.RowPartialEq.TheImpl as row_eq
 use Rattle.ps_machine.specs.declared.machine.Row.{Row}
-use Rattle.ps_machine.proofs.Diagrams.FirstDrawing.{add_row, note_more}
-use Rattle.ps_machine.proofs.Diagrams.RowTests.{same_row}
+use Rattle.ps_machine.proofs.Machines.Diagrams.FirstDrawing.{add_row, note_more}
+use Rattle.ps_machine.proofs.Machines.Diagrams.RowTests.{same_row}
 use Rattle.ps_machine.proofs.drawing.Drawing.place_rows.Goals as goal
 
 pub returns-in_err-note-clause-added : goal.returns-in_err-note-clause-added

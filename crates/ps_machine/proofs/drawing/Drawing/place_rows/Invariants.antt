@@ -1,6 +1,6 @@
 use Rattle.std.proofs.Common.{◌≡◌}
 use Rattle.ps_machine.specs.BuiltBoards.{board_of}
-use Rattle.ps_machine.proofs.Diagrams.FirstDrawing.{AreNoted}
+use Rattle.ps_machine.proofs.Machines.Diagrams.FirstDrawing.{AreNoted}
 use Rattle.ps_machine.proofs.drawing.Drawing.place_rows.Given as goal
 
 -- for each leaf that was visited so far, the index of the machine's row for this leaf is recorded

@@ -3,8 +3,8 @@ use Rattle.std.proofs.lemmas.List.{take_all}
 use Rattle.ps_machine.specs.BuiltBoards.{board_of}
 use Rattle.ps_machine.specs.Inner.Drawing.{IsRow}
 use Rattle.ps_machine.specs.contracts.machine.RowPartialEq.TheImpl as row_eq
-use Rattle.ps_machine.proofs.Diagrams.DrawingLemmas.{all_rows, keeps_rows, keeps_rows_trans}
-use Rattle.ps_machine.proofs.Diagrams.SecondDrawing.{Names, answer_row, named_next}
+use Rattle.ps_machine.proofs.Machines.Diagrams.DrawingLemmas.{all_rows, keeps_rows, keeps_rows_trans}
+use Rattle.ps_machine.proofs.Machines.Diagrams.SecondDrawing.{Names, answer_row, named_next}
 use Rattle.ps_machine.proofs.drawing.Drawing.rows_of_classes.Goals as goal
 
 pub returns-in_err-push-clause-added : goal.returns-in_err-push-clause-added

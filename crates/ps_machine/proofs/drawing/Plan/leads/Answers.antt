@@ -2,7 +2,7 @@ use Rattle.std.proofs.Common.{◌≡◌, ◌<◌, ◌∙◌, arith, get_or, leng
 use Rattle.ps_machine.specs.Numbering.{StandsAt}
 use Rattle.ps_machine.specs.contracts.key.KeyPartialEq.TheImpl as key_eq
 use Rattle.ps_machine.specs.declared.key.Key.TheVariants.{First}
-use Rattle.ps_machine.proofs.Diagrams.FollowedEdges.{next_within, stands_test, test_stands}
+use Rattle.ps_machine.proofs.Machines.Diagrams.FollowedEdges.{next_within, stands_test, test_stands}
 use Rattle.ps_machine.proofs.drawing.Plan.leads.Goals as goal
 
 pub bounds-self-successor : goal.bounds-self-successor

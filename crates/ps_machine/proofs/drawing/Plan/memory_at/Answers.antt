@@ -2,7 +2,7 @@ use Rattle.std.proofs.Common.{◌≡◌, Some, sym, ◌∙◌, eqb, rules}
 use Rattle.std.specs.List.{slice_get}
 use Rattle.std.proofs.lemmas.Bool.{eqb-true}
 use Rattle.ps_machine.specs.Inner.Drawing.{anchor_of}
-use Rattle.ps_machine.proofs.Diagrams.DrawingLemmas.{at_position, has_anchor, stands_for}
+use Rattle.ps_machine.proofs.Machines.Diagrams.DrawingLemmas.{at_position, has_anchor, stands_for}
 use Rattle.ps_machine.proofs.Lassos.Rounds.{one_place}
 use Rattle.ps_machine.proofs.drawing.Plan.memory_at.Goals as goal
 

@@ -1,6 +1,6 @@
 use Rattle.std.proofs.Common.{arith, rules, sym, ◌∙◌}
-use Rattle.ps_machine.proofs.Diagrams.DrawingLemmas.{kept_entry}
-use Rattle.ps_machine.proofs.Diagrams.FirstDrawing.{has_choice, chosen_within, chosen_not_first, plays_class}
+use Rattle.ps_machine.proofs.Machines.Diagrams.DrawingLemmas.{kept_entry}
+use Rattle.ps_machine.proofs.Machines.Diagrams.FirstDrawing.{has_choice, chosen_within, chosen_not_first, plays_class}
 use Rattle.ps_machine.proofs.drawing.Plan.move_at.Goals as goal
 
 pub choice-requires : goal.choice-requires

@@ -1,7 +1,7 @@
 use Rattle.std.proofs.Common.{arith, sym, ◌∙◌}
 use Rattle.ps_machine.specs.declared.key.Key.TheVariants.{First}
-use Rattle.ps_machine.proofs.Diagrams.DrawingLemmas.{not_both, setting, to_class_of}
-use Rattle.ps_machine.proofs.Diagrams.SecondDrawing.{replies, reply_enters, reply_is, reply_key, reply_stands}
+use Rattle.ps_machine.proofs.Machines.Diagrams.DrawingLemmas.{not_both, setting, to_class_of}
+use Rattle.ps_machine.proofs.Machines.Diagrams.SecondDrawing.{replies, reply_enters, reply_is, reply_key, reply_stands}
 use Rattle.ps_machine.proofs.drawing.Plan.reply.Goals as goal
 
 pub successor-at-requires-clause-leads : goal.successor-at-requires-clause-leads

@@ -1,5 +1,5 @@
-use Rattle.ps_machine.proofs.BoardMoves.{move_named}
-use Rattle.ps_machine.proofs.Diagrams.SecondDrawing.{leaf_there, answered}
+use Rattle.ps_machine.proofs.AutomatonGames.BoardMoves.{move_named}
+use Rattle.ps_machine.proofs.Machines.Diagrams.SecondDrawing.{leaf_there, answered}
 use Rattle.ps_machine.proofs.drawing.Plan.row_of_class.Goals as goal
 
 pub letter_to-requires-clause-named : goal.letter_to-requires-clause-named

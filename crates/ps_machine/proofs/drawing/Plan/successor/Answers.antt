@@ -1,5 +1,5 @@
 use Rattle.std.proofs.Common.{arith}
-use Rattle.ps_machine.proofs.Diagrams.FollowedEdges.{some_leads}
+use Rattle.ps_machine.proofs.Machines.Diagrams.FollowedEdges.{some_leads}
 use Rattle.ps_machine.proofs.drawing.Plan.successor.Goals as goal
 
 pub unreachable-requires : goal.unreachable-requires
