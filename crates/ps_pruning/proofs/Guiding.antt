@@ -6,10 +6,10 @@ use Rattle.std.proofs.Common.{sym, ◌∙◌, subst, ap, refl, inl, inr, arith}
 use Rattle.std.proofs.lemmas.Bool.{cases_eq, cases_lt}
 use Rattle.std.proofs.lemmas.Option.{get_or_from_slice_get, slice_get-get_or}
 use Rattle.ps_game.specs.Games.{vertex_count, owner_of, priority_of, successors_of, HasEdge}
-use Rattle.ps_text.proofs.Decisions.{Decided, decide_not, decide_as, decide_both, decide_one, decide_in}
+use Rattle.ps_text.proofs.ParsedAnswers.Decisions.{Decided, decide_not, decide_as, decide_both, decide_one, decide_in}
 use Rattle.ps_certificate.specs.Certificates.{CertificateData, winner_of, choice_of}
-use Rattle.ps_certificate.proofs.SomeFlaw.{IsFirstPlace, first_place}
-use Rattle.ps_certificate.proofs.SuccessorEdges.{place_of}
+use Rattle.ps_certificate.proofs.FlawsAndValidity.SomeFlaw.{IsFirstPlace, first_place}
+use Rattle.ps_certificate.proofs.FlawsAndValidity.SuccessorEdges.{place_of}
 use Rattle.ps_pruning.specs.Lifting.{Pruning, IsKeptAs, MayReplace, Guides, Serves, IsFirstIn, AreCandidates, IsGuideBy}
 
 -- no entry of the list has the property P, or there is a first one that has it

@@ -14,8 +14,8 @@ use Rattle.std.proofs.lemmas.List.Sums.{get_or-le-sum_by}
 use Rattle.ps_game.specs.Games.{vertex_count, owner_of, successors_of, HasEdge}
 use Rattle.ps_certificate.specs.Certificates.{CertificateData, EntryData, no_entry, Fits, IsValid, Remains}
 use Rattle.ps_certificate.specs.Certificates.{winner_of, choice_of, counts_of, opposing}
-use Rattle.ps_certificate.proofs.SomeFlaw.{IsFirstPlace, first_place}
-use Rattle.ps_certificate.proofs.SuccessorEdges.{HasEdge-at, place_of}
+use Rattle.ps_certificate.proofs.FlawsAndValidity.SomeFlaw.{IsFirstPlace, first_place}
+use Rattle.ps_certificate.proofs.FlawsAndValidity.SuccessorEdges.{HasEdge-at, place_of}
 use Rattle.ps_pruning.specs.Lifting.{Pruning, IsPruning, IsGuide, HasEntryOf, HasOwnEntry, IsLift}
 use Rattle.ps_pruning.proofs.KeptVertices.{first_kept}
 use Rattle.ps_pruning.proofs.Servers.{given_there, server_below}

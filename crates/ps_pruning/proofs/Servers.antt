@@ -11,7 +11,7 @@ use Rattle.std.proofs.lemmas.Bool.{cases_eq}
 use Rattle.ps_game.specs.Games.{vertex_count, owner_of, priority_of, HasEdge}
 use Rattle.ps_certificate.specs.Certificates.{CertificateData, Fits, IsValid, Remains, winner_of, choice_of}
 use Rattle.ps_pruning.specs.Lifting.{Pruning, IsPruning, IsCovered, IsKeptAs, CoversVertex, Guides, Serves, IsGuide}
-use Rattle.ps_certificate.proofs.SuccessorEdges.{IsSomeAnd-at}
+use Rattle.ps_certificate.proofs.FlawsAndValidity.SuccessorEdges.{IsSomeAnd-at}
 use Rattle.ps_pruning.proofs.KeptVertices.{kept_below, kept_there, first_kept, kept_once, edge_in, edge_out}
 
 -- the vertex u of the pruned game has the move x
