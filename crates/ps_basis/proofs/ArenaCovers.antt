@@ -15,9 +15,9 @@ use Rattle.ps_machine.specs.Boards.{LeadsTo}
 use Rattle.ps_machine.specs.Numbering.{StandsAt}
 use Rattle.ps_machine.specs.declared.key.Key.{Key}
 use Rattle.ps_machine.specs.declared.key.Key.TheVariants.{First, Second}
-use Rattle.ps_machine.proofs.DecidedMoves.{move_there}
-use Rattle.ps_machine.proofs.GameKeys.GameSound.{board_game_is_game}
-use Rattle.ps_machine.proofs.GameKeys.Standing.{same_some}
+use Rattle.ps_machine.proofs.AutomatonGames.DecidedMoves.{move_there}
+use Rattle.ps_machine.proofs.AutomatonGames.GameKeys.GameSound.{board_game_is_game}
+use Rattle.ps_machine.proofs.AutomatonGames.GameKeys.Standing.{same_some}
 use Rattle.ps_certificate.specs.Certificates.{CertificateData, Fits, IsValid}
 use Rattle.ps_pruning.specs.Lifting.{Pruning, IsCovered, IsKeptAs, IsGuide, MayReplace, CoversVertex}
 use Rattle.ps_pruning.specs.Lifting.{AreCandidates, Serves}

@@ -14,7 +14,7 @@ use Rattle.ps_machine.specs.Keys.{owner_of_key}
 use Rattle.ps_machine.specs.Numbering.{StandsAt}
 use Rattle.ps_machine.specs.declared.key.Key.{Key}
 use Rattle.ps_machine.specs.declared.key.Key.TheVariants.{First, Second}
-use Rattle.ps_machine.proofs.GameKeys.Standing.{same_some}
+use Rattle.ps_machine.proofs.AutomatonGames.GameKeys.Standing.{same_some}
 use Rattle.ps_pruning.specs.Lifting.{Pruning, IsPruning, IsKeptAs}
 use Rattle.ps_basis.specs.Arenas.{IsArenaOf, LeadsWithin, HaveSameKey, AreSameKeys}
 use Rattle.ps_basis.proofs.ArenaKeys.{Vertex, below_keys, vertex_at, key_at, key_once, edge_key, key_edge, stands_in}

@@ -14,7 +14,7 @@ use Rattle.ps_game.specs.Games.{ParityGame, vertex_count, owner_of, priority_of,
 use Rattle.ps_machine.specs.Keys.{owner_of_key, priority_of_key}
 use Rattle.ps_machine.specs.Numbering.{IsGameByKeys, IsNumbered, IsVertexOf, StandsAt, listed}
 use Rattle.ps_machine.specs.declared.key.Key.{Key}
-use Rattle.ps_machine.proofs.GameKeys.Standing.{came, same_some, zip_vertex}
+use Rattle.ps_machine.proofs.AutomatonGames.GameKeys.Standing.{came, same_some, zip_vertex}
 use Rattle.ps_machine.proofs.Uniqueness.Counting.{has_it}
 use Rattle.ps_machine.proofs.Uniqueness.OneGame.{zipped}
 

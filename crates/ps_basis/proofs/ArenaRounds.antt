@@ -9,7 +9,7 @@ use Rattle.std.specs.Option.{option_map}
 use Rattle.std.proofs.Common.{sym, ◌∙◌, subst, ap, ap₂, refl, arith}
 use Rattle.ps_game.specs.Games.{ParityGame, vertex_count, owner_of, HasEdge}
 use Rattle.ps_certificate.specs.Certificates.{CertificateData, Fits, IsValid, winner_of, choice_of}
-use Rattle.ps_certificate.proofs.SuccessorEdges.{IsSomeAnd-at}
+use Rattle.ps_certificate.proofs.FlawsAndValidity.SuccessorEdges.{IsSomeAnd-at}
 use Rattle.ps_machine.specs.Boards.{Board, IsClassLetter, IsGameOf, LeadsTo}
 use Rattle.ps_machine.specs.Extracting.{IsUsed}
 use Rattle.ps_machine.specs.Inner.Drawing.{GoesOn}
@@ -17,9 +17,9 @@ use Rattle.ps_machine.specs.Numbering.{StandsAt}
 use Rattle.ps_machine.specs.Solving.{winner_at_start}
 use Rattle.ps_machine.specs.declared.key.Key.{Key}
 use Rattle.ps_machine.specs.declared.key.Key.TheVariants.{First, Second}
-use Rattle.ps_machine.proofs.DecidedMoves.{class_there}
-use Rattle.ps_machine.proofs.Diagrams.DrawingLemmas.{used_more, used_won}
-use Rattle.ps_machine.proofs.GameKeys.Standing.{same_some}
+use Rattle.ps_machine.proofs.AutomatonGames.DecidedMoves.{class_there}
+use Rattle.ps_machine.proofs.Machines.Diagrams.DrawingLemmas.{used_more, used_won}
+use Rattle.ps_machine.proofs.AutomatonGames.GameKeys.Standing.{same_some}
 use Rattle.ps_machine.proofs.Machines.UsedVertices.{used_first}
 use Rattle.ps_pruning.specs.Lifting.{Pruning, IsPruning, IsKeptAs, IsFirstIn, HasEntryOf}
 use Rattle.ps_pruning.proofs.KeptVertices.{kept_below, kept_is, kept_there}

@@ -18,8 +18,9 @@ use Rattle.ps_machine.specs.Extracting.{GoesTo, StepsSecond}
 use Rattle.ps_machine.specs.Numbering.{StandsAt}
 use Rattle.ps_machine.specs.declared.key.Key.{Key}
 use Rattle.ps_machine.specs.declared.key.Key.TheVariants.{First, Second}
-use Rattle.ps_machine.proofs.DecidedMoves.{class_there, move_there, same_states, same_priorities, steps_sym}
-use Rattle.ps_machine.proofs.GameKeys.Standing.{same_some}
+use Rattle.ps_machine.proofs.AutomatonGames.DecidedMoves.{class_there, move_there, same_states, same_priorities}
+use Rattle.ps_machine.proofs.AutomatonGames.DecidedMoves.{steps_sym}
+use Rattle.ps_machine.proofs.AutomatonGames.GameKeys.Standing.{same_some}
 use Rattle.ps_pruning.specs.Lifting.{Pruning, IsPruning, IsKeptAs, Serves, IsGuide, IsFirstIn}
 use Rattle.ps_pruning.specs.Lifting.{HasEntryOf}
 use Rattle.ps_pruning.proofs.KeptVertices.{kept_is, kept_there}

@@ -12,8 +12,8 @@ use Rattle.ps_machine.specs.Boards.{Board, IsClassLetter, IsListOf, IsMove, Lead
 use Rattle.ps_machine.specs.Numbering.{StandsAt}
 use Rattle.ps_machine.specs.declared.key.Key.{Key}
 use Rattle.ps_machine.specs.declared.key.Key.TheVariants.{First, Second}
-use Rattle.ps_machine.proofs.DecidedMoves.{class_there, same_priorities, same_states, steps_sym}
-use Rattle.ps_machine.proofs.GameKeys.Standing.{same_some, zip_at}
+use Rattle.ps_machine.proofs.AutomatonGames.DecidedMoves.{class_there, same_priorities, same_states, steps_sym}
+use Rattle.ps_machine.proofs.AutomatonGames.GameKeys.Standing.{same_some, zip_at}
 use Rattle.ps_basis.specs.ArenaMoves.{GoesThere}
 use Rattle.ps_basis.specs.Bases.{CanGoTo}
 use Rattle.ps_basis.specs.PairOrder.{HasStepTo, IsLeastStep}

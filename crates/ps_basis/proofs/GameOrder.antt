@@ -12,7 +12,7 @@ use Rattle.ps_machine.specs.Boards.{Board, IsClassLetter, IsGameOf, LeadsTo}
 use Rattle.ps_machine.specs.Numbering.{StandsAt}
 use Rattle.ps_machine.specs.declared.key.Key.{Key}
 use Rattle.ps_machine.specs.declared.key.Key.TheVariants.{First, Second}
-use Rattle.ps_machine.proofs.GameKeys.Standing.{one_state, same_some}
+use Rattle.ps_machine.proofs.AutomatonGames.GameKeys.Standing.{one_state, same_some}
 use Rattle.ps_basis.specs.ArenaMoves.{GoesThere}
 use Rattle.ps_basis.specs.Bases.{CanGoTo}
 use Rattle.ps_basis.specs.PairOrder.{HasStepTo, IsMadeAt, IsEarlier, IsMadeBelow, IsInOrder}

@@ -6,16 +6,16 @@ use Rattle.std.specs.Prelude.{◌≡◌, ℕ, ◌^◌, ◌<◌, List}
 use Rattle.std.specs.List.{Contains}
 use Rattle.std.proofs.Common.{sym, ◌∙◌, subst, inl, inr, arith}
 use Rattle.std.proofs.lemmas.Bool.{cases_eq}
-use Rattle.ps_text.proofs.Decisions.{Decided, decide_as, decide_both}
-use Rattle.ps_automaton.proofs.Deciding.{some_or_none}
+use Rattle.ps_text.proofs.ParsedAnswers.Decisions.{Decided, decide_as, decide_both}
+use Rattle.ps_automaton.proofs.AdmittedFiles.Deciding.{some_or_none}
 use Rattle.ps_game.specs.Games.{ParityGame, HasEdge}
 use Rattle.ps_machine.specs.Boards.{Board, IsClassLetter, IsFirstLetter, IsGameOf, LeadsTo}
 use Rattle.ps_machine.specs.Numbering.{StandsAt}
 use Rattle.ps_machine.specs.declared.key.Key.{Key}
 use Rattle.ps_machine.specs.declared.key.Key.TheVariants.{First, Second}
-use Rattle.ps_machine.proofs.DecidedMoves.{first_or_not, second_or_not, same_priorities, same_states}
-use Rattle.ps_machine.proofs.GameKeys.Standing.{same_some}
-use Rattle.ps_machine.proofs.LeastLetters.{least_there}
+use Rattle.ps_machine.proofs.AutomatonGames.DecidedMoves.{first_or_not, second_or_not, same_priorities, same_states}
+use Rattle.ps_machine.proofs.AutomatonGames.GameKeys.Standing.{same_some}
+use Rattle.ps_machine.proofs.AutomatonGames.LeastLetters.{least_there}
 use Rattle.ps_basis.specs.ArenaMoves.{GoesThere}
 use Rattle.ps_basis.specs.Bases.{CanGoTo}
 use Rattle.ps_basis.specs.PairOrder.{HasStepTo, IsLeastStep}

@@ -6,7 +6,7 @@ use Rattle.std.proofs.Common.{sym, ◌∙◌, subst, refl, inl, inr, arith}
 use Rattle.std.proofs.lemmas.Bool.{cases_eq}
 use Rattle.ps_label.specs.Truth.{is_in}
 use Rattle.ps_diagram.specs.Letters.{IsBefore, IsLeastLetter}
-use Rattle.ps_diagram.proofs.Alone.{same_letter}
+use Rattle.ps_diagram.proofs.TreesFromData.Alone.{same_letter}
 use Rattle.ps_machine.specs.Boards.{Board, IsFirstLetter}
 use Rattle.ps_basis.specs.ArenaMoves.{GoesThere}
 use Rattle.ps_basis.specs.Bases.{CanGoTo}

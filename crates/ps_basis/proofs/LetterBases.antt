@@ -3,10 +3,10 @@
 use Rattle.std.specs.Prelude.{ℕ, zero, suc, ◌^◌, ◌<◌, List}
 use Rattle.std.proofs.Common.{sym, subst, refl, inl, inr, arith}
 use Rattle.std.proofs.lemmas.Bool.{cases_eq}
-use Rattle.ps_text.proofs.Decisions.{decide_both}
+use Rattle.ps_text.proofs.ParsedAnswers.Decisions.{decide_both}
 use Rattle.ps_machine.specs.Boards.{Board, IsFirstLetter, IsClassLetter, IsListOf}
-use Rattle.ps_machine.proofs.DecidedMoves.{class_there, first_or_not, steps_sym}
-use Rattle.ps_machine.proofs.LeastLetters.{least_there}
+use Rattle.ps_machine.proofs.AutomatonGames.DecidedMoves.{class_there, first_or_not, steps_sym}
+use Rattle.ps_machine.proofs.AutomatonGames.LeastLetters.{least_there}
 use Rattle.ps_basis.specs.Bases.{ReachesNoMore, IsBasis, IsAlike, IsSetLetter, IsMinimalLetter}
 use Rattle.ps_basis.proofs.LetterReach.{reaches_itself, reaches_through, reaches_same, decide_no_more, decide_alike}
 

@@ -1,10 +1,10 @@
 -- The order of letters by what the second player reaches behind them, which is decidable.
 use Rattle.std.specs.Prelude.{ℕ, ◌+◌, ◌^◌}
 use Rattle.std.proofs.Common.{sym, ◌∙◌, refl, inl, inr}
-use Rattle.ps_text.proofs.Decisions.{Decided, decide_both, decide_not, decide_as}
-use Rattle.ps_automaton.proofs.Deciding.{some_or_none}
+use Rattle.ps_text.proofs.ParsedAnswers.Decisions.{Decided, decide_both, decide_not, decide_as}
+use Rattle.ps_automaton.proofs.AdmittedFiles.Deciding.{some_or_none}
 use Rattle.ps_machine.specs.Boards.{Board, IsSecondLetter, SameStep, SameSteps}
-use Rattle.ps_machine.proofs.DecidedMoves.{first_or_not, second_or_not, step_or_not}
+use Rattle.ps_machine.proofs.AutomatonGames.DecidedMoves.{first_or_not, second_or_not, step_or_not}
 use Rattle.ps_basis.specs.Bases.{CanGoTo, ReachesNoMore, IsAlike}
 
 module _ (board : Board) (q : ℕ) where

@@ -14,8 +14,8 @@ use Rattle.ps_machine.specs.Boards.{Board}
 use Rattle.ps_machine.specs.Numbering.{StandsAt}
 use Rattle.ps_machine.specs.declared.key.Key.{Key}
 use Rattle.ps_machine.specs.declared.key.Key.TheVariants.{First}
-use Rattle.ps_machine.proofs.DecidedMoves.{same_priorities, same_states}
-use Rattle.ps_machine.proofs.GameKeys.Standing.{one_state, slice_get-left}
+use Rattle.ps_machine.proofs.AutomatonGames.DecidedMoves.{same_priorities, same_states}
+use Rattle.ps_machine.proofs.AutomatonGames.GameKeys.Standing.{one_state, slice_get-left}
 use Rattle.ps_basis.specs.Listing.{AddsNew, AreTargets, IsSooner, IsListedUpTo, begun, visited, passed}
 use Rattle.ps_basis.specs.PairOrder.{HasStepTo, IsLeastStep, IsMadeAt, IsEarlier, IsMadeBelow, IsInOrder}
 use Rattle.ps_basis.proofs.ArenaKeys.{index_once, stands_in, stands_there}

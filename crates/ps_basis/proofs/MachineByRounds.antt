@@ -20,8 +20,8 @@ use Rattle.ps_machine.specs.Numbering.{StandsAt}
 use Rattle.ps_machine.specs.Solving.{winner_at_start}
 use Rattle.ps_machine.specs.declared.key.Key.{Key}
 use Rattle.ps_machine.specs.declared.key.Key.TheVariants.{First, Second}
-use Rattle.ps_machine.proofs.Diagrams.DrawingLemmas.{used_won}
-use Rattle.ps_machine.proofs.GameKeys.Standing.{same_some}
+use Rattle.ps_machine.proofs.Machines.Diagrams.DrawingLemmas.{used_won}
+use Rattle.ps_machine.proofs.AutomatonGames.GameKeys.Standing.{same_some}
 use Rattle.ps_pruning.specs.Lifting.{IsKeptAs, HasEntryOf}
 use Rattle.ps_pruning.proofs.KeptVertices.{kept_is}
 use Rattle.ps_basis.specs.ArenaMoves.{ComesTo}

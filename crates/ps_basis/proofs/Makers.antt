@@ -14,8 +14,8 @@ use Rattle.ps_game.specs.Games.{ParityGame, vertex_count, successors_of, HasEdge
 use Rattle.ps_machine.specs.Boards.{Board, IsGameOf}
 use Rattle.ps_machine.specs.Numbering.{listed}
 use Rattle.ps_machine.specs.declared.key.Key.{Key}
-use Rattle.ps_machine.proofs.GameKeys.Standing.{came}
-use Rattle.ps_machine.proofs.LeastLetters.{contained_or_not}
+use Rattle.ps_machine.proofs.AutomatonGames.GameKeys.Standing.{came}
+use Rattle.ps_machine.proofs.AutomatonGames.LeastLetters.{contained_or_not}
 use Rattle.ps_machine.proofs.Uniqueness.Counting.{Counts, counts_below, counts_front, has_it, old_or_next}
 use Rattle.ps_machine.proofs.Uniqueness.OneGame.{ahead, count_at}
 

@@ -7,13 +7,13 @@ use Rattle.std.specs.List.{Contains}
 use Rattle.std.proofs.Common.{sym, ◌∙◌, subst, ap, inl, inr, arith, rules}
 use Rattle.std.proofs.lemmas.Bool.{cases_eq, cases_lt}
 use Rattle.ps_diagram.specs.Letters.{IsBefore}
-use Rattle.ps_diagram.proofs.Cells.{true_is_not_false}
+use Rattle.ps_diagram.proofs.NodeTables.Cells.{true_is_not_false}
 use Rattle.ps_machine.specs.Boards.{Board}
 use Rattle.ps_machine.specs.Numbering.{StandsAt}
 use Rattle.ps_machine.specs.declared.key.Key.{Key}
 use Rattle.ps_machine.specs.declared.key.Key.TheVariants.{First}
-use Rattle.ps_machine.proofs.DecidedMoves.{same_states}
-use Rattle.ps_machine.proofs.GameKeys.Standing.{same_some}
+use Rattle.ps_machine.proofs.AutomatonGames.DecidedMoves.{same_states}
+use Rattle.ps_machine.proofs.AutomatonGames.GameKeys.Standing.{same_some}
 use Rattle.ps_basis.specs.PairOrder.{HasStepTo, IsLeastStep, IsMadeAt, IsEarlier, IsMadeBelow, IsInOrder}
 use Rattle.ps_basis.specs.PairOrder.{AreNumberedAlike}
 use Rattle.ps_basis.proofs.ArenaKeys.{index_once, stands_in, stands_there}
