@@ -18,7 +18,7 @@ use Rattle.ps_circuit.specs.Building.{Drafted, AreSides, IsSoundDraft}
 use Rattle.ps_aiger.specs.Inner.Built.{IsBuilt}
 use Rattle.ps_aiger.specs.Encoded.{IsTidy, IsTidyGate, symbols_of}
 use Rattle.ps_aiger.proofs.RangeLemmas.{even_literals, even-append, length-even, even-at}
-use Rattle.ps_circuit.proofs.GateLemmas.{sides_are}
+use Rattle.ps_circuit.proofs.GatesAndLinks.GateLemmas.{sides_are}
 
 pub no_gate : Gate
 no_gate = record { literal = 0; first = 0; second = 0 }

@@ -16,7 +16,7 @@ use Rattle.ps_aiger.specs.Inner.Built.{IsBuilt}
 use Rattle.ps_aiger.specs.Encoded.{Encodes, number_of_bits, memory_of_code, memory_of, letter_over, bits_over}
 use Rattle.ps_aiger.specs.Timing.{SeesNoInput}
 use Rattle.ps_aiger.specs.Wires.{StepBit, next_bit, output_bit}
-use Rattle.ps_circuit.proofs.GateLemmas.{bit-plain}
+use Rattle.ps_circuit.proofs.GatesAndLinks.GateLemmas.{bit-plain}
 use Rattle.ps_aiger.proofs.CircuitShape.{no_gate, no_latch, none_at}
 use Rattle.ps_aiger.proofs.LetterLemmas.{number_is, number_of_letter}
 use Rattle.ps_aiger.proofs.RangeLemmas.{length-even, even-at}

@@ -14,8 +14,8 @@ use Rattle.ps_circuit.specs.declared.parts.Latch.{Latch}
 use Rattle.ps_circuit.specs.Building.{Drafted, IsSoundDraft, variables_of}
 use Rattle.ps_circuit.specs.Circuits.{CircuitData, IsCircuit, IsDraft, ReadsGate}
 use Rattle.ps_circuit.specs.Literals.{variable}
-use Rattle.ps_circuit.proofs.MadeSound.{HasRoom}
-use Rattle.ps_circuit.proofs.Ordered.{acyclic}
+use Rattle.ps_circuit.proofs.GatesAndLinks.MadeSound.{HasRoom}
+use Rattle.ps_circuit.proofs.GatesAndLinks.Ordered.{acyclic}
 use Rattle.ps_machine.specs.Behaviours.{Behaviour, IsMachine}
 use Rattle.ps_aiger.specs.Inner.Built.{AreLatches, IsBuilt}
 use Rattle.ps_aiger.specs.Encoded.{Encodes, IsTidy, symbols_of}

@@ -9,7 +9,7 @@ use Rattle.std.proofs.lemmas.Bool.{eq-eqb}
 use Rattle.std.proofs.lemmas.List.{length-map, get_or-map, map-append, take_more}
 use Rattle.std.proofs.lemmas.List.Elements.{All-map}
 use Rattle.ps_hoa.specs.Files.{is_among}
-use Rattle.ps_hoa.specs.Header.{has_control, is_control, is_empty}
+use Rattle.ps_hoa.specs.Grammar.Header.{has_control, is_control, is_empty}
 use Rattle.ps_hoa.specs.Memory.{bytes_of}
 use Rattle.ps_hoa.specs.Sound.{AreNames}
 use Rattle.ps_machine.specs.Behaviours.{Behaviour, IsMachine}
@@ -18,7 +18,7 @@ use Rattle.ps_circuit.specs.Circuits.{IsSymbolName}
 use Rattle.ps_circuit.specs.Drafts.{name_bytes}
 use Rattle.ps_aiger.specs.Encoded.{symbols_of}
 use Rattle.ps_aiger.proofs.LetterLemmas.{few_rise}
-use Rattle.ps_circuit.proofs.GateLemmas.{bool_cases, true_is_not_false}
+use Rattle.ps_circuit.proofs.GatesAndLinks.GateLemmas.{bool_cases, true_is_not_false}
 
 no_control : (b : ℕ) (rest : Bool) → cond (is_control b) true rest ≡ false → (is_control b ≡ false) × (rest ≡ false)
 no_control b rest h = grind (arith, bool_cases (is_control b))

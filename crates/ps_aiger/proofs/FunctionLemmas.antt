@@ -14,7 +14,7 @@ use Rattle.ps_machine.specs.Machines.{MachineData, row_at_leaf}
 use Rattle.ps_aiger.specs.declared.functions.Wanted.{Wanted}
 use Rattle.ps_circuit.specs.Building.{Drafted, IsHeld, bit}
 use Rattle.ps_aiger.specs.Inner.Functions.{IsInputLiteral, wanted_bit}
-use Rattle.ps_circuit.proofs.GateLemmas.{bool_cases}
+use Rattle.ps_circuit.proofs.GatesAndLinks.GateLemmas.{bool_cases}
 
 pub not_among : (q : ℕ) (ps : List ℕ) → ((k : ℕ) → k < length ps → get_or ps k 0 ≡ q → ⊥) → is_among q ps ≡ false
 not_among q [] h = refl

@@ -13,7 +13,7 @@ use Rattle.ps_diagram.specs.Letters.{letter_of}
 use Rattle.ps_diagram.proofs.Letters.{letter_lt, letter_is, top_bit, lower_bit}
 use Rattle.ps_aiger.specs.Encoded.{letter_over, number_of_bits}
 use Rattle.std.proofs.lemmas.Option.{slice_get_within, get_or_from_slice_get}
-use Rattle.ps_circuit.proofs.GateLemmas.{bool_cases, true_is_not_false}
+use Rattle.ps_circuit.proofs.GatesAndLinks.GateLemmas.{bool_cases, true_is_not_false}
 
 pub no_test : (a b : ℕ) → (a ≡ b → ⊥) → nat_eq a b ≡ false
 no_test a b ne = elim (bool_cases (nat_eq a b)) [ inl e ↦ absurd (ne (eqb-true a b e)) | inr e ↦ e ]

@@ -22,7 +22,7 @@ use Rattle.ps_machine.specs.Machines.{MachineData, behaviour}
 use Rattle.ps_aiger.specs.declared.functions.Wanted.{Wanted}
 use Rattle.ps_aiger.specs.Inner.Functions.{AreInputLiterals, IsInputLiteral, MakesLiteral}
 use Rattle.ps_aiger.specs.Inner.Functions.{node_made}
-use Rattle.ps_circuit.proofs.GateLemmas.{extends-refl, extends-trans, passed_on}
+use Rattle.ps_circuit.proofs.GatesAndLinks.GateLemmas.{extends-refl, extends-trans, passed_on}
 use Rattle.ps_aiger.proofs.OverLemmas.{choice_made, made-test}
 use Rattle.ps_aiger.proofs.WiredLemmas.{choice-made}
 

@@ -22,8 +22,8 @@ use Rattle.ps_circuit.specs.Gates.{Made, mux_of}
 use Rattle.ps_aiger.specs.Wires.{over_variables}
 use Rattle.ps_aiger.proofs.LetterLemmas.{AreFrom, bit_for, letter_bit, bit_for-at, bit_for-none, no_test}
 use Rattle.ps_aiger.proofs.FunctionLemmas.{by_cond, no_row, nothing_wanted}
-use Rattle.ps_circuit.proofs.GateLemmas.{extends-refl, extends-trans}
-use Rattle.ps_circuit.proofs.MadeLemmas.{IsThere, mux-extends, mux-again, mux-same}
+use Rattle.ps_circuit.proofs.GatesAndLinks.GateLemmas.{extends-refl, extends-trans}
+use Rattle.ps_circuit.proofs.GatesAndLinks.MadeLemmas.{IsThere, mux-extends, mux-again, mux-same}
 
 -- ## Functions of some variables
 

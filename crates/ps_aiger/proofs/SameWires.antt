@@ -4,7 +4,7 @@ use Rattle.std.proofs.lemmas.Bool.{ltb-true}
 use Rattle.ps_machine.specs.Behaviours.{Behaviour}
 use Rattle.ps_machine.specs.Behaving.{BehavesAs}
 use Rattle.ps_circuit.specs.Building.{Drafted}
-use Rattle.ps_circuit.proofs.GateLemmas.{bool_cases}
+use Rattle.ps_circuit.proofs.GatesAndLinks.GateLemmas.{bool_cases}
 use Rattle.ps_aiger.specs.Encoded.{letter_over, memory_of_code}
 use Rattle.ps_aiger.specs.Wires.{StepBit, code_made, next_wires, output_wires, wired}
 use Rattle.ps_aiger.proofs.OverLemmas.{over-same}

@@ -3,8 +3,8 @@ use Rattle.std.proofs.Common.{rules, arith, ◌≡◌, ℕ, zero, suc, ◌+◌, 
 use Rattle.std.proofs.lemmas.List.FromFn.{length-map-range_with_len}
 use Rattle.ps_machine.specs.Behaviours.{Behaviour}
 use Rattle.ps_circuit.specs.Building.{Drafted, Extends}
-use Rattle.ps_circuit.proofs.GateLemmas.{extends-refl, extends-trans}
-use Rattle.ps_circuit.proofs.MadeLemmas.{mux-extends}
+use Rattle.ps_circuit.proofs.GatesAndLinks.GateLemmas.{extends-refl, extends-trans}
+use Rattle.ps_circuit.proofs.GatesAndLinks.MadeLemmas.{mux-extends}
 use Rattle.ps_aiger.specs.Wires.{StepBit, code_made, next_wires, output_wires, wired}
 use Rattle.ps_aiger.proofs.OverLemmas.{over-extends}
 

@@ -27,8 +27,8 @@ use Rattle.ps_aiger.specs.Wires.{AreGates, IsOutOfLiterals, IsWired, IsWiredBy, 
 use Rattle.ps_aiger.specs.Wires.{output_wires, wired}
 use Rattle.ps_aiger.proofs.CircuitShape.{no_latch}
 use Rattle.ps_aiger.proofs.FunctionLemmas.{few_latches, shl_is}
-use Rattle.ps_circuit.proofs.GateLemmas.{drafted_are, extends-refl, extends-trans, held-extends}
-use Rattle.ps_circuit.proofs.MadeLemmas.{above-extends, mux-extends, mux-same}
+use Rattle.ps_circuit.proofs.GatesAndLinks.GateLemmas.{drafted_are, extends-refl, extends-trans, held-extends}
+use Rattle.ps_circuit.proofs.GatesAndLinks.MadeLemmas.{above-extends, mux-extends, mux-same}
 use Rattle.ps_aiger.proofs.OverLemmas.{choose, inputs-again}
 use Rattle.ps_aiger.proofs.WireLemmas.{wired-extends}
 

@@ -9,9 +9,9 @@ use Rattle.ps_machine.specs.Behaviours.{Behaviour}
 use Rattle.ps_circuit.specs.declared.builder.Sides.{Sides}
 use Rattle.ps_circuit.specs.Building.{Drafted, Extends, IsHeld, IsSoundDraft, bit}
 use Rattle.ps_circuit.specs.Gates.{Made}
-use Rattle.ps_circuit.proofs.GateLemmas.{bit-plain, held-extends, meets-extends}
-use Rattle.ps_circuit.proofs.MadeLemmas.{mux-extends}
-use Rattle.ps_circuit.proofs.MadeSound.{HasRoom, IsMade, made-as, made-later, mux-made, room-before}
+use Rattle.ps_circuit.proofs.GatesAndLinks.GateLemmas.{bit-plain, held-extends, meets-extends}
+use Rattle.ps_circuit.proofs.GatesAndLinks.MadeLemmas.{mux-extends}
+use Rattle.ps_circuit.proofs.GatesAndLinks.MadeSound.{HasRoom, IsMade, made-as, made-later, mux-made, room-before}
 use Rattle.ps_aiger.specs.Encoded.{letter_over, memory_of_code}
 use Rattle.ps_aiger.specs.Wires.{StepBit, code_made, next_bit, next_wires, output_bit, output_wires, over_variables}
 use Rattle.ps_aiger.specs.Wires.{wired}

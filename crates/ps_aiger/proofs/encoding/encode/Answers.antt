@@ -1,7 +1,7 @@
 use Rattle.std.proofs.Common.{sym, ap, arith}
 use Rattle.ps_machine.specs.Machines.{behaviour}
 use Rattle.ps_aiger.specs.Wires.{Wired}
-use Rattle.ps_circuit.proofs.GateLemmas.{passed}
+use Rattle.ps_circuit.proofs.GatesAndLinks.GateLemmas.{passed}
 use Rattle.ps_aiger.proofs.EncodeLemmas.{few_inputs}
 use Rattle.ps_aiger.proofs.WiredLemmas.{above-outputs, out_of_literals}
 use Rattle.ps_aiger.proofs.encoding.encode.Goals as goal

@@ -2,7 +2,7 @@ use Rattle.std.proofs.Common.{◌∙◌, ◌<◌, arith, length, sym, subst, rul
 use Rattle.std.proofs.lemmas.Option.{slice_get-get_or}
 use Rattle.ps_circuit.specs.Building.{HasTooMany}
 use Rattle.ps_aiger.specs.Wires.{Wired}
-use Rattle.ps_circuit.proofs.GateLemmas.{extends-trans, passed_on}
+use Rattle.ps_circuit.proofs.GatesAndLinks.GateLemmas.{extends-trans, passed_on}
 use Rattle.ps_aiger.proofs.WiredLemmas.{wired-step, wired-above, wired-end}
 use Rattle.ps_aiger.proofs.encoding.literals_of.Goals as goal
 

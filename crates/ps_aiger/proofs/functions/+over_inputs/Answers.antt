@@ -3,7 +3,7 @@ use Rattle.ps_diagram.specs.Table.{Table}
 use Rattle.ps_diagram.specs.Views.{SeesTest}
 use Rattle.ps_aiger.specs.Inner.Functions.{KnowsMade, literal_at, node_made}
 use Rattle.ps_circuit.specs.Building.{IsHeld}
-use Rattle.ps_circuit.proofs.GateLemmas.{extends-refl, extends-trans}
+use Rattle.ps_circuit.proofs.GatesAndLinks.GateLemmas.{extends-refl, extends-trans}
 use Rattle.ps_aiger.proofs.FunctionLemmas.{constant_held, held_input}
 use Rattle.ps_aiger.proofs.Making.{as-made, by-choice, entry_of, fails, gives, test-chosen, test-split}
 use Rattle.ps_aiger.proofs.OverLemmas.{inputs-extends, made-nothing, made-leaf, made-low}

@@ -2,7 +2,7 @@ use Rattle.std.proofs.Common.{◌∙◌, ◌+◌, ◌-◌, ◌*◌, ap, arith, l
 use Rattle.ps_circuit.specs.Gates.{mux_of}
 use Rattle.ps_machine.specs.Machines.{behaviour}
 use Rattle.ps_aiger.specs.Inner.Functions.{bit_wanted, code_wanted, literal_at}
-use Rattle.ps_circuit.proofs.GateLemmas.{extends-refl, extends-trans}
+use Rattle.ps_circuit.proofs.GatesAndLinks.GateLemmas.{extends-refl, extends-trans}
 use Rattle.ps_aiger.proofs.EncodeLemmas.{few_inputs}
 use Rattle.ps_aiger.proofs.FunctionLemmas.{few_latches, lower_fits, upper_fits}
 use Rattle.ps_aiger.proofs.LetterLemmas.{positive}
