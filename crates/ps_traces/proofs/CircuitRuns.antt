@@ -4,7 +4,7 @@ use Rattle.std.proofs.lemmas.List.{length-map}
 use Rattle.std.proofs.lemmas.List.Elements.{All-head, All-tail}
 use Rattle.ps_circuit.specs.Circuits.{CircuitData}
 use Rattle.ps_circuit.specs.Values.{Moment, GoesOn, HasOneValues, Steps, bit_of, resets}
-use Rattle.ps_simulate.proofs.LassoLemmas.{GoesOn-append}
+use Rattle.ps_simulate.proofs.LapsOfRuns.LassoLemmas.{GoesOn-append}
 use Rattle.ps_traces.specs.Inputs.{inputs_of}
 use Rattle.ps_traces.specs.Shapes.{IsReachedByTrace}
 

@@ -6,8 +6,8 @@ use Rattle.std.proofs.lemmas.List.{length-map, map-append}
 use Rattle.ps_circuit.specs.Circuits.{CircuitData}
 use Rattle.ps_circuit.specs.Values.{Moment, GoesOn, HasOneValues, resets}
 use Rattle.ps_simulate.specs.Lassos.{laps_of}
-use Rattle.ps_simulate.proofs.CountLemmas.{code, code_lt, code_same}
-use Rattle.ps_simulate.proofs.LassoLemmas.{GoesOn-append, length_trace}
+use Rattle.ps_simulate.proofs.LapsOfRuns.CountLemmas.{code, code_lt, code_same}
+use Rattle.ps_simulate.proofs.LapsOfRuns.LassoLemmas.{GoesOn-append, length_trace}
 use Rattle.ps_traces.specs.Inputs.{GoesOnInLasso, EachInputGoesOn, AreInputs, inputs_of}
 use Rattle.ps_traces.proofs.Returns.{come_back, legs}
 use Rattle.ps_traces.proofs.CircuitRuns.{Run, run}

@@ -11,7 +11,7 @@ use Rattle.ps_label.specs.Truth.{is_in}
 use Rattle.ps_diagram.specs.Letters.{letter_of}
 use Rattle.ps_diagram.proofs.Letters.{letter_is, letter_lt, no_bit}
 use Rattle.ps_hoa.specs.Files.{is_among}
-use Rattle.ps_automaton.proofs.Bits.{same_bit}
+use Rattle.ps_automaton.proofs.ChainsOfSets.Bits.{same_bit}
 use Rattle.ps_aiger.specs.Encoded.{letter_over}
 
 -- ## Single bits

@@ -14,8 +14,8 @@ use Rattle.ps_traces.specs.Shapes.{IsInTimeWhereReached, IsReachedByTrace}
 use Rattle.ps_traces.specs.Meetings.{FiniteController, IsController, HasInputWidth, AnswersMoments, GoesJointly}
 use Rattle.ps_traces.specs.Meetings.{IsMeeting}
 use Rattle.ps_traces.specs.Meetings.{MeetsInLasso}
-use Rattle.ps_simulate.proofs.CountLemmas.{code, code_lt, code_same}
-use Rattle.ps_simulate.proofs.LassoLemmas.{GoesOn-append}
+use Rattle.ps_simulate.proofs.LapsOfRuns.CountLemmas.{code, code_lt, code_same}
+use Rattle.ps_simulate.proofs.LapsOfRuns.LassoLemmas.{GoesOn-append}
 use Rattle.ps_traces.proofs.Returns.{come_back, legs, legs_go}
 use Rattle.ps_traces.proofs.CircuitRuns.{next_reached, resets_reached, step}
 

@@ -10,7 +10,7 @@ use Rattle.std.specs.List.{range_with_len}
 use Rattle.std.proofs.Math.Nat.{add-suc}
 use Rattle.std.proofs.lemmas.List.FromFn.{get_or-map-range_with_len, length-map-range_with_len}
 use Rattle.ps_circuit.specs.Values.{Moment}
-use Rattle.ps_game.proofs.Repeats.{repeats}
+use Rattle.ps_game.proofs.PathsAndLoops.Repeats.{repeats}
 
 pub record ComesAgain (f : ℕ → ℕ) : Type 0 where
   pub one : ℕ

@@ -13,7 +13,7 @@ use Rattle.ps_hoa.specs.Sound.{AreNames}
 use Rattle.ps_automaton.specs.Acceptance.{IsAccepted}
 use Rattle.ps_automaton.specs.Autos.{Auto, IsAutoOf, state_behind, state_after, greatest_of_laps}
 use Rattle.ps_automaton.specs.Chains.{Chain, chain_of, is_even}
-use Rattle.ps_automaton.proofs.Accepting.{laps_decide}
+use Rattle.ps_automaton.proofs.AdmittedFiles.Accepting.{laps_decide}
 use Rattle.ps_circuit.specs.Circuits.{CircuitData}
 use Rattle.ps_circuit.specs.Values.{HasOneValues, resets}
 use Rattle.ps_simulate.specs.LassoFaults.{AreWide}
@@ -23,14 +23,14 @@ use Rattle.ps_simulate.specs.Symbols.{AreDistinct, HasSymbols}
 use Rattle.ps_simulate.specs.Words.{TraceWordData}
 use Rattle.ps_simulate.specs.declared.lassos.Verdict.{Verdict}
 use Rattle.ps_simulate.specs.declared.role.Role.{Role}
-use Rattle.ps_simulate.proofs.LassoLemmas.{HasRead-start, HasRead-lap, fewer, repeats}
+use Rattle.ps_simulate.proofs.LapsOfRuns.LassoLemmas.{HasRead-start, HasRead-lap, fewer, repeats}
 use Rattle.ps_simulate.proofs.NamingLemmas.{names_differ}
-use Rattle.ps_simulate.proofs.WordLemmas.{few_in_lap, few_in_stem, some_in_lap, word_is}
+use Rattle.ps_simulate.proofs.LapsOfRuns.WordLemmas.{few_in_lap, few_in_stem, some_in_lap, word_is}
 use Rattle.ps_traces.proofs.StepLetters.{letters_there}
 use Rattle.ps_traces.proofs.Returns.{comes_again}
 use Rattle.ps_traces.proofs.CircuitRuns.{run}
 use Rattle.std.proofs.lemmas.Bool.{cases_lt}
-use Rattle.ps_automaton.proofs.Deciding.{some_or_none}
+use Rattle.ps_automaton.proofs.AdmittedFiles.Deciding.{some_or_none}
 
 -- ## The verdict of an automaton on a lasso
 

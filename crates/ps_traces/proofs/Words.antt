@@ -14,9 +14,11 @@ use Rattle.ps_aiger.specs.Encoded.{Encodes, StepsAs, number_of_bits, memory_of, 
 use Rattle.ps_machine.specs.Behaviours.{Behaviour, IsMachine, IsOutput, IsLasso, LassosWon, Makes}
 use Rattle.ps_simulate.specs.Symbols.{IsSymbol}
 use Rattle.ps_simulate.specs.Lassos.{IsLetterOf, AreLetters, latches_along}
-use Rattle.ps_simulate.proofs.LassoLemmas.{AreLetters-append, GoesOn-append, along_more, at_end, length_letters}
+use Rattle.ps_simulate.proofs.LapsOfRuns.LassoLemmas.{AreLetters-append, GoesOn-append, along_more, at_end}
+use Rattle.ps_simulate.proofs.LapsOfRuns.LassoLemmas.{length_letters}
 use Rattle.ps_traces.specs.Traces.{IsLassoWord, AllAccepted, NoneAccepted}
-use Rattle.ps_traces.proofs.LetterBits.{AreApart, are_apart, few_bits, bit_with, bit_with_at, bit_with_none, in_letter_over}
+use Rattle.ps_traces.proofs.LetterBits.{AreApart, are_apart, few_bits, bit_with, bit_with_at, bit_with_none}
+use Rattle.ps_traces.proofs.LetterBits.{in_letter_over}
 use Rattle.ps_traces.proofs.LetterBits.{in_sum_left, in_sum_right, same_letter, stands_in}
 
 -- ## Traces
