@@ -14,7 +14,7 @@ use Rattle.ps_circuit.specs.Literals.{variable}
 use Rattle.ps_circuit.specs.declared.parts.Gate.{Gate}
 use Rattle.ps_circuit.specs.declared.parts.Latch.{Latch}
 use Rattle.ps_components.specs.Graphs.{last}
-use Rattle.ps_simulate.proofs.PlacesLemmas.{next_known, output_known, sides_known}
+use Rattle.ps_simulate.proofs.EvaluationPlans.PlacesLemmas.{next_known, output_known, sides_known}
 use Rattle.ps_cone.specs.Cones.{reader_of, readers}
 use Rattle.ps_cone.specs.Inner.Cuts.{HasPartsOf, gate_at, keeps_gate, no_gate}
 use Rattle.ps_cone.specs.Inner.Needed.{AreNeeded}

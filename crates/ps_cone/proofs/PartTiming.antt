@@ -5,7 +5,7 @@ use Rattle.std.proofs.lemmas.List.{length-map}
 use Rattle.ps_circuit.specs.declared.parts.Latch.{Latch}
 use Rattle.ps_circuit.specs.Circuits.{CircuitData}
 use Rattle.ps_circuit.specs.Values.{HasOneValues, Moment, Steps, bit_of, resets}
-use Rattle.ps_simulate.proofs.LassoLemmas.{goes_wide}
+use Rattle.ps_simulate.proofs.LapsOfRuns.LassoLemmas.{goes_wide}
 use Rattle.ps_simulate.proofs.UniqueVerdicts.OneTrace.{firsts_agree}
 use Rattle.ps_traces.proofs.CircuitRuns.{Step, step}
 use Rattle.ps_traces.specs.Shapes.{IsReachedByTrace, SeesNoInputWhereReached}

@@ -17,7 +17,7 @@ use Rattle.ps_circuit.specs.Inner.GateGraphs.{AreLinksOf, target_of}
 use Rattle.ps_circuit.specs.Literals.{variable}
 use Rattle.ps_circuit.specs.declared.parts.Gate.{Gate}
 use Rattle.ps_circuit.specs.declared.parts.Latch.{Latch}
-use Rattle.ps_circuit.proofs.LinksLemmas.{links-by_variables}
+use Rattle.ps_circuit.proofs.GatesAndLinks.LinksLemmas.{links-by_variables}
 use Rattle.ps_ids.proofs.IdPlaces.{position_here}
 use Rattle.ps_ids.specs.Ids.{AreDistinct}
 use Rattle.ps_cone.specs.Cones.{reader_of, readers}

@@ -1,7 +1,7 @@
 use Rattle.std.proofs.Common.{◌≡◌, ap, map, ◌∙◌}
 use Rattle.std.proofs.lemmas.Result.{IfOk-weaker}
 use Rattle.ps_circuit.specs.Inner.GateGraphs.{AreLinksOf}
-use Rattle.ps_circuit.proofs.LinksLemmas.{links_within}
+use Rattle.ps_circuit.proofs.GatesAndLinks.LinksLemmas.{links_within}
 use Rattle.ps_cone.specs.Cones.{readers}
 use Rattle.ps_cone.specs.Inner.Needed.{roots_of}
 use Rattle.ps_cone.specs.Inner.Sources.{links_in, sources_of, variables_of}

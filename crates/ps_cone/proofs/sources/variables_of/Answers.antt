@@ -1,5 +1,5 @@
 use Rattle.std.proofs.Common.{arith}
-use Rattle.ps_circuit.proofs.LinksLemmas.{variable_fresh, variables_more}
+use Rattle.ps_circuit.proofs.GatesAndLinks.LinksLemmas.{variable_fresh, variables_more}
 use Rattle.ps_cone.proofs.sources.variables_of.Goals as goal
 
 pub push-requires : goal.push-requires

@@ -1,5 +1,5 @@
 use Rattle.std.proofs.Common.{arith}
-use Rattle.ps_circuit.proofs.LinksLemmas.{side_within}
+use Rattle.ps_circuit.proofs.GatesAndLinks.LinksLemmas.{side_within}
 use Rattle.ps_cone.specs.Inner.Sources.{links_in}
 use Rattle.ps_cone.proofs.SourceLemmas.{second_at, source_at}
 use Rattle.ps_cone.proofs.sources.SourceGraphGraph.target.Goals as goal
