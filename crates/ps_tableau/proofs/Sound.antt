@@ -7,7 +7,7 @@ use Rattle.ps_formula.specs.NormalForms.{NormalFormula, truth, literal, both, ei
 use Rattle.ps_formula.specs.Satisfaction.{Reaches, Satisfies}
 use Rattle.ps_tableau.specs.Covers.{Brings, Cover, Covers, SatisfiesAll}
 use Rattle.ps_tableau.specs.Runs.{IsFairRun, IsPartialTableau, Tableau}
-use Rattle.ps_tableau.proofs.Brought.{brought_covered}
+use Rattle.ps_tableau.proofs.CoversOfSets.Brought.{brought_covered}
 
 reach_now : {A B : ℕ → Type 0} (i : ℕ) → B i → Reaches A B i
 reach_now i here = record { end = i; later = omega arith; there = here; before = λ k low high. absurd (omega arith) }

@@ -30,8 +30,9 @@
 //! Covers of a formula are made from those of its operands, and those of a set, as products, from those of its greatest
 //! formula and those of the set of the others, which are kept. Then they are pruned: a cover loses the letters at which
 //! another asks for no more, covers that ask for the same become one, and an obligation that follows from others at the
-//! next index is dropped. Formulas that the root does not need get no covers. A set with one more formula is found by a
-//! hash table.
+//! next index is dropped. Sketches of covers, bits that contracts do not mention, tell which pairs of covers are worth a
+//! comparison. Formulas that the root does not need get no covers. A set with one more formula, and a cover that asks for
+//! the same, are found by hash tables.
 #![tactic(auto)]
 
 mod board;
@@ -45,8 +46,10 @@ mod pruning;
 mod reduction;
 mod set;
 mod sets;
+mod sketches;
 mod states;
 mod tableau;
+mod words;
 
 pub use edge::Edge;
 pub use set::Set;

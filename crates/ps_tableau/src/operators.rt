@@ -40,7 +40,8 @@ impl Board {
             return Ok(Vec::new(self.alloc));
         }
         let node = self.formulas.as_slice()[index as usize];
-        self.ways_of(index, node, known)
+        let covers = self.ways_of(index, node, known)?;
+        self.reduced(&covers)
     }
 
     /// The covers of a formula, by those of the formulas before it.

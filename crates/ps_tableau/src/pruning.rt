@@ -1,12 +1,15 @@
 //! A cover loses the letters at which another asks for no more.
 
-ghost use Rattle.std.specs.Prelude.{◌≡◌, ◌++◌, ◌∷◌, [], All, IfOk, IsTrue, OnOk, position};
+ghost use Rattle.std.specs.Prelude.{◌≡◌, ◌++◌, ◌∷◌, [], All, IfOk, IfSome, IsTrue, OnOk, slice_get};
 ghost use Rattle.ps_tableau.specs.Boards.{Grows, IsBoard, IsEdgeOf, MakesEdges, cover_of, covers_of};
-ghost use Rattle.ps_tableau.specs.Inner.Pruning.{AddsEdge, AsksLess, Makes, asks_same};
+ghost use Rattle.ps_tableau.specs.Inner.Pruning.{AddsEdge, AsksLess, IsPlaceOfSame, Makes};
 ghost use Rattle.ps_tableau.specs.Operators.{ArePruned};
 
 use crate::board::Board;
 use crate::edge::Edge;
+use crate::set::Set;
+use crate::sketches::{Sketch, Sketches};
+use ps_keys::KeyList;
 use std::alloc::AllocError;
 
 impl Board {
@@ -34,14 +37,21 @@ impl Board {
             united.items) }
     {
         let mut united = Vec::new(self.alloc);
+        let mut keys = KeyList::new(self.alloc);
         for place in (0..edges.len()).rev() {
-            self.unite(edges[place], &mut united)?;
+            self.unite(edges[place], &mut keys, &mut united)?;
         }
         Ok(united)
     }
 
-    /// Adds a cover to a list, or unites it with one that asks for the same.
-    fn unite(&mut self, edge: Edge, united: &mut Vec<Edge>) -> Result<(), AllocError>
+    /// Adds a cover to a list, or unites it with one that asks for the same. `keys` has the sets of each cover of the
+    /// list, by which that one is found.
+    fn unite(
+        &mut self,
+        edge: Edge,
+        keys: &mut KeyList<(Set, Set)>,
+        united: &mut Vec<Edge>,
+    ) -> Result<(), AllocError>
         requires board { IsBoard self.old }
         requires edge { IsEdgeOf self.old edge }
         requires united { All (IsEdgeOf self.old) united.old.items }
@@ -49,7 +59,8 @@ impl Board {
         ensures united { OnOk result (MakesEdges self.new
             (ArePruned (covers_of self.old united.old.items ++ cover_of self.old edge ∷ [])) united.new.items) }
     {
-        if let Some(place) = place_of_same(edge, united) {
+        let place = keys.place_of((edge.next, edge.postponed))?;
+        if let Some(place) = place_of_same(edge, united, place) {
             united[place] = self.united(united[place], edge)?;
             return Ok(());
         }
@@ -66,15 +77,23 @@ impl Board {
             pruned.items) }
     {
         let mut kept = Vec::new(self.alloc);
+        let mut sketches = Sketches::new(self.alloc);
         for edge in edges {
-            let left = self.left_beside(*edge, &kept)?;
-            self.add_edge(left, &mut kept)?;
+            let sketch = self.sketch(*edge);
+            let places = sketches.places(sketch)?;
+            let left = self.left_beside(*edge, &kept, &places)?;
+            self.add_edge(left, sketch, &mut kept, &mut sketches)?;
         }
         Ok(kept)
     }
 
-    /// What is left of a cover beside others.
-    fn left_beside(&mut self, edge: Edge, others: &[Edge]) -> Result<Edge, AllocError>
+    /// What is left of a cover beside those of others that have the given places.
+    fn left_beside(
+        &mut self,
+        edge: Edge,
+        others: &[Edge],
+        places: &[usize],
+    ) -> Result<Edge, AllocError>
         requires board { IsBoard self.old }
         requires edge { IsEdgeOf self.old edge }
         requires others { All (IsEdgeOf self.old) others.now }
@@ -84,10 +103,26 @@ impl Board {
             (covers_of self.old others.now ++ c ∷ []))) }
     {
         let mut left = edge;
-        for other in others {
-            left = self.left_of(&left, other)?;
+        for place in places {
+            left = self.left_at(left, others, *place)?;
         }
         Ok(left)
+    }
+
+    /// What is left of a cover beside the one at a place of a list, if the list is that long.
+    fn left_at(&mut self, edge: Edge, others: &[Edge], place: usize) -> Result<Edge, AllocError>
+        requires board { IsBoard self.old }
+        requires edge { IsEdgeOf self.old edge }
+        requires others { All (IsEdgeOf self.old) others.now }
+        ensures grows { Grows self.old self.new }
+        ensures left { IfOk result (Makes self.new (λ c. ArePruned
+            (covers_of self.old others.now ++ cover_of self.old edge ∷ [])
+            (covers_of self.old others.now ++ c ∷ []))) }
+    {
+        if let Some(other) = cover_at(others, place) {
+            return self.left_of(&edge, &other);
+        }
+        Ok(edge)
     }
 
     /// What is left of a cover beside another: if that asks for no more, its letters are taken away.
@@ -105,8 +140,14 @@ impl Board {
         Ok(*edge)
     }
 
-    /// Adds a cover, unless it serves at no letter.
-    fn add_edge(&mut self, edge: Edge, kept: &mut Vec<Edge>) -> Result<(), AllocError>
+    /// Adds a cover and its sketch, unless it serves at no letter.
+    fn add_edge(
+        &mut self,
+        edge: Edge,
+        sketch: Sketch,
+        kept: &mut Vec<Edge>,
+        sketches: &mut Sketches,
+    ) -> Result<(), AllocError>
         requires board { IsBoard self.old }
         requires edge { IsEdgeOf self.old edge }
         ensures grows { Grows self.old self.new }
@@ -116,6 +157,7 @@ impl Board {
         if edge.guard == none {
             return Ok(());
         }
+        sketches.add(sketch)?;
         kept.push(edge)?;
         Ok(())
     }
@@ -162,9 +204,20 @@ impl Board {
     }
 }
 
-/// The place of the first cover of a list that asks for the same as another.
-fn place_of_same(edge: Edge, covers: &[Edge]) -> Option<usize>
-    ensures { result ≡ position (asks_same edge) covers.now }
+/// The place, if the cover there asks for the same as another.
+fn place_of_same(edge: Edge, covers: &[Edge], place: usize) -> Option<usize>
+    ensures { IfSome result (IsPlaceOfSame edge covers.now) }
 {
-    covers.iter().position(|other| other.next == edge.next && other.postponed == edge.postponed)
+    let other = cover_at(covers, place)?;
+    if other.next == edge.next && other.postponed == edge.postponed {
+        Some(place)
+    } else {
+        None
+    }
+}
+
+fn cover_at(covers: &[Edge], place: usize) -> Option<Edge>
+    ensures { result ≡ slice_get covers.now place }
+{
+    covers.get(place).copied()
 }

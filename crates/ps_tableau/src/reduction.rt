@@ -46,7 +46,22 @@ impl Board {
         })
     }
 
+    /// A set without the formulas that its others bring back. It is marked, so that it is found to be reduced.
     fn reduced_set(&mut self, set: Set) -> Result<Set, AllocError>
+        requires board { IsBoard self.old }
+        requires set { IsState self.old set }
+        ensures grows { Grows self.old self.new }
+        ensures reduced { IfOk result (IsReduced self.old set self.new) }
+    {
+        if self.sets.is_marked(set) {
+            return Ok(set);
+        }
+        let reduced = self.reduced_anew(set)?;
+        self.sets.mark(reduced);
+        Ok(reduced)
+    }
+
+    fn reduced_anew(&mut self, set: Set) -> Result<Set, AllocError>
         requires board { IsBoard self.old }
         requires set { IsState self.old set }
         ensures grows { Grows self.old self.new }

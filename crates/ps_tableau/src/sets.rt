@@ -6,6 +6,7 @@ ghost use Rattle.ps_tableau.specs.Inner.SetSteps.{IsWithin, MakesSet};
 ghost use Rattle.ps_tableau.specs.Sets.{AreSets, KeepsSets, IsSet, indices_in};
 
 use crate::set::Set;
+use crate::words::Words;
 use ps_keys::KeyList;
 use std::alloc::{AllocError, Global};
 use std::marker::Model;
@@ -15,8 +16,7 @@ use std::marker::Model;
 #[derive(Debug, Drop)]
 pub(crate) struct Sets {
     pairs: KeyList<(u32, Set)>,
-    /// For each pair, a word with a bit for each formula of its set; formulas may share a bit.
-    words: Vec<u64>,
+    words: Words,
     alloc: Global,
 }
 
@@ -62,7 +62,7 @@ impl Sets {
     {
         Sets {
             pairs: KeyList::new(alloc),
-            words: Vec::new(alloc),
+            words: Words::new(alloc),
             alloc,
         }
     }
@@ -91,10 +91,9 @@ impl Sets {
         ensures sets { AreSets self.new }
         ensures set { IfOk result (MakesSet self.new (λ is. is ≡ index ∷ indices_in self.old rest)) }
     {
-        let word = self.word(rest) | 1 << (index % 64);
         let place = self.pairs.place_of((index, rest))?;
         let _ = self.pairs.len();
-        add_word(&mut self.words, place, word)?;
+        self.words.add(place, index, rest)?;
         Ok(Set {
             number: place as u32 + 1,
         })
@@ -162,14 +161,22 @@ impl Sets {
         Ok(set)
     }
 
-    /// The word of a set. It has each bit if memory ran out when it was to be added.
-    fn word(&self, set: Set) -> u64 {
+    /// A word with a bit for each formula of a set; formulas may share a bit.
+    pub(crate) fn word(&self, set: Set) -> u64 {
         let _ = &self.pairs;
-        if set == Set::EMPTY {
-            return 0;
-        }
-        let place = set.number as usize - 1;
-        self.words.get(place).copied().unwrap_or(u64::MAX)
+        self.words.of(set)
+    }
+
+    pub(crate) fn is_marked(&self, set: Set) -> bool {
+        let _ = &self.pairs;
+        self.words.is_marked(set)
+    }
+
+    pub(crate) fn mark(&mut self, set: Set)
+        ensures { self.new ≡ self.old }
+    {
+        let _ = &self.pairs;
+        self.words.mark(set);
     }
 
     /// Whether each formula of a set is in another.
@@ -228,12 +235,4 @@ impl Sets {
         }
         Ok(members)
     }
-}
-
-/// Adds the word of the set at a place, if it is new.
-fn add_word(words: &mut Vec<u64>, place: usize, word: u64) -> Result<(), AllocError> {
-    if place == words.len() {
-        words.push(word)?;
-    }
-    Ok(())
 }

@@ -1,5 +1,5 @@
 -- Covers that lose letters for which others ask for no more.
-use Rattle.std.specs.Prelude.{◌≡◌, ◌&&◌, All, Bool, Contains, List, [], ◌∷◌, ◌++◌, nat_eq}
+use Rattle.std.specs.Prelude.{◌≡◌, ℕ, All, Contains, List, [], ◌∷◌, ◌++◌, Some, slice_get}
 use Rattle.ps_formula.specs.NormalForms.{NormalFormula}
 use Rattle.ps_tableau.specs.Boards.{IsEdgeOf, cover_of, covers_of}
 use Rattle.ps_tableau.specs.Covers.{Cover}
@@ -12,9 +12,12 @@ pub record AsksLess (less more : Cover) : Type 0 where
   pub next : (f : NormalFormula) → Contains less.next f → Contains more.next f
   pub postponed : (f : NormalFormula) → Contains less.postponed f → Contains more.postponed f
 
--- both edges have the same sets
-abbrev pub asks_same : Edge → Edge → Bool
-asks_same a b = nat_eq b.next a.next && nat_eq b.postponed a.postponed
+-- the edge at the place has the same sets as another
+pub record IsPlaceOfSame (edge : Edge) (covers : List Edge) (place : ℕ) : Type 0 where
+  pub other : Edge
+  pub there : slice_get covers place ≡ Some other
+  pub next : other.next ≡ edge.next
+  pub postponed : other.postponed ≡ edge.postponed
 
 -- an edge whose cover has a property
 pub record Makes (b : Board) (P : Cover → Type 0) (e : Edge) : Type 0 where

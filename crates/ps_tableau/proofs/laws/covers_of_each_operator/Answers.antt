@@ -1,4 +1,5 @@
-use Rattle.ps_tableau.proofs.Ways.{of_and, of_false, of_literal, of_next, of_or, of_release, of_true, of_until}
+use Rattle.ps_tableau.proofs.CoversOfSets.Ways.{of_and, of_false, of_literal, of_next, of_or, of_release, of_true}
+use Rattle.ps_tableau.proofs.CoversOfSets.Ways.{of_until}
 use Rattle.ps_tableau.proofs.laws.covers_of_each_operator.Goals as goal
 
 pub returns-clause-of_true : goal.returns-clause-of_true

@@ -1,4 +1,4 @@
-use Rattle.ps_tableau.proofs.Ways.{of_more, of_none}
+use Rattle.ps_tableau.proofs.CoversOfSets.Ways.{of_more, of_none}
 use Rattle.ps_tableau.proofs.laws.covers_of_more_obligations.Goals as goal
 
 pub returns-clause-none : goal.returns-clause-none

@@ -1,4 +1,4 @@
-use Rattle.ps_tableau.proofs.WrongCovers.{end_alone_is_not_usable, unmarked_is_not_enough}
+use Rattle.ps_tableau.proofs.CoversOfSets.WrongCovers.{end_alone_is_not_usable, unmarked_is_not_enough}
 use Rattle.ps_tableau.proofs.laws.wrong_covers_are_none.Goals as goal
 
 pub returns-clause-postponing : goal.returns-clause-postponing

@@ -3,7 +3,7 @@ use Rattle.std.proofs.Math.Nat.{eq-or-lt_of_le}
 use Rattle.std.proofs.lemmas.Option.{get_or_from_slice_get, slice_get-get_or}
 use Rattle.ps_formula.specs.declared.normal_node.NormalNode.{NormalNode}
 use Rattle.ps_formula.specs.declared.normal_node.NormalNode.TheVariants.{Constant}
-use Rattle.ps_tableau.proofs.NeedLemmas.{needs_more, over_more}
+use Rattle.ps_tableau.proofs.CoversOfSets.NeedLemmas.{needs_more, over_more}
 use Rattle.ps_tableau.specs.Needs.{IsNeeded, NeedsOperands}
 use Rattle.ps_tableau.proofs.needs.needs_of.Goals as goal
 

@@ -5,9 +5,9 @@ use Rattle.std.proofs.lemmas.List.Elements.{All-cons, All-nil}
 use Rattle.std.specs.Prelude.{IsTrue, is_some}
 use Rattle.ps_diagram.specs.Table.{leaf_of}
 use Rattle.ps_tableau.proofs.BoardLemmas.{cover_kept, edge_kept, grows_guards}
-use Rattle.ps_tableau.proofs.Products.{pruned_refl}
-use Rattle.ps_tableau.proofs.PruneLemmas.{pruned_none}
-use Rattle.ps_tableau.proofs.CoverRows.{kept_leaf}
+use Rattle.ps_tableau.proofs.CoversOfSets.Products.{pruned_refl}
+use Rattle.ps_tableau.proofs.CoversOfSets.PruneLemmas.{pruned_none}
+use Rattle.ps_tableau.proofs.CoversOfSets.CoverRows.{kept_leaf}
 use Rattle.ps_tableau.specs.Boards.{IsEdgeOf, cover_of}
 use Rattle.ps_tableau.specs.Covers.{Cover}
 use Rattle.ps_tableau.specs.Operators.{ArePruned}

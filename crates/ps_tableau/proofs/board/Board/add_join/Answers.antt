@@ -4,9 +4,9 @@ use Rattle.std.proofs.lemmas.List.{append-nil}
 use Rattle.std.proofs.lemmas.List.Elements.{All-cons, All-nil}
 use Rattle.std.specs.Prelude.{is_some}
 use Rattle.ps_diagram.specs.Table.{leaf_of}
-use Rattle.ps_tableau.proofs.JoinLemmas.{none_both, some_both}
-use Rattle.ps_tableau.proofs.Products.{no_join, one_join}
-use Rattle.ps_tableau.proofs.CoverRows.{guard_both, kept_leaf}
+use Rattle.ps_tableau.proofs.CoversOfSets.JoinLemmas.{none_both, some_both}
+use Rattle.ps_tableau.proofs.CoversOfSets.Products.{no_join, one_join}
+use Rattle.ps_tableau.proofs.CoversOfSets.CoverRows.{guard_both, kept_leaf}
 use Rattle.ps_tableau.specs.Boards.{IsEdgeOf}
 use Rattle.ps_tableau.proofs.board.Board.add_join.Goals as goal
 

@@ -1,7 +1,7 @@
 use Rattle.std.proofs.Common.{◌≡◌, ◌∙◌, ◌+◌, ◌++◌, ◌∷◌, [], List, ap, sym, subst, take}
 use Rattle.std.proofs.lemmas.List.{take_more}
 use Rattle.ps_tableau.proofs.BoardLemmas.{edge_kept, grows_trans}
-use Rattle.ps_tableau.proofs.CoverRows.{item_held, row_more}
+use Rattle.ps_tableau.proofs.CoversOfSets.CoverRows.{item_held, row_more}
 use Rattle.ps_tableau.specs.Boards.{IsEdgeOf}
 use Rattle.ps_tableau.specs.Inner.Joins.{AddsRow}
 use Rattle.ps_tableau.specs.declared.edge.Edge.{Edge}

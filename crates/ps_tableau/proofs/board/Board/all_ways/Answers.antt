@@ -1,7 +1,7 @@
 use Rattle.std.proofs.Common.{◌∙◌, ◌+◌, ◌∷◌, [], ap, length, length-append, subst, sym}
 use Rattle.ps_formula.specs.NormalForms.{normal_formula_at}
 use Rattle.ps_tableau.proofs.BoardLemmas.{grows_trans}
-use Rattle.ps_tableau.proofs.WayLemmas.{ways_more}
+use Rattle.ps_tableau.proofs.CoversOfSets.WayLemmas.{ways_more}
 use Rattle.ps_tableau.specs.Boards.{HasCovers}
 use Rattle.ps_tableau.specs.Needs.{IsNeeded}
 use Rattle.ps_tableau.proofs.board.Board.all_ways.Goals as goal

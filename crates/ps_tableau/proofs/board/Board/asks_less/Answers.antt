@@ -1,5 +1,5 @@
 use Rattle.ps_formula.specs.NormalForms.{normal_formula_at}
-use Rattle.ps_tableau.proofs.JoinLemmas.{map_within}
+use Rattle.ps_tableau.proofs.CoversOfSets.JoinLemmas.{map_within}
 use Rattle.ps_tableau.specs.Sets.{indices_in}
 use Rattle.ps_tableau.proofs.board.Board.asks_less.Goals as goal
 

@@ -1,5 +1,5 @@
 use Rattle.std.proofs.Common.{arith}
-use Rattle.ps_tableau.proofs.ReduceLemmas.{step_up}
+use Rattle.ps_tableau.proofs.CoversOfSets.ReduceLemmas.{step_up}
 use Rattle.ps_tableau.specs.Inner.Reduction.{IsFormulaAt}
 use Rattle.ps_tableau.proofs.board.Board.brings.Goals as goal
 

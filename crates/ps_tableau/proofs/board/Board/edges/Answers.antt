@@ -4,8 +4,8 @@ use Rattle.std.proofs.lemmas.Result.{IfOk-weaker}
 use Rattle.ps_formula.specs.NormalForms.{NormalFormula, normal_formula_at}
 use Rattle.ps_formula.specs.declared.normal_node.NormalNode.{NormalNode}
 use Rattle.ps_tableau.proofs.BoardLemmas.{grows_trans}
-use Rattle.ps_tableau.proofs.KnownLemmas.{covers_at, drop_one, place_within}
-use Rattle.ps_tableau.proofs.WayLemmas.{right_kept}
+use Rattle.ps_tableau.proofs.CoversOfSets.KnownLemmas.{covers_at, drop_one, place_within}
+use Rattle.ps_tableau.proofs.CoversOfSets.WayLemmas.{right_kept}
 use Rattle.ps_tableau.specs.Boards.{HasCovers, formulas_in}
 use Rattle.ps_tableau.specs.Inner.Joins.{IsPlaceOf}
 use Rattle.ps_tableau.specs.Sets.{indices_in}

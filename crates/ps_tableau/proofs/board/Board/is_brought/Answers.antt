@@ -1,6 +1,6 @@
 use Rattle.std.proofs.lemmas.List.Elements.{Contains-get_or}
 use Rattle.ps_formula.specs.NormalForms.{normal_formula_at}
-use Rattle.ps_tableau.proofs.ReduceLemmas.{from_one}
+use Rattle.ps_tableau.proofs.CoversOfSets.ReduceLemmas.{from_one}
 use Rattle.ps_tableau.proofs.board.Board.is_brought.Goals as goal
 
 pub brings-requires-clause-from : goal.brings-requires-clause-from

@@ -1,6 +1,6 @@
 use Rattle.std.proofs.Common.{refl}
 use Rattle.ps_formula.specs.NormalForms.{normal_formula_at}
-use Rattle.ps_tableau.proofs.JoinLemmas.{map_union, union_all, union_earlier, union_later}
+use Rattle.ps_tableau.proofs.CoversOfSets.JoinLemmas.{map_union, union_all, union_earlier, union_later}
 use Rattle.ps_tableau.proofs.board.Board.join_with.Goals as goal
 
 pub returns-clause-join : goal.returns-clause-join

@@ -1,7 +1,7 @@
 use Rattle.std.proofs.Common.{List, arith, subst}
 use Rattle.std.proofs.lemmas.Result.{IfOk-weaker}
-use Rattle.ps_tableau.proofs.OperatorLemmas.{covers_of_all}
-use Rattle.ps_tableau.proofs.WayLemmas.{needed_within}
+use Rattle.ps_tableau.proofs.CoversOfSets.OperatorLemmas.{covers_of_all}
+use Rattle.ps_tableau.proofs.CoversOfSets.WayLemmas.{needed_within}
 use Rattle.ps_tableau.specs.Boards.{covers_of}
 use Rattle.ps_tableau.specs.Operators.{ArePruned}
 use Rattle.ps_tableau.specs.declared.edge.Edge.{Edge}

@@ -2,7 +2,7 @@ use Rattle.std.proofs.Common.{List, inl, refl, subst, sym, ℕ, ◌∷◌, []}
 use Rattle.std.proofs.lemmas.List.Elements.{Contains-append_left, Contains-push, Contains-push_cases}
 use Rattle.std.specs.List.{Contains}
 use Rattle.ps_formula.specs.NormalForms.{normal_formula_at}
-use Rattle.ps_tableau.proofs.ReduceLemmas.{kept_brings, rest_brings}
+use Rattle.ps_tableau.proofs.CoversOfSets.ReduceLemmas.{kept_brings, rest_brings}
 use Rattle.ps_tableau.specs.Covers.{Brings, of_known}
 use Rattle.ps_tableau.specs.Inner.Reduction.{IsOneOf, KeepsOrBrings}
 use Rattle.ps_tableau.proofs.board.Board.keep.Goals as goal

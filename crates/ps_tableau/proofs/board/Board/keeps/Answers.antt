@@ -1,5 +1,5 @@
 use Rattle.std.proofs.Common.{arith, refl}
-use Rattle.ps_tableau.proofs.ReduceLemmas.{step_down}
+use Rattle.ps_tableau.proofs.CoversOfSets.ReduceLemmas.{step_down}
 use Rattle.ps_tableau.specs.Covers.{of_known}
 use Rattle.ps_tableau.specs.Inner.Reduction.{IsFormulaAt}
 use Rattle.ps_tableau.proofs.board.Board.keeps.Goals as goal

@@ -1,5 +1,5 @@
 use Rattle.std.proofs.Common.{[], ◌∷◌}
-use Rattle.ps_tableau.proofs.Products.{pruned_refl}
+use Rattle.ps_tableau.proofs.CoversOfSets.Products.{pruned_refl}
 use Rattle.ps_tableau.specs.Boards.{cover_of}
 use Rattle.ps_tableau.proofs.board.Board.left_of.Goals as goal
 

@@ -1,8 +1,8 @@
 use Rattle.std.proofs.Common.{ℕ, Option, inl, inr, subst, sym}
 use Rattle.std.specs.Prelude.{IsTrue, is_some}
 use Rattle.ps_diagram.specs.Table.{leaf_of}
-use Rattle.ps_tableau.proofs.PruneLemmas.{less_guard, less_or, pruned_two}
-use Rattle.ps_tableau.proofs.CoverRows.{guard_less}
+use Rattle.ps_tableau.proofs.CoversOfSets.PruneLemmas.{less_guard, less_or, pruned_two}
+use Rattle.ps_tableau.proofs.CoversOfSets.CoverRows.{guard_less}
 use Rattle.ps_tableau.specs.Boards.{cover_of}
 use Rattle.ps_tableau.proofs.board.Board.lessened.Goals as goal
 

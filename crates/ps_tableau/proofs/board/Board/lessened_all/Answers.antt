@@ -1,14 +1,18 @@
 use Rattle.std.proofs.Common.{◌≡◌, ◌∙◌, ◌+◌, ◌++◌, ◌∷◌, [], List, ap, subst, sym, take}
 use Rattle.std.proofs.lemmas.List.{take_more}
 use Rattle.ps_tableau.proofs.BoardLemmas.{edge_kept, grows_trans}
-use Rattle.ps_tableau.proofs.PruneSteps.{left_added, pushed_edge}
-use Rattle.ps_tableau.proofs.CoverRows.{item_held}
+use Rattle.ps_tableau.proofs.CoversOfSets.PruneSteps.{left_added, pushed_edge}
+use Rattle.ps_tableau.proofs.CoversOfSets.CoverRows.{item_held}
 use Rattle.ps_tableau.specs.Boards.{IsEdgeOf, MakesEdges, cover_of, covers_of}
 use Rattle.ps_tableau.specs.Covers.{Cover}
 use Rattle.ps_tableau.specs.Inner.Pruning.{Makes}
 use Rattle.ps_tableau.specs.Operators.{ArePruned}
 use Rattle.ps_tableau.specs.declared.edge.Edge.{Edge}
 use Rattle.ps_tableau.proofs.board.Board.lessened_all.Goals as goal
+
+pub sketch-sketch-requires : goal.sketch-sketch-requires
+sketch-sketch-requires c = (edge_kept c.loop-edge.invariant.grows (item_held (IsEdgeOf c.args.self.now)
+    c.args.edges.now c.loop-edge.edge-index c.edge-item.result c.requires.edges c.loop-edge-test.true c.edge-item.is)).guard
 
 pub left_beside-requires-clause-edge : goal.left_beside-requires-clause-edge
 left_beside-requires-clause-edge c = edge_kept c.loop-edge.invariant.grows (item_held (IsEdgeOf c.args.self.now)

@@ -1,9 +1,9 @@
 use Rattle.std.proofs.Common.{List, [], arith, refl, subst, sym}
 use Rattle.std.proofs.lemmas.Bool.{eqb-true}
 use Rattle.std.proofs.lemmas.Result.{IfOk-weaker}
-use Rattle.ps_tableau.proofs.CoverRows.{one_edge}
-use Rattle.ps_tableau.proofs.KnownLemmas.{found_at, known_kept}
-use Rattle.ps_tableau.proofs.Ways.{of_none}
+use Rattle.ps_tableau.proofs.CoversOfSets.CoverRows.{one_edge}
+use Rattle.ps_tableau.proofs.CoversOfSets.KnownLemmas.{found_at, known_kept}
+use Rattle.ps_tableau.proofs.CoversOfSets.Ways.{of_none}
 use Rattle.ps_tableau.specs.Boards.{HasCovers}
 use Rattle.ps_tableau.specs.Covers.{AreCoversOf}
 use Rattle.ps_tableau.specs.declared.edge.Edge.{Edge}

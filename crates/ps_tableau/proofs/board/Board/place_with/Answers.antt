@@ -5,8 +5,8 @@ use Rattle.std.proofs.lemmas.Result.{IfOk-weaker}
 use Rattle.std.specs.List.{slice_get}
 use Rattle.ps_formula.specs.NormalForms.{NormalFormula, normal_formula_at}
 use Rattle.ps_tableau.proofs.BoardLemmas.{formulas_kept, grows_sets, grows_trans}
-use Rattle.ps_tableau.proofs.KnownLemmas.{covers_at, found_at, known_kept, place_kept}
-use Rattle.ps_tableau.proofs.WayLemmas.{right_kept}
+use Rattle.ps_tableau.proofs.CoversOfSets.KnownLemmas.{covers_at, found_at, known_kept, place_kept}
+use Rattle.ps_tableau.proofs.CoversOfSets.WayLemmas.{right_kept}
 use Rattle.ps_tableau.specs.Boards.{Grows, HasCovers, formulas_in}
 use Rattle.ps_tableau.specs.Inner.Joins.{IsPlaceOf}
 use Rattle.ps_tableau.specs.Sets.{indices_in}

@@ -1,7 +1,7 @@
 use Rattle.std.proofs.Common.{◌≡◌, ◌∙◌, ◌+◌, ◌++◌, ◌∷◌, [], List, ap, sym, subst, take}
 use Rattle.std.proofs.lemmas.List.{take_more}
 use Rattle.ps_tableau.proofs.BoardLemmas.{edge_kept, grows_trans}
-use Rattle.ps_tableau.proofs.CoverRows.{edges_kept, item_held, rows_more}
+use Rattle.ps_tableau.proofs.CoversOfSets.CoverRows.{edges_kept, item_held, rows_more}
 use Rattle.ps_tableau.specs.Boards.{IsEdgeOf, MakesEdges, covers_of}
 use Rattle.ps_tableau.specs.Operators.{AreProducts}
 use Rattle.ps_tableau.specs.declared.edge.Edge.{Edge}

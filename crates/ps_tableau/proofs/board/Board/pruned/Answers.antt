@@ -1,6 +1,6 @@
 use Rattle.std.proofs.Common.{◌∙◌, List, subst}
 use Rattle.std.proofs.lemmas.Result.{IfOk-weaker}
-use Rattle.ps_tableau.proofs.PruneSteps.{pruned_thrice}
+use Rattle.ps_tableau.proofs.CoversOfSets.PruneSteps.{pruned_thrice}
 use Rattle.ps_tableau.specs.Boards.{MakesEdges, covers_of}
 use Rattle.ps_tableau.specs.Operators.{ArePruned}
 use Rattle.ps_tableau.specs.declared.edge.Edge.{Edge}

@@ -2,10 +2,10 @@ use Rattle.std.proofs.Common.{◌≡◌, ◌∙◌, ◌+◌, ◌++◌, ◌∷◌
 use Rattle.std.proofs.lemmas.List.{take_all, take_more}
 use Rattle.std.proofs.lemmas.Result.{IfOk-weaker}
 use Rattle.ps_tableau.proofs.BoardLemmas.{edge_kept, grows_trans}
-use Rattle.ps_tableau.proofs.CoverRows.{edges_kept, item_held}
-use Rattle.ps_tableau.proofs.PruneLemmas.{pruned_trans}
-use Rattle.ps_tableau.proofs.PruneSteps.{united_end}
-use Rattle.ps_tableau.proofs.ReduceLemmas.{reduced_edge_more}
+use Rattle.ps_tableau.proofs.CoversOfSets.CoverRows.{edges_kept, item_held}
+use Rattle.ps_tableau.proofs.CoversOfSets.PruneLemmas.{pruned_trans}
+use Rattle.ps_tableau.proofs.CoversOfSets.PruneSteps.{united_end}
+use Rattle.ps_tableau.proofs.CoversOfSets.ReduceLemmas.{reduced_edge_more}
 use Rattle.ps_tableau.specs.Boards.{IsEdgeOf, MakesEdges, covers_of}
 use Rattle.ps_tableau.specs.Operators.{ArePruned}
 use Rattle.ps_tableau.specs.declared.edge.Edge.{Edge}

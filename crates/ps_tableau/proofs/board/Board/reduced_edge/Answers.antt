@@ -1,8 +1,8 @@
 use Rattle.std.proofs.Common.{ℕ, Option, subst, sym}
 use Rattle.std.specs.Prelude.{IsTrue, is_some}
 use Rattle.ps_tableau.proofs.BoardLemmas.{formulas_kept, set_kept}
-use Rattle.ps_tableau.proofs.CoverRows.{kept_leaf}
-use Rattle.ps_tableau.proofs.ReduceLemmas.{pruned_reduced, reduced_fewer}
+use Rattle.ps_tableau.proofs.CoversOfSets.CoverRows.{kept_leaf}
+use Rattle.ps_tableau.proofs.CoversOfSets.ReduceLemmas.{pruned_reduced, reduced_fewer}
 use Rattle.ps_tableau.specs.Boards.{cover_of}
 use Rattle.ps_tableau.proofs.board.Board.reduced_edge.Goals as goal
 

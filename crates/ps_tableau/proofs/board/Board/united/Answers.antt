@@ -2,7 +2,7 @@ use Rattle.std.proofs.Common.{ℕ, Option, subst, sym}
 use Rattle.std.specs.List.{Contains}
 use Rattle.std.specs.Prelude.{IsTrue, is_some}
 use Rattle.ps_diagram.specs.Table.{leaf_of}
-use Rattle.ps_tableau.proofs.PruneLemmas.{first_guard, one_guard, pruned_one, second_guard}
+use Rattle.ps_tableau.proofs.CoversOfSets.PruneLemmas.{first_guard, one_guard, pruned_one, second_guard}
 use Rattle.ps_tableau.specs.Boards.{cover_of, formulas_in}
 use Rattle.ps_tableau.proofs.board.Board.united.Goals as goal
 

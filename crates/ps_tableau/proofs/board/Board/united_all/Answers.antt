@@ -1,8 +1,8 @@
 use Rattle.std.proofs.Common.{◌≡◌, ◌∙◌, ◌+◌, ◌-◌, ◌<◌, ◌∷◌, List, ap, arith, drop, length, subst, sym}
 use Rattle.std.proofs.lemmas.List.{drop_more}
 use Rattle.ps_tableau.proofs.BoardLemmas.{edge_kept, grows_trans}
-use Rattle.ps_tableau.proofs.CoverRows.{item_held}
-use Rattle.ps_tableau.proofs.PruneSteps.{pushed_front}
+use Rattle.ps_tableau.proofs.CoversOfSets.CoverRows.{item_held}
+use Rattle.ps_tableau.proofs.CoversOfSets.PruneSteps.{pushed_front}
 use Rattle.ps_tableau.specs.Boards.{IsEdgeOf, MakesEdges, covers_of}
 use Rattle.ps_tableau.specs.Operators.{ArePruned}
 use Rattle.ps_tableau.specs.declared.edge.Edge.{Edge}
@@ -40,3 +40,9 @@ loop-place-preserved c =
           (sym longer)
           (pushed_front (drop (place + 1) edges) v.grows held before c.in_ok-unite.ensures.united);
     }
+
+pub returns-clause-united : goal.returns-clause-united
+returns-clause-united c =
+    let end : c.loop-place.place ≡ 0 = omega arith in
+    subst (λ n. MakesEdges c.loop-place.self (ArePruned (covers_of c.args.self.now (drop n c.args.edges.now)))
+    c.loop-place.united.items) end c.loop-place.invariant.united

@@ -1,6 +1,6 @@
 use Rattle.std.proofs.Common.{List, ◌∷◌, [], sym, subst}
 use Rattle.ps_formula.specs.NormalForms.{normal_formula_at}
-use Rattle.ps_tableau.proofs.WayLemmas.{ways_there}
+use Rattle.ps_tableau.proofs.CoversOfSets.WayLemmas.{ways_there}
 use Rattle.ps_tableau.specs.Boards.{HasCovers}
 use Rattle.ps_tableau.specs.declared.edge.Edge.{Edge}
 use Rattle.ps_tableau.proofs.board.Board.ways_at.Goals as goal

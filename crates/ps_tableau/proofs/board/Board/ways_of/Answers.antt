@@ -3,8 +3,8 @@ use Rattle.std.proofs.lemmas.Result.{IfOk-weaker}
 use Rattle.ps_formula.specs.NormalForms.{NormalFormula, normal_formula_at}
 use Rattle.ps_formula.specs.declared.normal_node.NormalNode.TheVariants.{Constant, Proposition, Negated, And, Or, Next}
 use Rattle.ps_formula.specs.declared.normal_node.NormalNode.TheVariants.{Until, Release}
-use Rattle.ps_tableau.proofs.OperatorLemmas.{covers_of_and, covers_of_or}
-use Rattle.ps_tableau.proofs.WayLemmas.{covers_by, formula_node, operands_known, operands_needed}
+use Rattle.ps_tableau.proofs.CoversOfSets.OperatorLemmas.{covers_of_and, covers_of_or}
+use Rattle.ps_tableau.proofs.CoversOfSets.WayLemmas.{covers_by, formula_node, operands_known, operands_needed}
 use Rattle.ps_tableau.specs.Boards.{HasCovers}
 use Rattle.ps_tableau.proofs.board.Board.ways_of.Goals as goal
 

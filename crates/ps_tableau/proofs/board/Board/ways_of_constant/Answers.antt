@@ -2,8 +2,8 @@ use Rattle.std.proofs.Common.{◌≡◌, ◌∷◌, Bool, false, true, List, [],
 use Rattle.std.proofs.lemmas.List.Elements.{All-nil}
 use Rattle.std.proofs.lemmas.Result.{IfOk-weaker}
 use Rattle.ps_formula.specs.NormalForms.{truth}
-use Rattle.ps_tableau.proofs.CoverRows.{one_edge}
-use Rattle.ps_tableau.proofs.Ways.{of_false, of_true}
+use Rattle.ps_tableau.proofs.CoversOfSets.CoverRows.{one_edge}
+use Rattle.ps_tableau.proofs.CoversOfSets.Ways.{of_false, of_true}
 use Rattle.ps_tableau.specs.Boards.{HasCovers, IsEdgeOf}
 use Rattle.ps_tableau.specs.Covers.{AreCoversOf}
 use Rattle.ps_tableau.specs.declared.edge.Edge.{Edge}

@@ -1,8 +1,8 @@
 use Rattle.std.proofs.Common.{◌∷◌, List, [], subst, sym}
 use Rattle.std.proofs.lemmas.Result.{IfOk-weaker}
 use Rattle.ps_formula.specs.NormalForms.{after, normal_formula_at}
-use Rattle.ps_tableau.proofs.CoverRows.{one_edge}
-use Rattle.ps_tableau.proofs.Ways.{of_next}
+use Rattle.ps_tableau.proofs.CoversOfSets.CoverRows.{one_edge}
+use Rattle.ps_tableau.proofs.CoversOfSets.Ways.{of_next}
 use Rattle.ps_tableau.specs.Boards.{HasCovers}
 use Rattle.ps_tableau.specs.Covers.{AreCoversOf}
 use Rattle.ps_tableau.specs.declared.edge.Edge.{Edge}

@@ -4,8 +4,8 @@ use Rattle.std.proofs.lemmas.List.Elements.{All-push, All-same}
 use Rattle.std.proofs.lemmas.Result.{IfOk-weaker}
 use Rattle.ps_formula.specs.NormalForms.{NormalFormula, keeps}
 use Rattle.ps_tableau.proofs.BoardLemmas.{makes_kept}
-use Rattle.ps_tableau.proofs.OperatorLemmas.{covers_of_release}
-use Rattle.ps_tableau.proofs.CoverRows.{edges_kept}
+use Rattle.ps_tableau.proofs.CoversOfSets.OperatorLemmas.{covers_of_release}
+use Rattle.ps_tableau.proofs.CoversOfSets.CoverRows.{edges_kept}
 use Rattle.ps_tableau.specs.Boards.{IsEdgeOf, cover_of, covers_of}
 use Rattle.ps_tableau.specs.Inner.Joins.{AreJoined}
 use Rattle.ps_tableau.specs.Covers.{AreCoversOf, Cover}

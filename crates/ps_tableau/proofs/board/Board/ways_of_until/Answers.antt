@@ -2,8 +2,8 @@ use Rattle.std.proofs.Common.{◌≡◌, ◌∙◌, ◌++◌, ◌∷◌, List, [
 use Rattle.std.proofs.lemmas.Result.{IfOk-weaker}
 use Rattle.ps_formula.specs.NormalForms.{NormalFormula, reaches}
 use Rattle.ps_tableau.proofs.BoardLemmas.{grows_trans, makes_kept}
-use Rattle.ps_tableau.proofs.OperatorLemmas.{covers_of_until}
-use Rattle.ps_tableau.proofs.CoverRows.{edges_kept}
+use Rattle.ps_tableau.proofs.CoversOfSets.OperatorLemmas.{covers_of_until}
+use Rattle.ps_tableau.proofs.CoversOfSets.CoverRows.{edges_kept}
 use Rattle.ps_tableau.specs.Boards.{cover_of, covers_of}
 use Rattle.ps_tableau.specs.Inner.Joins.{AreJoined}
 use Rattle.ps_tableau.specs.Covers.{AreCoversOf, Cover}

@@ -1,7 +1,7 @@
 use Rattle.std.proofs.Common.{◌∙◌, ◌∷◌, ◌++◌, [], List, Vec, ap, arith, inl, inr, refl}
 use Rattle.std.proofs.lemmas.Bool.{eqb-true}
 use Rattle.std.specs.Global.{Global}
-use Rattle.ps_tableau.proofs.KnownLemmas.{known_more, known_same, placed_at}
+use Rattle.ps_tableau.proofs.CoversOfSets.KnownLemmas.{known_more, known_same, placed_at}
 use Rattle.ps_tableau.specs.declared.edge.Edge.{Edge}
 use Rattle.ps_tableau.proofs.known.Known.add.Goals as goal
 

@@ -1,6 +1,6 @@
 use Rattle.std.proofs.Common.{◌≡◌, ◌≤◌, ◌&&◌, ℕ, length, true, nat_eq, rules}
 use Rattle.std.proofs.lemmas.Bool.{eqb-true}
-use Rattle.ps_diagram.proofs.Keys.{and_both}
+use Rattle.ps_diagram.proofs.NodeTables.Keys.{and_both}
 use Rattle.ps_tableau.proofs.SetLemmas.{IsWithPair, set_with, with_pair}
 use Rattle.ps_tableau.proofs.sets.Sets.with.Goals as goal
 use Rattle.ps_tableau.proofs.sets.Sets.with.Goals.{After-len}
@@ -14,11 +14,11 @@ added c =
     let below : c.args.rest ≤ length c.self.inside.pairs = rw c.self.view_is c.requires in
     rw (← c.self.view_is) (with_pair _ same_pair c.self.invariant below c.in_ok-place.ensures.0)
 
-pub returns-in_err-add_word-clause-extends : goal.returns-in_err-add_word-clause-extends
-returns-in_err-add_word-clause-extends c = (added (goal.at.returns-in_err-add_word-clause-extends c).After-len).extends
+pub returns-in_err-add-clause-extends : goal.returns-in_err-add-clause-extends
+returns-in_err-add-clause-extends c = (added (goal.at.returns-in_err-add-clause-extends c).After-len).extends
 
-pub returns-in_err-add_word-clause-sets : goal.returns-in_err-add_word-clause-sets
-returns-in_err-add_word-clause-sets c = (added (goal.at.returns-in_err-add_word-clause-sets c).After-len).sets
+pub returns-in_err-add-clause-sets : goal.returns-in_err-add-clause-sets
+returns-in_err-add-clause-sets c = (added (goal.at.returns-in_err-add-clause-sets c).After-len).sets
 
 pub returns-clause-extends : goal.returns-clause-extends
 returns-clause-extends c = (added (goal.at.returns-clause-extends c).After-len).extends

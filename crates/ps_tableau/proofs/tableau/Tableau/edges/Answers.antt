@@ -1,4 +1,4 @@
-use Rattle.ps_tableau.proofs.WayLemmas.{right_kept}
+use Rattle.ps_tableau.proofs.CoversOfSets.WayLemmas.{right_kept}
 use Rattle.ps_tableau.proofs.tableau.Tableau.edges.Goals as goal
 
 pub invariant_of-self : goal.invariant_of-self

@@ -3,7 +3,7 @@ use Rattle.ps_formula.specs.Formulas.{formula_at, not_of}
 use Rattle.ps_formula.specs.NormalForms.{IsNormalForm}
 use Rattle.ps_tableau.proofs.BoardLemmas.{set_kept}
 use Rattle.ps_tableau.specs.Boards.{IsState}
-use Rattle.ps_tableau.proofs.WayLemmas.{board_kept, tableau_of}
+use Rattle.ps_tableau.proofs.CoversOfSets.WayLemmas.{board_kept, tableau_of}
 use Rattle.ps_tableau.proofs.tableau.Tableau.new.Goals as goal
 use Rattle.ps_tableau.proofs.tableau.Tableau.new.Goals.{then-negated, else-negated}
 

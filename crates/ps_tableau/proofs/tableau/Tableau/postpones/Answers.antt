@@ -1,6 +1,6 @@
 use Rattle.ps_formula.specs.NormalForms.{normal_formula_at}
-use Rattle.ps_tableau.proofs.JoinLemmas.{in_map}
-use Rattle.ps_tableau.proofs.WayLemmas.{formula_in}
+use Rattle.ps_tableau.proofs.CoversOfSets.JoinLemmas.{in_map}
+use Rattle.ps_tableau.proofs.CoversOfSets.WayLemmas.{formula_in}
 use Rattle.ps_tableau.specs.Sets.{indices_in}
 use Rattle.ps_tableau.proofs.tableau.Tableau.postpones.Goals as goal
 

@@ -12,7 +12,7 @@ use Rattle.ps_formula.specs.Satisfaction.{IsDecidedWord, Keeps, Reaches, Satisfi
 use Rattle.ps_tableau.specs.Covers.{AreCoversOf, Brings, Cover, Covers, Fits, Postpones, SatisfiesAll, of_known}
 use Rattle.ps_tableau.specs.Operators.{AreProducts, ArePruned, IsJoin, free_cover, literal_cover, next_cover}
 use Rattle.ps_tableau.specs.Operators.{postponing_cover}
-use Rattle.ps_tableau.proofs.Brought.{brought_holds, brought_more, release_now}
+use Rattle.ps_tableau.proofs.CoversOfSets.Brought.{brought_holds, brought_more, release_now}
 use Rattle.ps_tableau.proofs.Members.{first_in, in_none, in_one}
 
 -- ## Covers that ask for more

@@ -1,22 +1,20 @@
 -- Pruning while a board grows.
-use Rattle.std.proofs.Common.{◌≡◌, ◌∙◌, ◌<◌, ℕ, List, [], ◌∷◌, ◌++◌, Option, Some, ap, get_or, length, reverse, set}
+use Rattle.std.proofs.Common.{◌≡◌, ◌∙◌, ◌<◌, ℕ, List, [], ◌∷◌, ◌++◌, Some, ap, get_or, length, reverse, set}
 use Rattle.std.proofs.Common.{subst, sym}
 use Rattle.std.proofs.lemmas.List.{get_or-map, length-map, map-append, map-set}
 use Rattle.std.proofs.lemmas.List.Elements.{All-append, All-push, All-set}
-use Rattle.std.proofs.lemmas.List.Quantifiers.{position-Some}
-use Rattle.std.proofs.lemmas.Bool.{eqb-true}
-use Rattle.std.specs.List.{All, Contains, position}
-use Rattle.std.specs.Prelude.{nat_eq}
-use Rattle.ps_diagram.proofs.Keys.{and_both}
+use Rattle.std.proofs.lemmas.Option.{get_or_from_slice_get, slice_get_within}
+use Rattle.std.specs.List.{All, Contains, slice_get}
 use Rattle.ps_tableau.proofs.BoardLemmas.{cover_kept, covers_kept}
-use Rattle.ps_tableau.proofs.JoinLemmas.{from_map, in_map}
-use Rattle.ps_tableau.proofs.Members.{from_reverse, in_reverse}
-use Rattle.ps_tableau.proofs.Products.{pruned_refl}
-use Rattle.ps_tableau.proofs.PruneLemmas.{beside_more, pruned_at, pruned_last, pruned_push, pruned_same, pruned_trans}
-use Rattle.ps_tableau.proofs.PruneLemmas.{pruned_turned}
-use Rattle.ps_tableau.proofs.CoverRows.{edges_kept}
+use Rattle.ps_tableau.proofs.CoversOfSets.JoinLemmas.{from_map, in_map}
+use Rattle.ps_tableau.proofs.Members.{from_reverse, in_reverse, item_in}
+use Rattle.ps_tableau.proofs.CoversOfSets.Products.{pruned_refl}
+use Rattle.ps_tableau.proofs.CoversOfSets.PruneLemmas.{beside_more, pruned_at, pruned_last, pruned_push, pruned_same}
+use Rattle.ps_tableau.proofs.CoversOfSets.PruneLemmas.{pruned_trans}
+use Rattle.ps_tableau.proofs.CoversOfSets.PruneLemmas.{pruned_turned}
+use Rattle.ps_tableau.proofs.CoversOfSets.CoverRows.{edges_kept, item_held}
 use Rattle.ps_tableau.specs.Boards.{Grows, IsEdgeOf, MakesEdges, cover_of, covers_of}
-use Rattle.ps_tableau.specs.Inner.Pruning.{AddsEdge, Makes, asks_same}
+use Rattle.ps_tableau.specs.Inner.Pruning.{AddsEdge, IsPlaceOfSame, Makes}
 use Rattle.ps_tableau.specs.Covers.{Cover}
 use Rattle.ps_tableau.specs.Operators.{ArePruned}
 use Rattle.ps_tableau.specs.declared.board.Board.{Board}
@@ -67,16 +65,32 @@ pushed_front {old} {mid} {new} {edge} edges {kept} {more} grows here made last =
 
 -- ## One cover beside others
 
-pub left_step : {old mid : Board} (others : List Edge) (left : Edge) {other : Edge} {covers : List Cover} (rest : Cover) →
-    Grows old mid → IsEdgeOf old other → Contains others other →
+-- an edge that a list has at a place
+pub held_at : (P : Edge → Type 0) (edges : List Edge) (place : ℕ) {edge : Edge} → All P edges →
+    slice_get edges place ≡ Some edge → P edge
+held_at P edges place {edge} held there =
+    item_held P edges place edge held (slice_get_within edges place edge there)
+    (sym (get_or_from_slice_get edges place edge edge there))
+
+pub left_one : (old : Board) (others : List Edge) (place : ℕ) (edge : Edge) {other : Edge} (rest : Cover) →
+    slice_get others place ≡ Some other →
+    ArePruned (cover_of old edge ∷ cover_of old other ∷ []) (rest ∷ cover_of old other ∷ []) →
+    ArePruned (covers_of old others ++ cover_of old edge ∷ []) (covers_of old others ++ rest ∷ [])
+left_one old others place edge {other} rest there now =
+    let has = item_in others place other (slice_get_within others place other there)
+    (sym (get_or_from_slice_get others place other other there)) in
+    beside_more (covers_of old others) (cover_of old edge) rest (cover_of old other)
+    (in_map (cover_of old) others other has) now
+
+-- what is left beside one and then beside another
+pub left_next : {old mid : Board} (others : List Edge) (left : Edge) {covers : List Cover} (rest : Cover) →
+    Grows old mid → All (IsEdgeOf old) others →
     ArePruned covers (covers_of old others ++ cover_of mid left ∷ []) →
-    ArePruned (cover_of mid left ∷ cover_of mid other ∷ []) (rest ∷ cover_of mid other ∷ []) →
+    ArePruned (covers_of mid others ++ cover_of mid left ∷ []) (covers_of mid others ++ rest ∷ []) →
     ArePruned covers (covers_of old others ++ rest ∷ [])
-left_step {old} {mid} others left {other} {covers} rest grows here there pruned now =
-    let same = subst (λ (c : Cover). ArePruned (cover_of mid left ∷ c ∷ []) (rest ∷ c ∷ [])) (cover_kept grows here)
-    now in
-    pruned_trans pruned (beside_more (covers_of old others) (cover_of mid left) rest (cover_of old other)
-    (in_map (cover_of old) others other there) same)
+left_next {old} {mid} others left {covers} rest grows held pruned now =
+    pruned_trans pruned (subst (λ (cs : List Cover). ArePruned (cs ++ cover_of mid left ∷ []) (cs ++ rest ∷ []))
+    (covers_kept grows others held) now)
 
 -- what is left is added
 pub left_added : {mid next new : Board} (edge : Edge) {left : Edge} {kept more : List Edge} → Grows mid next →
@@ -90,18 +104,15 @@ left_added {mid} {next} {new} edge {left} {kept} {more} before after held made a
     (sym (covers_kept before kept held)) made.right in
     ended covers after (edges_kept before kept held) pruned adds
 
-pub same_at : (edge : Edge) {list united : List Edge} {found : Option ℕ} {place : ℕ} {other : Edge} → list ≡ united →
-    found ≡ position (asks_same edge) list → found ≡ Some place → other ≡ get_or united place other →
+pub same_at : (edge : Edge) {list united : List Edge} {place : ℕ} {other : Edge} → list ≡ united →
+    IsPlaceOfSame edge list place → other ≡ get_or united place other →
     (place < length united) × (other.next ≡ edge.next) × (other.postponed ≡ edge.postponed)
-same_at edge {list} {united} {found} {place} {other} same by is at =
-    let one = get_or united place other in
-    let there : position (asks_same edge) united ≡ Some place =
-    subst (λ (es : List Edge). position (asks_same edge) es ≡ Some place) same (sym by ∙ is) in
-    let here = position-Some (asks_same edge) united place other there in
-    let both = and_both (nat_eq one.next edge.next) (nat_eq one.postponed edge.postponed) here.1 in (
-      here.0,
-      ap (λ (e : Edge). e.next) at ∙ eqb-true one.next edge.next both.0,
-      ap (λ (e : Edge). e.postponed) at ∙ eqb-true one.postponed edge.postponed both.1,
+same_at edge {list} {united} {place} {other} same is at =
+    let here = subst (λ (es : List Edge). IsPlaceOfSame edge es place) same is in
+    let one : other ≡ here.other = at ∙ get_or_from_slice_get united place here.other other here.there in (
+      slice_get_within united place here.other here.there,
+      ap (λ (e : Edge). e.next) one ∙ here.next,
+      ap (λ (e : Edge). e.postponed) one ∙ here.postponed,
     )
 
 -- one more cover is added as it is, and one is united with that at a place

@@ -19,8 +19,8 @@ use Rattle.ps_formula.specs.declared.normal_node.NormalNode.{NormalNode}
 use Rattle.ps_formula.specs.declared.normal_node.NormalNode.TheVariants.{Constant, Proposition, Negated, And, Or, Next}
 use Rattle.ps_formula.specs.declared.normal_node.NormalNode.TheVariants.{Until, Release}
 use Rattle.ps_tableau.proofs.BoardLemmas.{formulas_kept, makes_kept, set_kept}
-use Rattle.ps_tableau.proofs.JoinLemmas.{from_map}
-use Rattle.ps_tableau.proofs.NeedLemmas.{over_more}
+use Rattle.ps_tableau.proofs.CoversOfSets.JoinLemmas.{from_map}
+use Rattle.ps_tableau.proofs.CoversOfSets.NeedLemmas.{over_more}
 use Rattle.ps_tableau.proofs.Members.{first_in, in_one, later_in}
 use Rattle.ps_tableau.specs.Boards.{Grows, HasCovers, HaveWays, IsBoard, IsRight, IsSetOf, IsState, IsTableauOf}
 use Rattle.ps_tableau.specs.Boards.{formulas_in}

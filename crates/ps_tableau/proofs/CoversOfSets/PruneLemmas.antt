@@ -6,9 +6,9 @@ use Rattle.std.proofs.lemmas.List.Elements.{Contains-append_cases, Contains-appe
 use Rattle.std.specs.List.{Contains}
 use Rattle.std.specs.Prelude.{IsTrue, is_some}
 use Rattle.ps_diagram.specs.Leaves.{chosen}
-use Rattle.ps_tableau.proofs.Brought.{brought_more}
+use Rattle.ps_tableau.proofs.CoversOfSets.Brought.{brought_more}
 use Rattle.ps_tableau.proofs.Members.{first_in, in_more, in_none, in_one, later_in}
-use Rattle.ps_tableau.proofs.Products.{better_refl, pruned_refl}
+use Rattle.ps_tableau.proofs.CoversOfSets.Products.{better_refl, pruned_refl}
 use Rattle.ps_tableau.specs.Covers.{Cover, of_known}
 use Rattle.ps_tableau.specs.Operators.{ArePruned, IsBetter}
 use Rattle.ps_tableau.specs.Inner.Pruning.{AsksLess}

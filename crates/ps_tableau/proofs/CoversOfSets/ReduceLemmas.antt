@@ -11,12 +11,12 @@ use Rattle.ps_formula.specs.declared.normal_node.NormalNode.{NormalNode}
 use Rattle.ps_formula.specs.declared.normal_node.NormalNode.TheVariants.{Release, Until}
 use Rattle.ps_formula.specs.NormalForms.{NormalFormula, normal_formula_at}
 use Rattle.ps_tableau.proofs.BoardLemmas.{cover_kept, covers_kept}
-use Rattle.ps_tableau.proofs.Brought.{brought_more}
-use Rattle.ps_tableau.proofs.JoinLemmas.{from_map, in_map}
+use Rattle.ps_tableau.proofs.CoversOfSets.Brought.{brought_more}
+use Rattle.ps_tableau.proofs.CoversOfSets.JoinLemmas.{from_map, in_map}
 use Rattle.ps_tableau.proofs.Members.{first_in, in_none, in_one}
-use Rattle.ps_tableau.proofs.PruneLemmas.{pruned_both, pruned_trans}
+use Rattle.ps_tableau.proofs.CoversOfSets.PruneLemmas.{pruned_both, pruned_trans}
 use Rattle.ps_tableau.proofs.SetLemmas.{more_cases}
-use Rattle.ps_tableau.proofs.WayLemmas.{needed_within}
+use Rattle.ps_tableau.proofs.CoversOfSets.WayLemmas.{needed_within}
 use Rattle.ps_tableau.specs.Boards.{Grows, IsBoard, IsEdgeOf, IsState, MakesEdges, cover_of, covers_of, formulas_in}
 use Rattle.ps_tableau.specs.Inner.Pruning.{Makes}
 use Rattle.ps_tableau.specs.Inner.Reduction.{IsFormulaAt, IsOneOf, IsOneOfBoth, IsReduced, KeepsOrBrings}

@@ -4,7 +4,7 @@ use Rattle.ps_formula.specs.NormalForms.{normal_formula_at}
 use Rattle.ps_tableau.specs.Covers.{Brings}
 use Rattle.ps_tableau.specs.Inner.Reduction.{IsOneOfBoth}
 use Rattle.ps_tableau.specs.Sets.{indices_in}
-use Rattle.ps_tableau.proofs.board.Board.reduced_set.Given as goal
+use Rattle.ps_tableau.proofs.board.Board.reduced_anew.Given as goal
 
 abbrev pub invariant-loop-place : goal.invariant-loop-place
 invariant-loop-place l = record {

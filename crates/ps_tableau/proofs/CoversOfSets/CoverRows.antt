@@ -9,7 +9,7 @@ use Rattle.ps_diagram.specs.Letters.{assignment}
 use Rattle.ps_diagram.specs.Table.{IsNode, Keeps, Table, leaf_of}
 use Rattle.ps_diagram.specs.Tree.{Tree, leaf_at}
 use Rattle.ps_tableau.proofs.BoardLemmas.{cover_kept, covers_kept, edge_kept}
-use Rattle.ps_tableau.proofs.Products.{products_columns, products_row}
+use Rattle.ps_tableau.proofs.CoversOfSets.Products.{products_columns, products_row}
 use Rattle.ps_tableau.specs.Boards.{Grows, IsEdgeOf, MakesEdges, cover_of, covers_of}
 use Rattle.ps_tableau.specs.Inner.Joins.{AddsRow, MakesEdge}
 use Rattle.ps_tableau.specs.Covers.{Cover}

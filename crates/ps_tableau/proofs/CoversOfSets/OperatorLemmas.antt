@@ -2,8 +2,8 @@
 use Rattle.std.proofs.Common.{inl, inr, List, [], ◌∷◌, ◌++◌}
 use Rattle.std.proofs.lemmas.List.Elements.{Contains-append_cases, Contains-append_left, Contains-append_right}
 use Rattle.ps_formula.specs.NormalForms.{NormalFormula, both, either, keeps, reaches}
-use Rattle.ps_tableau.proofs.Products.{better_refl}
-use Rattle.ps_tableau.proofs.Ways.{of_and, of_more, of_or, of_release, of_until, pruned_covers}
+use Rattle.ps_tableau.proofs.CoversOfSets.Products.{better_refl}
+use Rattle.ps_tableau.proofs.CoversOfSets.Ways.{of_and, of_more, of_or, of_release, of_until, pruned_covers}
 use Rattle.ps_tableau.specs.Inner.Joins.{AreJoined}
 use Rattle.ps_tableau.specs.Covers.{AreCoversOf, Cover}
 use Rattle.ps_tableau.specs.Operators.{ArePruned, next_cover, postponing_cover}
