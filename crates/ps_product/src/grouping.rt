@@ -1,6 +1,8 @@
 //! Splits the leaves of a diagram by the values of truths.
 
 ghost use Rattle.std.specs.Prelude.{All, IsTrue, [], ◌∷◌};
+ghost use Rattle.indexmap.specs.IndexSet.{IsUnique};
+ghost use Rattle.ps_diagram.specs.Inner.Known.{pair_eq};
 ghost use Rattle.ps_product.specs.Groups.{Groups, IsWhole};
 ghost use Rattle.ps_product.specs.Inner.Edges.{CanSplit, IsToldApart};
 ghost use Rattle.ps_product.specs.Truths.{IsTruth};
@@ -74,6 +76,13 @@ fn split_by(alloc: Global, store: &mut Store, node: Node, truth: Truth) -> Resul
     let sides = store.fill(condition, 0)?;
     let mut pairs = IndexSet::new(alloc);
     let made = store.both(node, sides, &mut pairs)?;
-    let _ = pairs.as_slice();
+    pairs_differ(&pairs);
     Ok(made)
+}
+
+/// No pair of the set occurs twice: the prover learns it here.
+fn pairs_differ(pairs: &IndexSet<(u64, u64)>)
+    ensures { IsUnique pair_eq pairs.now }
+{
+    pairs.as_slice();
 }

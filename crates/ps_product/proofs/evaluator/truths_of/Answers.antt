@@ -1,9 +1,9 @@
 use Rattle.std.proofs.Common.{◌∙◌, false, get_or, sym, take}
 use Rattle.std.proofs.lemmas.List.{take_more}
-use Rattle.ps_diagram.proofs.Cells.{keeps_refl}
-use Rattle.ps_diagram.proofs.KnownLemmas.{keeps_trans}
-use Rattle.ps_product.proofs.LiteralTruths.{along_kept, along_more, truth_along}
-use Rattle.ps_product.proofs.TruthLemmas.{learnt, ready_on}
+use Rattle.ps_diagram.proofs.NodeTables.Cells.{keeps_refl}
+use Rattle.ps_diagram.proofs.NodeTables.KnownLemmas.{keeps_trans}
+use Rattle.ps_product.proofs.CircuitFunctions.LiteralTruths.{along_kept, along_more, truth_along}
+use Rattle.ps_product.proofs.CircuitFunctions.TruthLemmas.{learnt, ready_on}
 use Rattle.ps_simulate.specs.declared.plan.Wire.{Wire}
 use Rattle.ps_product.specs.Inner.Knowing.{Learns}
 use Rattle.ps_product.proofs.evaluator.truths_of.Goals as goal

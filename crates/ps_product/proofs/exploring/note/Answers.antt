@@ -2,7 +2,7 @@ use Rattle.std.proofs.Common.{◌≡◌, ◌++◌, ◌∷◌, [], Some, arith, g
 use Rattle.std.specs.List.{slice_get}
 use Rattle.std.proofs.lemmas.Option.{slice_get-get_or}
 use Rattle.ps_product.specs.declared.exploring.Lead.{Lead}
-use Rattle.ps_product.proofs.NotedLeads.{noted_more}
+use Rattle.ps_product.proofs.ExploredProducts.NotedLeads.{noted_more}
 use Rattle.ps_product.proofs.exploring.note.Goals as goal
 use Rattle.ps_product.proofs.exploring.note.Goals.{then-number-len+then-from-number+in_ok-push, else-number-len}
 

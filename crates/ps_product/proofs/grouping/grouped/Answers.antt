@@ -1,13 +1,14 @@
 use Rattle.std.proofs.Common.{◌≡◌, ◌+◌, ◌++◌, ◌∷◌, [], All, take, ap, sym, ◌∙◌, rules}
 use Rattle.std.specs.Prelude.{IsTrue}
 use Rattle.std.proofs.lemmas.List.{take_more}
-use Rattle.ps_diagram.proofs.Cells.{keeps_refl}
-use Rattle.ps_diagram.proofs.KnownLemmas.{keeps_trans}
+use Rattle.ps_diagram.proofs.NodeTables.Cells.{keeps_refl}
+use Rattle.ps_diagram.proofs.NodeTables.KnownLemmas.{keeps_trans}
 use Rattle.ps_product.specs.declared.truth.Truth.{Truth}
 use Rattle.ps_product.specs.Truths.{IsTruth}
-use Rattle.ps_product.proofs.GroupLemmas.{grouped_again, grouped_more, grouped_none, taken, told_before}
-use Rattle.ps_product.proofs.TruthLemmas.{truth_kept}
-use Rattle.ps_product.proofs.TruthNodes.{truths_kept}
+use Rattle.ps_product.proofs.CircuitFunctions.GroupLemmas.{grouped_again, grouped_more, grouped_none, taken}
+use Rattle.ps_product.proofs.CircuitFunctions.GroupLemmas.{told_before}
+use Rattle.ps_product.proofs.CircuitFunctions.TruthLemmas.{truth_kept}
+use Rattle.ps_product.proofs.CircuitFunctions.TruthNodes.{truths_kept}
 use Rattle.ps_product.proofs.grouping.grouped.Goals as goal
 use Rattle.ps_product.proofs.grouping.grouped.Goals.{After-index-truths-place, then-not-is_told_apart+in_ok-made}
 use Rattle.ps_product.proofs.grouping.grouped.Goals.{else-not-is_told_apart}

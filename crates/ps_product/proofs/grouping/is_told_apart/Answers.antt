@@ -1,6 +1,6 @@
 use Rattle.std.specs.Prelude.{IsTrue}
 use Rattle.std.proofs.Common.{rules}
-use Rattle.ps_product.proofs.GroupLemmas.{told_by_one}
+use Rattle.ps_product.proofs.CircuitFunctions.GroupLemmas.{told_by_one}
 use Rattle.ps_product.proofs.grouping.is_told_apart.Goals as goal
 
 pub returns-then-is_same_or_negated : goal.returns-then-is_same_or_negated

@@ -1,4 +1,4 @@
-use Rattle.ps_product.proofs.StepsOf.{step_one, step_there}
+use Rattle.ps_product.proofs.CircuitFunctions.StepsOf.{step_one, step_there}
 use Rattle.ps_product.proofs.laws.outcome_is_the_step.Goals as goal
 
 pub returns-clause-there : goal.returns-clause-there

@@ -1,6 +1,6 @@
 use Rattle.std.proofs.Common.{arith}
 use Rattle.std.proofs.lemmas.Grind.{common_steps}
-use Rattle.ps_simulate.proofs.PlacesLemmas.{sides_known}
+use Rattle.ps_simulate.proofs.EvaluationPlans.PlacesLemmas.{sides_known}
 use Rattle.ps_product.proofs.net.gate_sides.Goals as goal
 
 pub wire-one-requires : goal.wire-one-requires

@@ -1,7 +1,7 @@
 use Rattle.std.proofs.Common.{arith, length, ◌<◌}
-use Rattle.ps_diagram.proofs.KnownLemmas.{keeps_trans}
+use Rattle.ps_diagram.proofs.NodeTables.KnownLemmas.{keeps_trans}
 use Rattle.ps_product.specs.Truths.{IsTruth}
-use Rattle.ps_product.proofs.TruthNodes.{node_for_output, node_for_own, stand_more, truths_kept}
+use Rattle.ps_product.proofs.CircuitFunctions.TruthNodes.{node_for_output, node_for_own, stand_more, truths_kept}
 use Rattle.ps_product.proofs.nodes.nodes_of.Goals as goal
 use Rattle.ps_product.proofs.nodes.nodes_of.Goals.{in-Some+in_ok-node-in-Some, in-None+in_ok-node-in-None}
 

@@ -4,7 +4,7 @@ use Rattle.std.proofs.lemmas.List.{length-map}
 use Rattle.ps_hoa.specs.Memory.{bytes_of}
 use Rattle.ps_simulate.proofs.NamingLemmas.{nameless, unknown, symbol_at}
 use Rattle.ps_product.specs.Inner.Roles.{IsListing}
-use Rattle.ps_product.proofs.RoleLemmas.{contained, listing_push, missing, twice}
+use Rattle.ps_product.proofs.CircuitFunctions.RoleLemmas.{contained, listing_push, missing, twice}
 use Rattle.ps_product.proofs.roles.propositions_of.Goals as goal
 use Rattle.ps_product.proofs.roles.propositions_of.Goals.{in_default-proposition_of-via-in-Some-proposition_of+else-not-is_in_list}
 use Rattle.ps_product.proofs.roles.propositions_of.Goals.{in_default-proposition_of-via-in_default-proposition_of}

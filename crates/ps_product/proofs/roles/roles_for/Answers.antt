@@ -4,7 +4,7 @@ use Rattle.std.proofs.lemmas.List.{length-map}
 use Rattle.ps_hoa.specs.Memory.{bytes_of}
 use Rattle.ps_product.specs.Inner.Roles.{IsFull, IsListing}
 use Rattle.ps_product.specs.declared.roles.Roles.{Roles}
-use Rattle.ps_product.proofs.RoleLemmas.{are_roles, once_each, sets_is}
+use Rattle.ps_product.proofs.CircuitFunctions.RoleLemmas.{are_roles, once_each, sets_is}
 use Rattle.ps_simulate.specs.Symbols.{sets_controllable}
 use Rattle.ps_product.proofs.roles.roles_for.Goals as goal
 use Rattle.ps_product.proofs.roles.roles_for.Goals.{In-Some-2}

@@ -1,6 +1,7 @@
 use Rattle.std.proofs.Common.{rules}
-use Rattle.ps_simulate.proofs.PlacesLemmas.{output_known}
-use Rattle.ps_product.proofs.LiteralTruths.{along_kept, nexts_known, truths_of_literals, wires_of_nexts, wires_within}
+use Rattle.ps_simulate.proofs.EvaluationPlans.PlacesLemmas.{output_known}
+use Rattle.ps_product.proofs.CircuitFunctions.LiteralTruths.{along_kept, nexts_known, truths_of_literals}
+use Rattle.ps_product.proofs.CircuitFunctions.LiteralTruths.{wires_of_nexts, wires_within}
 use Rattle.ps_product.proofs.evaluator.Evaluator.at.Goals as goal
 
 pub truths_of-requires-clause-ready : goal.truths_of-requires-clause-ready

@@ -2,7 +2,7 @@ use Rattle.std.proofs.Common.{◌≡◌, arith}
 use Rattle.ps_product.specs.Inner.Exploring.{IsLedBy}
 use Rattle.ps_product.specs.Inner.Plans.{setting_of}
 use Rattle.ps_product.specs.Truths.{bits_at}
-use Rattle.ps_product.proofs.NotedLeads.{stem_is, stem_more}
+use Rattle.ps_product.proofs.ExploredProducts.NotedLeads.{stem_is, stem_more}
 use Rattle.ps_product.proofs.exploring.Draft.stem_to.Goals as goal
 
 pub loop-place-smaller : goal.loop-place-smaller

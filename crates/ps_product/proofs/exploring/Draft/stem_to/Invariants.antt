@@ -2,7 +2,7 @@ use Rattle.std.proofs.Common.{◌≡◌, Some}
 use Rattle.std.specs.List.{slice_get}
 use Rattle.ps_product.specs.Inner.Plans.{setting_of}
 use Rattle.ps_product.specs.Products.{ProductVertex}
-use Rattle.ps_product.proofs.NotedLeads.{HasWay}
+use Rattle.ps_product.proofs.ExploredProducts.NotedLeads.{HasWay}
 use Rattle.ps_product.proofs.exploring.Draft.stem_to.Given as goal
 
 abbrev pub invariant-loop-place : goal.invariant-loop-place

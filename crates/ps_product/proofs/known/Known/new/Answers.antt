@@ -1,7 +1,7 @@
 use Rattle.std.proofs.Common.{◌∙◌, List, None, ap, arith, get_or, map}
 use Rattle.ps_product.specs.Inner.Entries.{truth_in}
 use Rattle.ps_product.specs.declared.known.Entry.{Entry}
-use Rattle.ps_product.proofs.Stamps.{forgotten_copies}
+use Rattle.ps_product.proofs.CircuitFunctions.Stamps.{forgotten_copies}
 use Rattle.ps_product.proofs.known.Known.new.Goals as goal
 
 pub returns-clause-none : goal.returns-clause-none

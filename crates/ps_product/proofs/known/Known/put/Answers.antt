@@ -1,4 +1,4 @@
-use Rattle.ps_product.proofs.Stamps.{put_in}
+use Rattle.ps_product.proofs.CircuitFunctions.Stamps.{put_in}
 use Rattle.ps_product.proofs.known.Known.put.Goals as goal
 
 pub returns : goal.returns

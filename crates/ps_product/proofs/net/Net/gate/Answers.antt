@@ -3,8 +3,8 @@ use Rattle.std.proofs.lemmas.List.{get_or-map}
 use Rattle.ps_product.specs.Inner.Nets.{sides_of}
 use Rattle.ps_product.specs.declared.net.Sides.{Sides}
 use Rattle.ps_simulate.specs.Plans.{no_gate}
-use Rattle.ps_simulate.proofs.RowLemmas.{length-variables}
-use Rattle.ps_product.proofs.NetLemmas.{gate_at}
+use Rattle.ps_simulate.proofs.EvaluationPlans.RowLemmas.{length-variables}
+use Rattle.ps_product.proofs.CircuitFunctions.NetLemmas.{gate_at}
 use Rattle.ps_product.proofs.net.Net.gate.Goals as goal
 
 pub returns : goal.returns

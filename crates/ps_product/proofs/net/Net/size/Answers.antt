@@ -1,8 +1,8 @@
 use Rattle.std.proofs.Common.{arith, ap, length}
 use Rattle.std.proofs.lemmas.List.{length-map}
 use Rattle.ps_product.specs.Inner.Nets.{sides_of}
-use Rattle.ps_simulate.proofs.LanePlanLemmas.{few_variables}
-use Rattle.ps_simulate.proofs.RowLemmas.{length-variables}
+use Rattle.ps_simulate.proofs.EvaluationPlans.LanePlanLemmas.{few_variables}
+use Rattle.ps_simulate.proofs.EvaluationPlans.RowLemmas.{length-variables}
 use Rattle.ps_product.proofs.net.Net.size.Goals as goal
 
 pub overflow_add-result : goal.overflow_add-result

@@ -1,9 +1,9 @@
 use Rattle.std.proofs.Common.{◌≡◌, suc, ◌-◌, ◌+◌, ◌∙◌, ap, arith, length, get_or, false}
 use Rattle.ps_label.specs.Truth.{is_in}
-use Rattle.ps_diagram.proofs.Cells.{keeps_refl}
+use Rattle.ps_diagram.proofs.NodeTables.Cells.{keeps_refl}
 use Rattle.ps_product.specs.Inner.Nets.{value_at}
-use Rattle.ps_product.proofs.NetLemmas.{input_at, latch_at}
-use Rattle.ps_product.proofs.TruthLemmas.{placed}
+use Rattle.ps_product.proofs.CircuitFunctions.NetLemmas.{input_at, latch_at}
+use Rattle.ps_product.proofs.CircuitFunctions.TruthLemmas.{placed}
 use Rattle.ps_product.proofs.site.Site.given.Goals as goal
 
 pub returns-then-place-inputs-clause-truth : goal.returns-then-place-inputs-clause-truth

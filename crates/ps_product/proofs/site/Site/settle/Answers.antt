@@ -1,8 +1,8 @@
 use Rattle.std.proofs.Common.{◌≡◌, ◌++◌, ◌∷◌, [], List, ap, refl, length, ℕ}
 use Rattle.ps_circuit.specs.Circuits.{ReadsGate}
 use Rattle.ps_components.specs.Orders.{IsOrder}
-use Rattle.ps_diagram.proofs.KnownLemmas.{keeps_trans}
-use Rattle.ps_product.proofs.Settling.{emptied, less_left, less_waits, more_left, more_waits}
+use Rattle.ps_diagram.proofs.NodeTables.KnownLemmas.{keeps_trans}
+use Rattle.ps_product.proofs.CircuitFunctions.Settling.{emptied, less_left, less_waits, more_left, more_waits}
 use Rattle.ps_product.proofs.site.Site.settle.Goals as goal
 use Rattle.ps_product.proofs.site.Site.settle.Goals.{In_ok-push, In-Some-pop}
 

@@ -1,6 +1,6 @@
 use Rattle.std.proofs.Common.{◌++◌, ◌∷◌, []}
 use Rattle.ps_product.specs.Inner.Knowing.{Learns}
-use Rattle.ps_product.proofs.Settling.{Waits, left}
+use Rattle.ps_product.proofs.CircuitFunctions.Settling.{Waits, left}
 use Rattle.ps_product.proofs.site.Site.settle.Given as goal
 
 abbrev pub invariant-loop-lower : goal.invariant-loop-lower

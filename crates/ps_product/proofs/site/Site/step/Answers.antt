@@ -3,9 +3,9 @@ use Rattle.ps_product.specs.Inner.Nets.{IsGateAt}
 use Rattle.ps_product.specs.Truths.{truth_at}
 use Rattle.ps_product.specs.declared.truth.Truth.{Truth}
 use Rattle.ps_product.specs.declared.truth.Truth.TheVariants.{Never}
-use Rattle.ps_product.proofs.Gates.{gate_truth, never_beside}
-use Rattle.ps_diagram.proofs.Cells.{keeps_refl}
-use Rattle.ps_product.proofs.TruthLemmas.{known_kept, known_more, learnt}
+use Rattle.ps_product.proofs.CircuitFunctions.Gates.{gate_truth, never_beside}
+use Rattle.ps_diagram.proofs.NodeTables.Cells.{keeps_refl}
+use Rattle.ps_product.proofs.CircuitFunctions.TruthLemmas.{known_kept, known_more, learnt}
 use Rattle.ps_product.proofs.site.Site.step.Goals as goal
 
 pub returns-in_err-truth-clause-learns : goal.returns-in_err-truth-clause-learns

@@ -4,7 +4,7 @@ use Rattle.ps_diagram.specs.Labels.{one_where}
 use Rattle.ps_diagram.specs.Leaves.{chosen}
 use Rattle.ps_diagram.specs.Table.{leaf_of}
 use Rattle.ps_product.specs.Truths.{IsVarying, with_sign}
-use Rattle.ps_product.proofs.TruthLemmas.{both_chosen, chosen_one}
+use Rattle.ps_product.proofs.CircuitFunctions.TruthLemmas.{both_chosen, chosen_one}
 use Rattle.ps_product.proofs.truth.Truths.both_varying.Goals as goal
 use Rattle.ps_product.proofs.truth.Truths.both_varying.Goals.{In_ok-node, then-other_negated, else-other_negated}
 use Rattle.ps_product.proofs.truth.Truths.both_varying.Goals.{then-one_negated, else-one_negated}

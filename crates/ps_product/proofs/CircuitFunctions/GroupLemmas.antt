@@ -8,10 +8,10 @@ use Rattle.std.proofs.lemmas.List.Elements.{All-take}
 use Rattle.std.specs.List.{IsDistinct}
 use Rattle.std.specs.Option.{unwrap_or}
 use Rattle.ps_diagram.specs.Inner.Known.{pair_eq}
-use Rattle.ps_diagram.proofs.KnownLemmas.{pair_same, some_nat}
+use Rattle.ps_diagram.proofs.NodeTables.KnownLemmas.{pair_same, some_nat}
 use Rattle.std.specs.Bool.{Decides}
 use Rattle.std.proofs.lemmas.Bool.{eq-eqb}
-use Rattle.ps_diagram.proofs.Distinct.{one_place}
+use Rattle.ps_diagram.proofs.ClassesOfLetters.Distinct.{one_place}
 use Rattle.ps_simulate.proofs.NamingLemmas.{some_same}
 use Rattle.ps_diagram.specs.Labels.{IsOneOrNone}
 use Rattle.ps_diagram.specs.Pairs.{IsPaired}
@@ -21,7 +21,7 @@ use Rattle.ps_product.specs.Inner.Edges.{IsToldApart}
 use Rattle.ps_product.specs.Truths.{IsTruth, bits_of, with_sign, truth_at}
 use Rattle.ps_product.specs.declared.truth.Truth.{Truth}
 use Rattle.ps_product.specs.declared.truth.Truth.TheVariants.{Sometimes}
-use Rattle.ps_product.proofs.TruthLemmas.{leaf_kept, signed_same, truth_same}
+use Rattle.ps_product.proofs.CircuitFunctions.TruthLemmas.{leaf_kept, signed_same, truth_same}
 
 -- ## No function, and one function more
 

@@ -6,7 +6,7 @@ use Rattle.std.specs.List.{Contains}
 use Rattle.std.proofs.lemmas.Bool.{cases_eq, eq-eqb, ne_eqb}
 use Rattle.std.proofs.lemmas.List.{get_or_default}
 use Rattle.ps_hoa.specs.Files.{is_among}
-use Rattle.ps_diagram.proofs.Cells.{push_each, true_is_not_false}
+use Rattle.ps_diagram.proofs.NodeTables.Cells.{push_each, true_is_not_false}
 use Rattle.ps_simulate.specs.Symbols.{AreDistinct, AreNamesOnce, IsSymbol, reads_controllable}
 use Rattle.ps_simulate.specs.Symbols.{sets_controllable}
 use Rattle.ps_simulate.specs.declared.role.Role.{Role}

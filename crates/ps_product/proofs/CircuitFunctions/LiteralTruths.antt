@@ -8,17 +8,17 @@ use Rattle.std.proofs.lemmas.Option.{slice_get-get_or, slice_get_within, get_or_
 use Rattle.ps_circuit.specs.declared.parts.Latch.{Latch}
 use Rattle.ps_circuit.specs.Circuits.{CircuitData, IsCircuit, IsKnown, definitions}
 use Rattle.ps_diagram.specs.Table.{Table, Keeps}
-use Rattle.ps_diagram.proofs.Distinct.{at_last}
+use Rattle.ps_diagram.proofs.ClassesOfLetters.Distinct.{at_last}
 use Rattle.ps_product.specs.Inner.Knowing.{AreTruthsAlong, IsTruthAlong, IsTruthAt}
 use Rattle.ps_product.specs.Truths.{AreTruthsOf, IsTruth, truth_at, bit_by_wire}
 use Rattle.ps_product.specs.declared.site.Site.{Site}
 use Rattle.ps_product.specs.declared.truth.Truth.{Truth}
-use Rattle.ps_product.proofs.NetLemmas.{read_is}
-use Rattle.ps_product.proofs.TruthLemmas.{truth_kept, truth_same}
+use Rattle.ps_product.proofs.CircuitFunctions.NetLemmas.{read_is}
+use Rattle.ps_product.proofs.CircuitFunctions.TruthLemmas.{truth_kept, truth_same}
 use Rattle.ps_simulate.specs.declared.plan.Wire.{Wire}
 use Rattle.ps_simulate.specs.Plans.{variables, wire_of}
-use Rattle.ps_simulate.proofs.PlacesLemmas.{next_known, place_known}
-use Rattle.ps_simulate.proofs.RowLemmas.{no_latch}
+use Rattle.ps_simulate.proofs.EvaluationPlans.PlacesLemmas.{next_known, place_known}
+use Rattle.ps_simulate.proofs.EvaluationPlans.RowLemmas.{no_latch}
 
 -- the function of a literal is the function of its variable, negated if the literal is negated
 pub truth_along : (s : Site) {t u : Table} (w : Wire) (truth made : Truth) → Keeps t u → IsTruthAt s t w.place truth →

@@ -5,9 +5,9 @@ use Rattle.std.specs.Prelude.{slice_get}
 use Rattle.std.proofs.lemmas.Bool.{eq-eqb, eqb-true}
 use Rattle.std.proofs.lemmas.List.{append-nil, append_assoc, drop_more}
 use Rattle.std.proofs.lemmas.Option.{get_or_from_slice_get, slice_get-get_or, slice_get_within}
-use Rattle.ps_diagram.proofs.Cells.{true_is_not_false}
-use Rattle.ps_diagram.proofs.Distinct.{at_end, at_last, at_left}
-use Rattle.ps_diagram.proofs.Keys.{and_both}
+use Rattle.ps_diagram.proofs.NodeTables.Cells.{true_is_not_false}
+use Rattle.ps_diagram.proofs.ClassesOfLetters.Distinct.{at_end, at_last, at_left}
+use Rattle.ps_diagram.proofs.NodeTables.Keys.{and_both}
 use Rattle.ps_keys.specs.Keys.{IsPlacedKey, LacksFrom, PlacesKey}
 use Rattle.ps_simulate.proofs.NamingLemmas.{some_same}
 use Rattle.ps_product.specs.Words.{AreOnce, HasGrown, IsNextRead, IsNumberOfBits, IsRead, digit}

@@ -10,7 +10,7 @@ use Rattle.ps_circuit.specs.Circuits.{CircuitData}
 use Rattle.ps_circuit.specs.Values.{Steps, bit_of}
 use Rattle.ps_diagram.specs.Letters.{letter_of}
 use Rattle.ps_diagram.specs.Table.{Table, leaf_of}
-use Rattle.ps_diagram.proofs.Cells.{true_is_not_false}
+use Rattle.ps_diagram.proofs.NodeTables.Cells.{true_is_not_false}
 use Rattle.ps_diagram.proofs.Letters.{letter_is, letter_lt}
 use Rattle.ps_label.specs.Truth.{is_in}
 use Rattle.ps_product.specs.Groups.{AreDifferent, is_sometimes}
@@ -18,7 +18,7 @@ use Rattle.ps_product.specs.Inner.Edges.{SeesNoInputAt}
 use Rattle.ps_product.specs.Truths.{AreTruthsOf, IsTruth, bits_at, bits_of, truth_at}
 use Rattle.ps_product.specs.declared.truth.Truth.{Truth}
 use Rattle.ps_product.specs.declared.truth.Truth.TheVariants.{Never, Always, Sometimes}
-use Rattle.ps_product.proofs.TruthLemmas.{signed_same, some_where}
+use Rattle.ps_product.proofs.CircuitFunctions.TruthLemmas.{signed_same, some_where}
 
 -- ## A letter with given bits
 

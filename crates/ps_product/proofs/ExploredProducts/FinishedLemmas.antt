@@ -13,7 +13,7 @@ use Rattle.ps_circuit.specs.Values.{Moment, GoesOn}
 use Rattle.ps_game.specs.Drafts.{HaveNoRepeats, NoneBare, NoneUnknown, without_repeats}
 use Rattle.ps_game.specs.Games.{ParityGame, no_vertex, owner_of, priority_of, successors_of}
 use Rattle.ps_game.specs.Games.{vertex_count}
-use Rattle.ps_game.proofs.VertexArrays.{without_repeats-same}
+use Rattle.ps_game.proofs.StoredGames.VertexArrays.{without_repeats-same}
 use Rattle.ps_hoa.specs.Sound.{AreNames}
 use Rattle.ps_product.specs.Inner.Exploring.{DraftData, IsExplored, IsExploredAs, Setting}
 use Rattle.ps_product.specs.Inner.Plans.{IsRefusedAt}
@@ -26,7 +26,7 @@ use Rattle.ps_product.specs.Vertices.{inputs_in}
 use Rattle.ps_product.specs.declared.fault.ProductFault.{ProductFault}
 use Rattle.ps_product.specs.declared.fault.ProductFault.TheVariants.{OutOfMemory, Symbols, Timing}
 use Rattle.ps_machine.specs.declared.key.Order.{Order}
-use Rattle.ps_product.proofs.EdgeLemmas.{element}
+use Rattle.ps_product.proofs.ExploredProducts.EdgeLemmas.{element}
 use Rattle.ps_simulate.specs.Lassos.{AreLetters, IsLetterOf}
 use Rattle.ps_simulate.specs.Symbols.{HasSymbols}
 use Rattle.ps_simulate.specs.declared.role.Role.{Role}

@@ -16,10 +16,11 @@ use Rattle.ps_product.specs.Inner.Nets.{IsBelow, IsGateAt, front_of, read_at, si
 use Rattle.ps_product.specs.Truths.{bits_at}
 use Rattle.ps_simulate.specs.declared.plan.Wire.{Wire}
 use Rattle.ps_simulate.specs.Plans.{no_gate, variables, place_of_variable, wire_of}
-use Rattle.ps_simulate.proofs.PlacesLemmas.{place_known, sides_known, variables_at}
-use Rattle.ps_simulate.proofs.RowLemmas.{definitions_gate, definitions_input, definitions_latch, length-definitions}
-use Rattle.ps_simulate.proofs.RowLemmas.{length-variables, no_latch}
-use Rattle.ps_simulate.proofs.ValueLemmas.{bit_of-definition}
+use Rattle.ps_simulate.proofs.EvaluationPlans.PlacesLemmas.{place_known, sides_known, variables_at}
+use Rattle.ps_simulate.proofs.EvaluationPlans.RowLemmas.{definitions_gate, definitions_input, definitions_latch}
+use Rattle.ps_simulate.proofs.EvaluationPlans.RowLemmas.{length-definitions}
+use Rattle.ps_simulate.proofs.EvaluationPlans.RowLemmas.{length-variables, no_latch}
+use Rattle.ps_simulate.proofs.EvaluationPlans.ValueLemmas.{bit_of-definition}
 
 -- the two literals that a gate reads may be exchanged
 either_order : (c : CircuitData) (place : ℕ) (first second : Wire) →

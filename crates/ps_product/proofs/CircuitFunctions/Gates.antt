@@ -1,7 +1,7 @@
 -- The Boolean function of a gate, derived from the functions of the two literals that it reads.
 use Rattle.std.proofs.Common.{◌≡◌, ℕ, ◌^◌, ◌<◌, ◌&&◌, Bool, false, refl, ap, ap₂, sym, ◌∙◌}
 use Rattle.ps_diagram.specs.Table.{Table, Keeps}
-use Rattle.ps_diagram.proofs.Cells.{keeps_refl}
+use Rattle.ps_diagram.proofs.NodeTables.Cells.{keeps_refl}
 use Rattle.ps_product.specs.Inner.Knowing.{IsTruthAt}
 use Rattle.ps_product.specs.Inner.Nets.{IsGateAt, read_at}
 use Rattle.ps_product.specs.Truths.{IsTruth, truth_at, bit_by_wire}
@@ -9,7 +9,7 @@ use Rattle.ps_product.specs.declared.net.Sides.{Sides}
 use Rattle.ps_product.specs.declared.site.Site.{Site}
 use Rattle.ps_product.specs.declared.truth.Truth.{Truth}
 use Rattle.ps_product.specs.declared.truth.Truth.TheVariants.{Never}
-use Rattle.ps_product.proofs.TruthLemmas.{placed}
+use Rattle.ps_product.proofs.CircuitFunctions.TruthLemmas.{placed}
 
 -- a gate is true at no letter if one of the literals that it reads is true at no letter
 pub never_beside : (s : Site) {t : Table} (place : ℕ) (sides : Sides) (one : Truth) → IsGateAt s.net.now place sides →

@@ -14,7 +14,7 @@ use Rattle.ps_circuit.specs.Circuits.{CircuitData, ReadsGate}
 use Rattle.ps_components.specs.Orders.{IsOrder}
 use Rattle.ps_product.specs.Inner.Nets.{IsBelow}
 use Rattle.ps_product.specs.declared.truth.Truth.{Truth}
-use Rattle.ps_product.proofs.UnknownPlaces.{rank, rank_bound, rank_falls, unknown, unknown-set}
+use Rattle.ps_product.proofs.CircuitFunctions.UnknownPlaces.{rank, rank_bound, rank_falls, unknown, unknown-set}
 use Rattle.ps_simulate.specs.Plans.{variables}
 
 -- the variable with the index p has not been evaluated yet

@@ -8,7 +8,7 @@ use Rattle.ps_diagram.specs.Leaves.{chosen}
 use Rattle.ps_diagram.specs.Letters.{assignment}
 use Rattle.ps_diagram.specs.Table.{Table, IsNode, Keeps, leaf_of}
 use Rattle.ps_diagram.specs.Tree.{leaf_at}
-use Rattle.ps_diagram.proofs.KnownLemmas.{keeps_trans}
+use Rattle.ps_diagram.proofs.NodeTables.KnownLemmas.{keeps_trans}
 use Rattle.ps_circuit.specs.Values.{AreValues}
 use Rattle.ps_product.specs.Inner.Knowing.{IsReady, IsSite, IsTruthAt, Knows, Learns}
 use Rattle.ps_product.specs.Inner.Nets.{value_at}

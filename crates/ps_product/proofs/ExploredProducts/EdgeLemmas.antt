@@ -14,7 +14,7 @@ use Rattle.ps_circuit.specs.Values.{Steps, bit_of}
 use Rattle.ps_diagram.specs.Composing.{IsLetterOfTruths}
 use Rattle.ps_diagram.specs.Letters.{letter_of}
 use Rattle.ps_diagram.specs.Table.{Table, leaf_of}
-use Rattle.ps_diagram.proofs.KnownLemmas.{some_nat}
+use Rattle.ps_diagram.proofs.NodeTables.KnownLemmas.{some_nat}
 use Rattle.ps_diagram.proofs.Letters.{letter_is, letter_lt}
 use Rattle.ps_label.specs.Truth.{is_in}
 use Rattle.ps_product.specs.Groups.{StandFor}

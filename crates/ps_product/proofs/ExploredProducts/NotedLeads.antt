@@ -9,7 +9,7 @@ use Rattle.std.specs.List.{slice_get}
 use Rattle.std.proofs.lemmas.List.{map_push, reverse-append}
 use Rattle.indexmap.proofs.ReorderLemmas.{map-reverse}
 use Rattle.ps_automaton.specs.Automata.{auto_of}
-use Rattle.ps_diagram.proofs.Distinct.{at_last}
+use Rattle.ps_diagram.proofs.ClassesOfLetters.Distinct.{at_last}
 use Rattle.ps_simulate.proofs.NamingLemmas.{some_same}
 use Rattle.ps_simulate.specs.Stimuli.{letters_of}
 use Rattle.ps_product.specs.Inner.Exploring.{HaveNoted, IsLedBy, Setting}

@@ -7,18 +7,19 @@ use Rattle.std.proofs.Math.ListN.{get_or-append}
 use Rattle.std.proofs.Math.Seq.{get_or-append_seam}
 use Rattle.std.proofs.lemmas.List.{append-nil, map-append}
 use Rattle.std.proofs.lemmas.Option.{slice_get-get_or, slice_get_within}
-use Rattle.ps_diagram.proofs.Cells.{push_each}
-use Rattle.ps_diagram.proofs.Distinct.{at_end, at_last, at_left}
+use Rattle.ps_diagram.proofs.NodeTables.Cells.{push_each}
+use Rattle.ps_diagram.proofs.ClassesOfLetters.Distinct.{at_end, at_last, at_left}
 use Rattle.ps_product.specs.Numbers.{AreApart, AreNumbers, IsNumberOf}
 use Rattle.ps_product.specs.Inner.Numbers.{HaveNumbers}
 use Rattle.ps_product.specs.Words.{AreOnce, HasGrown, IsNumberOfBits}
 use Rattle.ps_product.specs.Products.{ProductVertex}
 use Rattle.ps_product.specs.Vertices.{product_vertex}
 use Rattle.ps_product.specs.declared.edges.Edge.{Edge}
-use Rattle.ps_product.proofs.EdgeLemmas.{element, same_vertex}
+use Rattle.ps_product.proofs.ExploredProducts.EdgeLemmas.{element, same_vertex}
 use Rattle.ps_keys.specs.Keys.{IsPlacedKey}
-use Rattle.ps_product.proofs.WordNumbers.{lacking, number_injective, number_kept, number_one, once_more, triple_eq}
-use Rattle.ps_product.proofs.WordNumbers.{triple_own, triple_same}
+use Rattle.ps_product.proofs.ExploredProducts.WordNumbers.{lacking, number_injective, number_kept, number_one}
+use Rattle.ps_product.proofs.ExploredProducts.WordNumbers.{once_more, triple_eq}
+use Rattle.ps_product.proofs.ExploredProducts.WordNumbers.{triple_own, triple_same}
 use Rattle.ps_simulate.proofs.NamingLemmas.{some_same}
 
 -- ## Keys

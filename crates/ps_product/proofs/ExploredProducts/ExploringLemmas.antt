@@ -13,7 +13,7 @@ use Rattle.ps_automaton.specs.declared.step.Step.{Step}
 use Rattle.ps_circuit.specs.declared.parts.Latch.{Latch}
 use Rattle.ps_circuit.specs.Values.{bit_of}
 use Rattle.ps_diagram.specs.Table.{leaf_of}
-use Rattle.ps_diagram.proofs.Distinct.{at_left}
+use Rattle.ps_diagram.proofs.ClassesOfLetters.Distinct.{at_left}
 use Rattle.ps_game.specs.Games.{ParityGame, VertexData, no_vertex}
 use Rattle.ps_product.specs.Inner.Edges.{LeadsBy}
 use Rattle.ps_product.specs.Inner.Exploring.{AreLeads, DraftData, HasEdges, HaveNoted, IsExplored, IsExploredAs}
@@ -22,7 +22,7 @@ use Rattle.ps_product.specs.Numbers.{AreApart, AreNumbers, IsNumberOf}
 use Rattle.ps_product.specs.Products.{Leads, ProductVertex, first_vertex}
 use Rattle.ps_product.specs.Vertices.{product_vertex}
 use Rattle.ps_product.specs.declared.edges.Edge.{Edge}
-use Rattle.ps_product.proofs.EdgeLemmas.{and_some, element}
+use Rattle.ps_product.proofs.ExploredProducts.EdgeLemmas.{and_some, element}
 use Rattle.ps_simulate.proofs.NamingLemmas.{some_same}
 use Rattle.ps_traces.proofs.CircuitRuns.{next_reached, resets_reached}
 
