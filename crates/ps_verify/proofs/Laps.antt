@@ -13,7 +13,7 @@ use Rattle.std.proofs.Math.Nat.{add-suc}
 use Rattle.std.proofs.lemmas.Bool.{cases_eq}
 use Rattle.std.proofs.lemmas.Option.{slice_get_within}
 use Rattle.ps_automaton.specs.Autos.{Auto, greatest_along, greatest_of_laps, state_after, state_behind}
-use Rattle.ps_automaton.proofs.Orbits.{laps_together}
+use Rattle.ps_automaton.proofs.AdmittedFiles.Orbits.{laps_together}
 use Rattle.ps_circuit.specs.Circuits.{CircuitData}
 use Rattle.ps_circuit.specs.Values.{Moment, GoesOn}
 use Rattle.ps_game.specs.Games.{vertex_count}

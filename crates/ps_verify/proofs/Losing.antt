@@ -12,7 +12,7 @@ use Rattle.ps_hoa.specs.Files.{FileData}
 use Rattle.ps_automaton.specs.Acceptance.{IsAccepted}
 use Rattle.ps_automaton.specs.Autos.{Auto, IsAutoOf, greatest_along}
 use Rattle.ps_automaton.specs.Chains.{Chain, chain_of, is_even}
-use Rattle.ps_automaton.proofs.Accepting.{laps_decide}
+use Rattle.ps_automaton.proofs.AdmittedFiles.Accepting.{laps_decide}
 use Rattle.ps_circuit.specs.Circuits.{CircuitData, IsCircuit}
 use Rattle.ps_circuit.specs.Values.{Moment, GoesOn, HasOneValues}
 use Rattle.ps_game.specs.Games.{IsGame, priority_of}
@@ -25,8 +25,8 @@ use Rattle.ps_simulate.specs.Stimuli.{StimulusData}
 use Rattle.ps_simulate.specs.Symbols.{HasSymbols}
 use Rattle.ps_simulate.specs.declared.role.Role.{Role}
 use Rattle.ps_simulate.specs.declared.role.Role.TheVariants.{Controller, Environment}
-use Rattle.ps_simulate.proofs.LassoLemmas.{few_letters}
-use Rattle.ps_simulate.proofs.LassoLemmas.{length_letters}
+use Rattle.ps_simulate.proofs.LapsOfRuns.LassoLemmas.{few_letters}
+use Rattle.ps_simulate.proofs.LapsOfRuns.LassoLemmas.{length_letters}
 use Rattle.ps_traces.specs.Shapes.{IsInTimeWhereReached}
 use Rattle.ps_traces.specs.Traces.{IsLassoWord}
 use Rattle.ps_verify.specs.Inner.Readings.{ReadsPath, ReadsRound}

@@ -11,7 +11,7 @@ use Rattle.ps_automaton.specs.Acceptance.{IsAccepted}
 use Rattle.ps_automaton.specs.Automata.{AutomatonData, IsBuiltFrom, auto_of}
 use Rattle.ps_automaton.specs.Autos.{Auto, IsAutoOf, greatest_of_laps, state_after, state_behind}
 use Rattle.ps_automaton.specs.Chains.{Chain, chain_of, is_even}
-use Rattle.ps_automaton.proofs.Accepting.{laps_decide}
+use Rattle.ps_automaton.proofs.AdmittedFiles.Accepting.{laps_decide}
 use Rattle.ps_circuit.specs.Circuits.{CircuitData, IsCircuit}
 use Rattle.ps_circuit.specs.Values.{HasOneValues}
 use Rattle.ps_game.specs.Games.{IsGame}
@@ -22,7 +22,7 @@ use Rattle.ps_product.specs.Products.{IsProductOf, ProductData}
 use Rattle.ps_simulate.specs.Symbols.{HasSymbols}
 use Rattle.ps_simulate.specs.declared.role.Role.{Role}
 use Rattle.ps_simulate.specs.declared.role.Role.TheVariants.{Controller, Environment}
-use Rattle.ps_simulate.proofs.LassoLemmas.{few_letters, length_letters}
+use Rattle.ps_simulate.proofs.LapsOfRuns.LassoLemmas.{few_letters, length_letters}
 use Rattle.ps_traces.specs.Shapes.{IsInTimeWhereReached}
 use Rattle.ps_traces.specs.Traces.{IsLassoWord, AllAccepted, NoneAccepted}
 use Rattle.ps_verify.specs.Inner.Readings.{IsToldOf}

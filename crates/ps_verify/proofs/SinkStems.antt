@@ -16,7 +16,7 @@ use Rattle.ps_automaton.specs.Automata.{AutomatonData, IsBuiltFrom, auto_of}
 use Rattle.ps_automaton.specs.Autos.{Auto, IsAutoOf, greatest_from, priority_at, state_at, state_behind}
 use Rattle.ps_automaton.specs.Chains.{Chain, chain_of, is_even}
 use Rattle.ps_automaton.specs.Words.{Repeats, lasso_word}
-use Rattle.ps_automaton.proofs.Orbits.{any_return_decides, list_is_read}
+use Rattle.ps_automaton.proofs.AdmittedFiles.Orbits.{any_return_decides, list_is_read}
 use Rattle.ps_circuit.specs.Circuits.{CircuitData, IsCircuit}
 use Rattle.ps_circuit.specs.Values.{GoesOn, HasOneValues, Moment, bit_of}
 use Rattle.ps_machine.specs.declared.key.Order.{Order}
@@ -28,7 +28,7 @@ use Rattle.ps_simulate.specs.Stimuli.{StimulusData}
 use Rattle.ps_simulate.specs.Symbols.{HasSymbols}
 use Rattle.ps_simulate.specs.declared.role.Role.{Role}
 use Rattle.ps_simulate.specs.declared.role.Role.TheVariants.{Controller, Environment}
-use Rattle.ps_simulate.proofs.LassoLemmas.{few_letters, length_letters}
+use Rattle.ps_simulate.proofs.LapsOfRuns.LassoLemmas.{few_letters, length_letters}
 use Rattle.ps_simulate.proofs.NamingLemmas.{names_differ}
 use Rattle.ps_simulate.proofs.UniqueVerdicts.OneLetter.{one_letters}
 use Rattle.ps_simulate.proofs.UniqueVerdicts.OneTrace.{firsts_agree}

@@ -12,7 +12,7 @@ use Rattle.ps_simulate.specs.Lassos.{AreLetters, IsLetterOf}
 use Rattle.ps_simulate.specs.Stimuli.{StimulusData}
 use Rattle.ps_simulate.specs.Symbols.{HasSymbols}
 use Rattle.ps_simulate.specs.declared.role.Role.{Role}
-use Rattle.ps_simulate.proofs.LassoLemmas.{AreLetters-append, GoesOn-append, length_letters}
+use Rattle.ps_simulate.proofs.LapsOfRuns.LassoLemmas.{AreLetters-append, GoesOn-append, length_letters}
 use Rattle.ps_simulate.proofs.UniqueVerdicts.OneLetter.{one_letters}
 use Rattle.ps_simulate.proofs.UniqueVerdicts.OneTrace.{firsts_agree}
 use Rattle.ps_traces.specs.Inputs.{inputs_of}

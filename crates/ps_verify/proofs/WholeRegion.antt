@@ -8,7 +8,7 @@ use Rattle.std.proofs.Common.{◌≡◌, ℕ, ◌+◌, ◌<◌, ◌⊎◌, inl, 
 use Rattle.std.proofs.Common.{Bool, true, ◌∙◌, refl, arith, rules}
 use Rattle.std.proofs.lemmas.Bool.{cases_eq, cases_lt}
 use Rattle.std.proofs.lemmas.List.{get_or_append_left, get_or_push, get_or_default, length_push}
-use Rattle.ps_automaton.proofs.Deciding.{some_or_none}
+use Rattle.ps_automaton.proofs.AdmittedFiles.Deciding.{some_or_none}
 use Rattle.ps_game.specs.Games.{ParityGame, IsGame, HasEdge, owner_of, priority_of, vertex_count}
 use Rattle.ps_game.specs.Plays.{other_player}
 use Rattle.ps_game.specs.Ranking.{RemainsWithin}

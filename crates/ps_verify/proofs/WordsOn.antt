@@ -12,7 +12,7 @@ use Rattle.ps_circuit.specs.Values.{Moment, GoesOn, Steps, resets}
 use Rattle.ps_simulate.specs.Lassos.{AreLetters, IsWordOf, laps_of, latches_along}
 use Rattle.ps_simulate.specs.Stimuli.{StimulusData}
 use Rattle.ps_simulate.specs.Words.{TraceWordData}
-use Rattle.ps_simulate.proofs.LassoLemmas.{length_trace}
+use Rattle.ps_simulate.proofs.LapsOfRuns.LassoLemmas.{length_trace}
 use Rattle.ps_traces.specs.Inputs.{GoesOnInLasso, inputs_of}
 use Rattle.ps_verify.specs.Stimulated.{IsWordOn, input_at}
 use Rattle.ps_verify.proofs.Unrolled.{laps, laps_together, length_laps, realigned}

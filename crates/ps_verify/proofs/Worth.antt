@@ -18,7 +18,7 @@ use Rattle.ps_simulate.specs.Stimuli.{StimulusData}
 use Rattle.ps_simulate.specs.Symbols.{HasSymbols}
 use Rattle.ps_simulate.specs.declared.role.Role.{Role}
 use Rattle.ps_simulate.specs.declared.role.Role.TheVariants.{Controller, Environment}
-use Rattle.ps_simulate.proofs.LassoLemmas.{few_letters, length_letters}
+use Rattle.ps_simulate.proofs.LapsOfRuns.LassoLemmas.{few_letters, length_letters}
 use Rattle.ps_traces.specs.Inputs.{inputs_of}
 use Rattle.ps_traces.specs.Shapes.{IsInTimeWhereReached}
 use Rattle.ps_traces.specs.Traces.{IsLassoWord, AllAccepted, NoneAccepted}

@@ -1,6 +1,6 @@
 use Rattle.std.proofs.Common.{subst}
 use Rattle.ps_hoa.specs.Sound.{AreNames}
-use Rattle.ps_product.proofs.GroupLemmas.{ok_map}
+use Rattle.ps_product.proofs.CircuitFunctions.GroupLemmas.{ok_map}
 use Rattle.ps_verify.proofs.PartJudgements.{err_map, judged_alike, refused_alike}
 use Rattle.ps_verify.proofs.verifying.verified.Goals as goal
 
