@@ -1,7 +1,7 @@
 use Rattle.std.proofs.Common.{arith, ℕ, ◌<◌, length, get_or}
 use Rattle.std.proofs.lemmas.Grind.{elements}
 use Rattle.std.proofs.lemmas.Option.{slice_get-get_or}
-use Rattle.ps_simulate.proofs.PlacesLemmas.{gate_known, sides_known}
+use Rattle.ps_simulate.proofs.EvaluationPlans.PlacesLemmas.{gate_known, sides_known}
 use Rattle.ps_shrink.proofs.sketch.gates_of.Goals as goal
 use Rattle.ps_shrink.proofs.sketch.gates_of.Goals.{After-order-order}
 

@@ -1,4 +1,4 @@
-use Rattle.ps_simulate.proofs.PlacesLemmas.{next_known}
+use Rattle.ps_simulate.proofs.EvaluationPlans.PlacesLemmas.{next_known}
 use Rattle.ps_shrink.proofs.sketch.latches_of.Goals as goal
 
 pub wire-requires : goal.wire-requires
