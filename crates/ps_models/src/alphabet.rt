@@ -7,6 +7,7 @@ ghost use Rattle.ps_models.specs.Inner.Joining.{IsJointPlan};
 
 use crate::composed::Composed;
 use crate::joining::JointPlan;
+use crate::meetings::{Meetings, copy_of};
 use ps_diagram::{Node, Store};
 use std::alloc::{AllocError, Global};
 
@@ -22,6 +23,8 @@ pub(crate) struct Alphabet {
     pub guards: Composed,
     /// Those of the steps of the automaton's states.
     pub steps: Composed,
+    /// What was found of guards and states.
+    pub meetings: Meetings,
 }
 
 impl Alphabet {
@@ -37,16 +40,42 @@ impl Alphabet {
         let own = nodes_at(plan.alloc, &whole, plan.places)?;
         let guards = Composed::new(plan.alloc, whole);
         let steps = Composed::new(plan.alloc, own);
+        let meetings = Meetings::new(plan.alloc);
         Ok(Alphabet {
             store,
             guards,
             steps,
+            meetings,
         })
     }
 
-    /// The leaves of the diagram of a state's steps at letters for which a guard serves, each with such a letter. Fails
-    /// if out of memory.
+    /// The leaves of the diagram of a state's steps at letters for which a guard serves, each with such a letter. They
+    /// are found once for each guard and state. Fails if out of memory.
     pub(crate) fn met(
+        &mut self,
+        plan: JointPlan,
+        guards: &Store,
+        guard: Node,
+        own: u32,
+    ) -> Result<Vec<(u64, u64)>, AllocError>
+        requires alphabet { IsAlphabet plan guards.now self.old }
+        requires guard { IsNode guards.now guard }
+        requires own { own ≤ plan.automaton.now.states }
+        ensures alphabet { OnOk result (IsAlphabet plan.entry guards.now self.new) }
+        ensures met { IfOk result (λ found. AreMet (2 ^ plan.entry.count) plan.entry.places.now
+            plan.entry.automaton.now own guards.now guard found.items) }
+    {
+        if let Some(found) = self.meetings.get(plan.alloc, guard, own)? {
+            return Ok(found);
+        }
+        let found = self.met_anew(plan, guards, guard, own)?;
+        let copy = copy_of(plan.alloc, &found)?;
+        self.meetings.add(guard, own, copy)?;
+        Ok(found)
+    }
+
+    /// As `met`, not kept.
+    fn met_anew(
         &mut self,
         plan: JointPlan,
         guards: &Store,

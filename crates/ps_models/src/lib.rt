@@ -37,6 +37,7 @@ mod graph;
 mod joining;
 mod joint;
 pub mod laws;
+mod meetings;
 mod plan;
 mod readings;
 mod satisfying;

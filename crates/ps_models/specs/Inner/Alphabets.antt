@@ -1,6 +1,7 @@
 -- Diagrams of propositions over the letters of a formula, by which an automaton reads these letters.
 use Rattle.std.specs.Prelude.{◌≡◌, ℕ, ◌<◌, All, List, Some, false, if◌then◌else◌, is_some, length, nat_lt}
-use Rattle.std.specs.Prelude.{slice_get, slice_index, true}
+use Rattle.std.specs.Prelude.{Vec, ◌^◌, slice_get, slice_index, true}
+use Rattle.std.specs.Global.{Global}
 use Rattle.ps_automaton.specs.Automata.{AutomatonData, node_of}
 use Rattle.ps_diagram.specs.Table.{IsNode, Table, leaf_of}
 use Rattle.ps_label.specs.Truth.{is_in}
@@ -8,6 +9,7 @@ use Rattle.ps_models.specs.Inner.Composing.{AreComposed}
 use Rattle.ps_models.specs.Inner.Joints.{read_by}
 use Rattle.ps_models.specs.declared.alphabet.Alphabet.{Alphabet}
 use Rattle.ps_models.specs.declared.joining.JointPlan.{JointPlan}
+use Rattle.ps_models.specs.declared.meetings.Meetings.{Meetings}
 
 -- the node has a leaf at the letters in which a proposition below `count` is true, and none if it is not below
 abbrev pub IsBitNode : (t : Table) → (count p node : ℕ) → Type 0
@@ -26,14 +28,6 @@ pub record ArePlaceNodes (t : Table) (places nodes : List ℕ) : Type 0 where
   pub each : (k letter : ℕ) → k < length places →
       is_some (leaf_of t (slice_index nodes k) letter) ≡ is_in (slice_index places k) letter
 
--- the diagrams of the propositions, and those of some guards and of some of the automaton's states
-pub record IsAlphabet (plan : JointPlan) (guards : Table) (a : Alphabet) : Type 0 where
-  pub propositions : a.store.propositions ≡ plan.count
-  pub whole : AreBitNodes a.store plan.count a.guards.truths.items
-  pub own : ArePlaceNodes a.store plan.places.now a.steps.truths.items
-  pub of_guards : AreComposed a.store guards a.guards
-  pub of_steps : AreComposed a.store plan.automaton.now.store a.steps
-
 -- the steps of the automaton from a state at letters for which a guard serves: each leaf with such a letter
 pub record AreMet (few : ℕ) (places : List ℕ) (a : AutomatonData) (q : ℕ) (guards : Table) (guard : ℕ)
     (found : List (ℕ × ℕ)) : Type 0 where
@@ -43,3 +37,27 @@ pub record AreMet (few : ℕ) (places : List ℕ) (a : AutomatonData) (q : ℕ) 
   pub whole : (letter : ℕ) → letter < few → is_some (leaf_of guards guard letter) ≡ true →
       (k : ℕ) × (leaf : ℕ) × (least : ℕ) × (slice_get found k ≡ Some (leaf, least)) ×
       (leaf_of a.store (node_of a q) (read_by places letter) ≡ Some leaf)
+
+-- what was found for each pair of a guard and a state
+pub record AreMeetings (few : ℕ) (places : List ℕ) (a : AutomatonData) (guards : Table) (m : Meetings) : Type 0 where
+  pub count : length m.pairs ≡ length m.found.items
+  pub held : (place : ℕ) (pair : ℕ × ℕ) → slice_get m.pairs place ≡ Some pair → IsNode guards pair.0
+  pub each : (place : ℕ) (pair : ℕ × ℕ) (found : Vec (ℕ × ℕ) Global) → slice_get m.pairs place ≡ Some pair →
+      slice_get m.found.items place ≡ Some found → AreMet few places a pair.1 guards pair.0 found.items
+
+-- the list was found for a pair
+pub record HasFound (m : Meetings) (guard own : ℕ) (list : List (ℕ × ℕ)) : Type 0 where
+  pub place : ℕ
+  pub found : Vec (ℕ × ℕ) Global
+  pub there : slice_get m.pairs place ≡ Some (guard, own)
+  pub at : slice_get m.found.items place ≡ Some found
+  pub is : found.items ≡ list
+
+-- the diagrams of the propositions, and those of some guards and of some of the automaton's states
+pub record IsAlphabet (plan : JointPlan) (guards : Table) (a : Alphabet) : Type 0 where
+  pub propositions : a.store.propositions ≡ plan.count
+  pub whole : AreBitNodes a.store plan.count a.guards.truths.items
+  pub own : ArePlaceNodes a.store plan.places.now a.steps.truths.items
+  pub of_guards : AreComposed a.store guards a.guards
+  pub of_steps : AreComposed a.store plan.automaton.now.store a.steps
+  pub of_pairs : AreMeetings (2 ^ plan.count) plan.places.now plan.automaton.now guards a.meetings

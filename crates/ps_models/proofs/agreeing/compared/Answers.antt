@@ -1,4 +1,4 @@
-use Rattle.ps_product.proofs.GroupLemmas.{ok_map}
+use Rattle.ps_product.proofs.CircuitFunctions.GroupLemmas.{ok_map}
 use Rattle.ps_models.proofs.agreeing.compared.Goals as goal
 
 pub returns-in-Some : goal.returns-in-Some

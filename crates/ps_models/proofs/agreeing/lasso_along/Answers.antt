@@ -2,8 +2,8 @@ use Rattle.std.proofs.Common.{ap, arith, get_or, map, subst, ◌∙◌, ℕ}
 use Rattle.ps_fairness.specs.Marks.{Leads}
 use Rattle.ps_fairness.specs.declared.edge.Edge.{Edge}
 use Rattle.ps_models.specs.Inner.JointGraphs.{capped_graph, joint_graph, letter_along}
-use Rattle.ps_models.proofs.JointReadings.{capped_slots, joint_slots}
-use Rattle.ps_models.proofs.JointWalks.{first_on}
+use Rattle.ps_models.proofs.JointProducts.JointReadings.{capped_slots, joint_slots}
+use Rattle.ps_models.proofs.JointProducts.JointWalks.{first_on}
 use Rattle.ps_models.proofs.agreeing.lasso_along.Goals as goal
 
 abbrev no_edge : Edge

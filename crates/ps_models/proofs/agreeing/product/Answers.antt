@@ -1,4 +1,4 @@
-use Rattle.ps_product.proofs.GroupLemmas.{ok_map}
+use Rattle.ps_product.proofs.CircuitFunctions.GroupLemmas.{ok_map}
 use Rattle.ps_models.proofs.agreeing.product.Goals as goal
 
 pub returns : goal.returns

@@ -1,7 +1,7 @@
 use Rattle.std.proofs.Common.{arith, subst, sym, ◌<◌, ℕ}
-use Rattle.ps_diagram.proofs.KnownLemmas.{keeps_trans}
+use Rattle.ps_diagram.proofs.NodeTables.KnownLemmas.{keeps_trans}
 use Rattle.ps_models.specs.Inner.Alphabets.{AreBitNodes, IsBitNode}
-use Rattle.ps_models.proofs.AlphabetLemmas.{bits_kept, bits_more, is_bit_node}
+use Rattle.ps_models.proofs.TableauStates.AlphabetLemmas.{bits_kept, bits_more, is_bit_node}
 use Rattle.ps_models.proofs.alphabet.proposition_nodes.Goals as goal
 
 pub returns-in_err-node-clause-keeps : goal.returns-in_err-node-clause-keeps

@@ -1,6 +1,6 @@
 use Rattle.std.proofs.Common.{arith, length, subst, sym}
 use Rattle.ps_models.specs.Inner.Alphabets.{AreBitNodes}
-use Rattle.ps_models.proofs.AlphabetLemmas.{bits_kept, bits_more, no_bit_node}
+use Rattle.ps_models.proofs.TableauStates.AlphabetLemmas.{bits_kept, bits_more, no_bit_node}
 use Rattle.ps_models.proofs.alphabet.whole_nodes.Goals as goal
 
 pub loop-none-init : goal.loop-none-init

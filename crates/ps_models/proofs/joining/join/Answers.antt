@@ -1,6 +1,6 @@
 use Rattle.std.proofs.Common.{ap, get_or, refl, subst}
 use Rattle.ps_automaton.specs.declared.step.Step.{Step}
-use Rattle.ps_models.proofs.JointAdds.{IsPlaced, joins_more, pair_placed}
+use Rattle.ps_models.proofs.JointProducts.JointAdds.{IsPlaced, joins_more, pair_placed}
 use Rattle.ps_models.proofs.joining.join.Goals as goal
 
 pub loop-leaf-preserved : goal.loop-leaf-preserved

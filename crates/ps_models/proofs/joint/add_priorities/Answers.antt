@@ -2,9 +2,9 @@ use Rattle.std.proofs.Common.{◌≡◌, Some, arith, inl, inr, subst, ◌∙◌
 use Rattle.std.specs.Prelude.{Contains, slice_get}
 use Rattle.std.proofs.lemmas.Bool.{cases_lt}
 use Rattle.std.proofs.lemmas.Option.{get_or_from_slice_get, slice_get_within}
-use Rattle.ps_product.proofs.WordNumbers.{grown_on}
+use Rattle.ps_product.proofs.ExploredProducts.WordNumbers.{grown_on}
 use Rattle.ps_models.specs.declared.joint.JointEdge.{JointEdge}
-use Rattle.ps_models.proofs.JointReadings.{contains_grown, number_placed}
+use Rattle.ps_models.proofs.JointProducts.JointReadings.{contains_grown, number_placed}
 use Rattle.ps_models.proofs.joint.add_priorities.Goals as goal
 
 pub loop-edge-preserved : goal.loop-edge-preserved

@@ -1,5 +1,5 @@
-use Rattle.ps_models.proofs.GraphLassos.{lasso_of_cycle}
-use Rattle.ps_models.proofs.WinningLemmas.{wins_without_cycle}
+use Rattle.ps_models.proofs.FairProducts.GraphLassos.{lasso_of_cycle}
+use Rattle.ps_models.proofs.JudgedCircuits.WinningLemmas.{wins_without_cycle}
 use Rattle.ps_models.specs.ProductGraphs.{edges_in}
 use Rattle.ps_models.specs.Products.{start_vertex}
 use Rattle.ps_models.proofs.laws.fair_cycle_decides.Goals as goal

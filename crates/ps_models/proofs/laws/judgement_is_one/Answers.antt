@@ -1,5 +1,5 @@
-use Rattle.ps_models.proofs.WinningLemmas.{wins_unrefuted}
-use Rattle.ps_models.proofs.Refuting.{apart}
+use Rattle.ps_models.proofs.JudgedCircuits.WinningLemmas.{wins_unrefuted}
+use Rattle.ps_models.proofs.JudgedCircuits.Refuting.{apart}
 use Rattle.ps_models.proofs.laws.judgement_is_one.Goals as goal
 
 pub returns : goal.returns

@@ -1,4 +1,4 @@
-use Rattle.ps_models.proofs.Refuting.{word_is_wrong}
+use Rattle.ps_models.proofs.JudgedCircuits.Refuting.{word_is_wrong}
 use Rattle.ps_models.proofs.laws.losing_word_is_wrong.Goals as goal
 
 pub returns : goal.returns

@@ -1,6 +1,6 @@
-use Rattle.ps_product.proofs.GroupLemmas.{ok_map}
+use Rattle.ps_product.proofs.CircuitFunctions.GroupLemmas.{ok_map}
 use Rattle.ps_models.specs.Sentences.{named_formula}
-use Rattle.ps_models.proofs.JudgingLemmas.{is_scene, judgement_of, product_of}
+use Rattle.ps_models.proofs.JudgedCircuits.JudgingLemmas.{is_scene, judgement_of, product_of}
 use Rattle.ps_models.proofs.satisfying.judged.Goals as goal
 
 pub product-requires-clause-plan : goal.product-requires-clause-plan

@@ -1,8 +1,9 @@
 use Rattle.std.proofs.Common.{◌≤◌, Vec, arith, length, subst, sym, ◌∙◌, ℕ}
 use Rattle.std.specs.Global.{Global}
 use Rattle.ps_models.specs.Inner.Alphabets.{AreBitNodes, ArePlaceNodes}
-use Rattle.ps_models.proofs.AlphabetLemmas.{alphabet_made}
-use Rattle.ps_models.proofs.ComposedLemmas.{composed_none}
+use Rattle.ps_models.proofs.TableauStates.AlphabetLemmas.{alphabet_made}
+use Rattle.ps_models.proofs.TableauStates.ComposedLemmas.{composed_none}
+use Rattle.ps_models.proofs.MeetingLemmas.{meetings_none}
 use Rattle.ps_models.proofs.alphabet.Alphabet.new.Goals as goal
 
 pub returns : goal.returns
@@ -31,4 +32,5 @@ returns c = λ guards many.
       own = own;
       of_guards = composed_none c.new-guards.result c.new-guards.ensures.known for_guards whole.held;
       of_steps = composed_none c.new-steps.result c.new-steps.ensures.known for_steps own.held;
+      of_pairs = meetings_none c.new-meetings.result c.new-meetings.ensures.pairs c.new-meetings.ensures.found;
     }

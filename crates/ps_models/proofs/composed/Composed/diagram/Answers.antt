@@ -1,7 +1,7 @@
 use Rattle.std.proofs.Common.{sym}
-use Rattle.ps_diagram.proofs.Cells.{keeps_refl}
+use Rattle.ps_diagram.proofs.NodeTables.Cells.{keeps_refl}
 use Rattle.ps_models.specs.Inner.Composing.{IsComposedNode}
-use Rattle.ps_models.proofs.ComposedLemmas.{composed_kept, composed_more, formed_before}
+use Rattle.ps_models.proofs.TableauStates.ComposedLemmas.{composed_kept, composed_more, formed_before}
 use Rattle.ps_models.proofs.composed.Composed.diagram.Goals as goal
 use Rattle.ps_models.proofs.composed.Composed.diagram.Goals.{In_ok-made}
 

@@ -2,7 +2,7 @@ use Rattle.std.proofs.Common.{◌≡◌, arith, length, rules, subst, ◌∙◌}
 use Rattle.ps_tableau.proofs.BoardLemmas.{grows_refl, grows_trans}
 use Rattle.ps_models.specs.Inner.Exploring.{IsExplored, draft_data}
 use Rattle.ps_models.specs.Inner.Plans.{scene_of}
-use Rattle.ps_models.proofs.AddLemmas.{on_ok}
+use Rattle.ps_models.proofs.FairProducts.AddLemmas.{on_ok}
 use Rattle.ps_models.proofs.exploring.Draft.explore_all.Goals as goal
 
 pub loop-vertex-init : goal.loop-vertex-init

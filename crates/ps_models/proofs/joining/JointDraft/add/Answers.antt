@@ -3,8 +3,8 @@ use Rattle.ps_diagram.specs.Table.{Table}
 use Rattle.ps_tableau.specs.declared.board.Board.{Board}
 use Rattle.ps_models.specs.Inner.Alphabets.{AreMet, IsAlphabet}
 use Rattle.ps_models.specs.Inner.Joining.{JointDraftData, joint_draft, pairing_of, visited}
-use Rattle.ps_models.proofs.AddLemmas.{on_any, on_ok}
-use Rattle.ps_models.proofs.JointAdds.{adds_joint, adds_no_joint}
+use Rattle.ps_models.proofs.FairProducts.AddLemmas.{on_any, on_ok}
+use Rattle.ps_models.proofs.JointProducts.JointAdds.{adds_joint, adds_no_joint}
 use Rattle.ps_models.proofs.joining.JointDraft.add.Goals as goal
 use Rattle.ps_models.proofs.joining.JointDraft.add.Goals.{In_ok-met}
 

@@ -1,7 +1,7 @@
 use Rattle.std.proofs.Common.{◌≡◌, arith, length, subst}
 use Rattle.ps_tableau.proofs.BoardLemmas.{grows_refl, grows_trans}
 use Rattle.ps_models.specs.Inner.Joining.{IsJointExplored, joint_draft, pairing_of}
-use Rattle.ps_models.proofs.AddLemmas.{on_ok}
+use Rattle.ps_models.proofs.FairProducts.AddLemmas.{on_ok}
 use Rattle.ps_models.proofs.joining.JointDraft.explore_all.Goals as goal
 
 pub loop-vertex-init : goal.loop-vertex-init

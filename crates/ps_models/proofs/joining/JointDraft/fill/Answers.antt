@@ -3,9 +3,9 @@ use Rattle.std.specs.Global.{Global}
 use Rattle.std.proofs.lemmas.List.{length-map}
 use Rattle.ps_tableau.specs.declared.edge.Edge.{Edge}
 use Rattle.ps_models.specs.Inner.Joining.{pairing_of}
-use Rattle.ps_models.proofs.AddLemmas.{on_ok, on_ok_two}
-use Rattle.ps_models.proofs.JointDrafts.{pair_steady}
-use Rattle.ps_models.proofs.Drafts.{states_reached}
+use Rattle.ps_models.proofs.FairProducts.AddLemmas.{on_ok, on_ok_two}
+use Rattle.ps_models.proofs.JointProducts.JointDrafts.{pair_steady}
+use Rattle.ps_models.proofs.FairProducts.Drafts.{states_reached}
 use Rattle.ps_models.proofs.joining.JointDraft.fill.Goals as goal
 
 pub returns-clause-full : goal.returns-clause-full

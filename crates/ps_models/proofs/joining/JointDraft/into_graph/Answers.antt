@@ -3,7 +3,7 @@ use Rattle.ps_automaton.specs.Automata.{auto_of}
 use Rattle.ps_models.specs.Inner.JointGraphs.{IsJointOf, JointData}
 use Rattle.ps_models.specs.Inner.Joining.{pairing_of}
 use Rattle.ps_models.specs.Inner.Joints.{read_by}
-use Rattle.ps_models.proofs.JointMade.{joint_made, joint_stored}
+use Rattle.ps_models.proofs.JointProducts.JointMade.{joint_made, joint_stored}
 use Rattle.ps_models.proofs.joining.JointDraft.into_graph.Goals as goal
 
 pub new-requires : goal.new-requires

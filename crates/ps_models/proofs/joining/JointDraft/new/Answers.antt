@@ -3,8 +3,8 @@ use Rattle.std.specs.Global.{Global}
 use Rattle.ps_tableau.specs.declared.board.Board.{Board}
 use Rattle.ps_models.specs.Inner.Joining.{pairing_of}
 use Rattle.ps_models.specs.declared.joint.JointEdge.{JointEdge}
-use Rattle.ps_models.proofs.JointAdds.{first_placed}
-use Rattle.ps_models.proofs.JointDrafts.{joint_first}
+use Rattle.ps_models.proofs.JointProducts.JointAdds.{first_placed}
+use Rattle.ps_models.proofs.JointProducts.JointDrafts.{joint_first}
 use Rattle.ps_models.proofs.joining.JointDraft.new.Goals as goal
 
 pub returns-clause-explored : goal.returns-clause-explored

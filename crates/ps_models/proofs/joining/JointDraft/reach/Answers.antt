@@ -1,7 +1,7 @@
 use Rattle.ps_models.specs.Inner.Joining.{pairing_of}
-use Rattle.ps_models.proofs.AddLemmas.{on_ok}
-use Rattle.ps_models.proofs.JointDrafts.{pair_steady}
-use Rattle.ps_models.proofs.Drafts.{states_reached}
+use Rattle.ps_models.proofs.FairProducts.AddLemmas.{on_ok}
+use Rattle.ps_models.proofs.JointProducts.JointDrafts.{pair_steady}
+use Rattle.ps_models.proofs.FairProducts.Drafts.{states_reached}
 use Rattle.ps_models.proofs.joining.JointDraft.reach.Goals as goal
 
 pub returns-clause-explored : goal.returns-clause-explored

@@ -7,7 +7,7 @@ use Rattle.ps_tableau.specs.declared.edge.Edge.{Edge}
 use Rattle.ps_models.specs.BoardStates.{edges_of_state}
 use Rattle.ps_models.specs.Inner.Joining.{IsJointMadeUpTo, joint_draft, pairing_of, visited}
 use Rattle.ps_models.specs.declared.joint.JointEdge.{JointEdge}
-use Rattle.ps_models.proofs.JointDrafts.{joint_made_more, joint_made_none}
+use Rattle.ps_models.proofs.JointProducts.JointDrafts.{joint_made_more, joint_made_none}
 use Rattle.ps_models.proofs.joining.JointDraft.row_of.Goals as goal
 
 pub loop-k-init : goal.loop-k-init

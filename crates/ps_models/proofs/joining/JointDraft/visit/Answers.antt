@@ -3,9 +3,9 @@ use Rattle.std.specs.Global.{Global}
 use Rattle.std.proofs.lemmas.List.{map-append}
 use Rattle.ps_models.specs.Inner.Joining.{pairing_of}
 use Rattle.ps_models.specs.declared.joint.JointEdge.{JointEdge}
-use Rattle.ps_models.proofs.AlphabetLemmas.{alphabet_grown}
-use Rattle.ps_models.proofs.Drafts.{explored_more}
-use Rattle.ps_models.proofs.JointDrafts.{pair_steady}
+use Rattle.ps_models.proofs.TableauStates.AlphabetLemmas.{alphabet_grown}
+use Rattle.ps_models.proofs.FairProducts.Drafts.{explored_more}
+use Rattle.ps_models.proofs.JointProducts.JointDrafts.{pair_steady}
 use Rattle.ps_models.proofs.joining.JointDraft.visit.Goals as goal
 
 pub row-requires-clause-alphabet : goal.row-requires-clause-alphabet

@@ -1,7 +1,7 @@
 use Rattle.std.proofs.Common.{subst, sym}
 use Rattle.ps_tableau.specs.Boards.{IsTableauOf}
 use Rattle.ps_tableau.specs.declared.board.Board.{Board}
-use Rattle.ps_models.proofs.StateLemmas.{tableau_of_kept}
+use Rattle.ps_models.proofs.TableauStates.StateLemmas.{tableau_of_kept}
 use Rattle.ps_models.proofs.joining.JointPlan.product.Goals as goal
 
 pub returns : goal.returns

@@ -1,5 +1,5 @@
 use Rattle.ps_models.specs.Inner.JointGraphs.{joint_product, no_vertex}
-use Rattle.ps_models.proofs.JointWalks.{uncapped_edge}
+use Rattle.ps_models.proofs.JointProducts.JointWalks.{uncapped_edge}
 use Rattle.ps_models.proofs.joint.CappedGraph.count.Goals as goal
 
 pub returns-clause-within : goal.returns-clause-within

@@ -7,7 +7,7 @@ use Rattle.ps_tableau.specs.Boards.{IsEdgeOf}
 use Rattle.ps_models.specs.Inner.Graphs.{is_postponed}
 use Rattle.ps_models.specs.Inner.JointGraphs.{JointData, joint_edge, joint_row, no_joint}
 use Rattle.ps_models.specs.declared.joint.JointEdge.{JointEdge}
-use Rattle.ps_models.proofs.GraphLemmas.{postponed_is}
+use Rattle.ps_models.proofs.FairProducts.GraphLemmas.{postponed_is}
 use Rattle.ps_models.proofs.joint.JointGraph.bears.Goals as goal
 use Rattle.ps_models.proofs.joint.JointGraph.bears.Goals.{After-postpones}
 

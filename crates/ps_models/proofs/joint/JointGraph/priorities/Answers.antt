@@ -7,7 +7,7 @@ use Rattle.std.proofs.lemmas.List.{get_or-map, get_or_past, length-map}
 use Rattle.std.proofs.lemmas.Option.{slice_get_within}
 use Rattle.ps_models.specs.Inner.JointGraphs.{JointData, joint_row}
 use Rattle.ps_models.specs.declared.joint.JointEdge.{JointEdge}
-use Rattle.ps_models.proofs.JointReadings.{contains_grown, row_inside}
+use Rattle.ps_models.proofs.JointProducts.JointReadings.{contains_grown, row_inside}
 use Rattle.ps_models.proofs.joint.JointGraph.priorities.Goals as goal
 
 pub loop-row-preserved : goal.loop-row-preserved

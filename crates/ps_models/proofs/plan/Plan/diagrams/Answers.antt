@@ -2,13 +2,13 @@ use Rattle.std.proofs.Common.{◌≡◌, ◌^◌, ◌<◌, ◌≤◌, ℕ, All, 
 use Rattle.std.proofs.lemmas.List.{length-map}
 use Rattle.ps_circuit.specs.Values.{Steps}
 use Rattle.ps_diagram.specs.Table.{Keeps}
-use Rattle.ps_diagram.proofs.KnownLemmas.{keeps_trans}
+use Rattle.ps_diagram.proofs.NodeTables.KnownLemmas.{keeps_trans}
 use Rattle.ps_hoa.specs.Memory.{bytes_of}
 use Rattle.ps_product.specs.Truths.{IsTruth, bits_at, bits_of}
-use Rattle.ps_product.proofs.GroupLemmas.{bits_same}
-use Rattle.ps_product.proofs.TruthNodes.{truths_kept}
+use Rattle.ps_product.proofs.CircuitFunctions.GroupLemmas.{bits_same}
+use Rattle.ps_product.proofs.CircuitFunctions.TruthNodes.{truths_kept}
 use Rattle.ps_models.specs.Inner.Views.{ArePadded}
-use Rattle.ps_models.proofs.ViewLemmas.{are_views, padded_kept, tell_made}
+use Rattle.ps_models.proofs.TableauStates.ViewLemmas.{are_views, padded_kept, tell_made}
 use Rattle.ps_models.proofs.plan.Plan.diagrams.Goals as goal
 
 pub grouped-requires-clause-truths : goal.grouped-requires-clause-truths

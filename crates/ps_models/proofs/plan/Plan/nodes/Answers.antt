@@ -3,8 +3,8 @@ use Rattle.std.specs.Prelude.{is_some}
 use Rattle.std.proofs.lemmas.List.{length-map}
 use Rattle.ps_hoa.specs.Memory.{bytes_of}
 use Rattle.ps_product.specs.Groups.{StandFor}
-use Rattle.ps_product.proofs.TruthNodes.{stand_kept, truths_kept}
-use Rattle.ps_models.proofs.ViewLemmas.{padding_done, padding_first, padding_more}
+use Rattle.ps_product.proofs.CircuitFunctions.TruthNodes.{stand_kept, truths_kept}
+use Rattle.ps_models.proofs.TableauStates.ViewLemmas.{padding_done, padding_first, padding_more}
 use Rattle.ps_models.proofs.plan.Plan.nodes.Goals as goal
 
 pub loop-none-init : goal.loop-none-init

@@ -1,5 +1,5 @@
 use Rattle.std.proofs.Common.{◌-◌, length}
-use Rattle.ps_models.proofs.ViewLemmas.{Padding}
+use Rattle.ps_models.proofs.TableauStates.ViewLemmas.{Padding}
 use Rattle.ps_models.proofs.plan.Plan.nodes.Given as goal
 
 abbrev pub invariant-loop-none : goal.invariant-loop-none

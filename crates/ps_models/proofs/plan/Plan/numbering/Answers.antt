@@ -4,7 +4,7 @@ use Rattle.ps_product.specs.Products.{ProductVertex}
 use Rattle.ps_product.specs.Vertices.{product_vertex}
 use Rattle.ps_models.specs.Inner.Exploring.{first_of}
 use Rattle.ps_models.specs.Inner.Plans.{scene_of}
-use Rattle.ps_models.proofs.DraftLemmas.{only_first}
+use Rattle.ps_models.proofs.FairProducts.DraftLemmas.{only_first}
 use Rattle.ps_models.proofs.plan.Plan.numbering.Goals as goal
 
 pub returns : goal.returns

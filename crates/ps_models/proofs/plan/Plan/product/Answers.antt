@@ -1,8 +1,8 @@
 use Rattle.std.proofs.Common.{subst, sym}
-use Rattle.ps_product.proofs.GroupLemmas.{ok_map}
+use Rattle.ps_product.proofs.CircuitFunctions.GroupLemmas.{ok_map}
 use Rattle.ps_tableau.specs.Boards.{IsTableauOf}
 use Rattle.ps_tableau.specs.declared.board.Board.{Board}
-use Rattle.ps_models.proofs.StateLemmas.{tableau_of_kept}
+use Rattle.ps_models.proofs.TableauStates.StateLemmas.{tableau_of_kept}
 use Rattle.ps_models.proofs.plan.Plan.product.Goals as goal
 
 pub returns : goal.returns

@@ -1,5 +1,5 @@
 use Rattle.std.proofs.Common.{sym, ◌∙◌}
-use Rattle.ps_product.proofs.TimingLemmas.{truths_are}
+use Rattle.ps_product.proofs.CircuitFunctions.TimingLemmas.{truths_are}
 use Rattle.ps_models.proofs.plan.Plan.view.Goals as goal
 
 pub diagrams-requires-clause-outputs : goal.diagrams-requires-clause-outputs

@@ -1,0 +1,7 @@
+-- The states of a tableau with their edges, and the diagrams of the letters that they read.
+
+pub mod AlphabetLemmas
+pub mod BoardTableaux
+pub mod ComposedLemmas
+pub mod StateLemmas
+pub mod ViewLemmas
