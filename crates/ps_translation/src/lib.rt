@@ -18,34 +18,22 @@
 //! (`owing`, `names`). Labels are written as short sums of products (`letters`, `cover`, `labels`, `text`).
 #![tactic(auto)]
 
-mod classes;
 mod column;
 mod components;
-mod cover;
 mod cycles;
 mod descent;
 mod diagrams;
 mod forms;
-mod labels;
-mod letters;
-mod loops;
 mod machine;
-mod names;
-mod nested;
-mod normal;
 mod owing;
 mod parity;
 mod part;
 mod product;
 mod progression;
 mod quotient;
-mod renumbering;
-mod shapes;
-mod sources;
 mod split;
 mod stop;
 mod text;
 mod translate;
-mod turns;
 
 pub use translate::{titled, translated};

@@ -6,12 +6,16 @@
 //! more often than the logarithm of the number of states (Hopcroft, "An n log n Algorithm for Minimizing States in a
 //! Finite Automaton", 1971).
 
-use crate::classes::Classes;
+pub mod classes;
+pub mod renumbering;
+pub mod sources;
+
 use crate::column::Column;
 use crate::diagrams::{Diagram, Diagrams};
 use crate::machine::Machine;
-use crate::renumbering::Renumbering;
-use crate::sources::{Sources, sources_of};
+use crate::quotient::classes::Classes;
+use crate::quotient::renumbering::Renumbering;
+use crate::quotient::sources::{Sources, sources_of};
 use crate::stop::{Stop, index};
 use ps_keys::{KeyList, KeyMap};
 use std::alloc::Global;

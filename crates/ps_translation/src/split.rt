@@ -3,12 +3,15 @@
 //! The formula is parted where its top is Boolean. Operands of a conjunction that are safeties make one part, as do
 //! those that are guarantees, and those of the form `G F f`; a disjunction is parted as the negation of a conjunction.
 
+pub mod normal;
+pub mod shapes;
+
 use crate::diagrams::{self, Diagram};
 use crate::forms::{FALSE, Form, TRUE};
-use crate::normal::normalised;
 use crate::part::{Kind, Part};
 use crate::progression::Progression;
-use crate::shapes::Shapes;
+use crate::split::normal::normalised;
+use crate::split::shapes::Shapes;
 use crate::stop::{Stop, index};
 use ps_formula::NormalNode;
 use ps_keys::KeyMap;

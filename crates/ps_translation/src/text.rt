@@ -1,13 +1,18 @@
 //! Automata as texts in the Hanoi Omega-Automata format, version v1, with `controllable-AP:`.
 
+pub mod cover;
+pub mod labels;
+pub mod letters;
+pub mod names;
+
 use crate::diagrams::{Diagram, Diagrams};
-use crate::labels::Labels;
-use crate::letters::{Letters, Way};
 use crate::machine::Arc;
-use crate::names::Names;
 use crate::parity::Parity;
 use crate::progression::Progression;
 use crate::stop::{Stop, index};
+use crate::text::labels::Labels;
+use crate::text::letters::{Letters, Way};
+use crate::text::names::Names;
 use crate::translate::Made;
 use ps_tlsf::{Proposition, Side};
 use std::alloc::Global;

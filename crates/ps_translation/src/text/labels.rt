@@ -1,8 +1,8 @@
 //! The labels of edges, as texts.
 
-use crate::cover::{Product, cover};
 use crate::diagrams::{Diagram, Diagrams, PROPOSITIONS};
 use crate::stop::Stop;
+use crate::text::cover::{Product, cover};
 use ps_keys::KeyMap;
 use std::alloc::Global;
 
