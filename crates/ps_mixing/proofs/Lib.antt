@@ -1,14 +1,12 @@
-pub mod MovedLetters
-pub mod RenamedLabels
+pub mod MovedPropositions
+pub mod Renamings
+pub mod LabelledEdges
+pub mod MixedParts
 pub mod MixedSteps
 pub mod MixedWords
 pub mod MixedAutos
 pub mod MixedAnswers
-pub mod MovedLists
 pub mod MixedSound
-pub mod GameLetters
-pub mod MovedSums
-pub mod OwnedLists
 pub mod MixedLetters
 pub mod MixedClasses
 pub mod MixedSuccessors
@@ -19,6 +17,3 @@ pub mod MixedMachines
 pub mod MixedFileMachines
 pub mod MixedMachineParts
 pub mod MixedCircuits
-pub mod MixedWinners
-pub mod MergedOrders
-pub mod OrderMixings

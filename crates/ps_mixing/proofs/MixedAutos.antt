@@ -9,7 +9,7 @@ use Rattle.ps_mixing.specs.MixedAutos.{mixed_auto}
 use Rattle.ps_mixing.specs.MixedFiles.{IsMixingOf, mixed_file}
 use Rattle.ps_mixing.specs.Mixings.{Mixing, inverse, moved}
 use Rattle.ps_mixing.proofs.MixedSteps.{names_count, steps_back, steps_there}
-use Rattle.ps_mixing.proofs.MovedLetters.{inverse_is, moved_back, moved_forth, moved_within}
+use Rattle.ps_mixing.proofs.MovedPropositions.MovedLetters.{inverse_is, moved_back, moved_forth, moved_within}
 
 -- two files with the same states, each of which takes the edges of the other at moved letters
 module _ (file other : FileData) (n : ℕ) (to from : ℕ → ℕ) (start : other.start ≡ file.start)

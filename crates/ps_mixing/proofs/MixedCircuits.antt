@@ -19,8 +19,8 @@ use Rattle.ps_machine.specs.Behaviours.{Behaviour}
 use Rattle.ps_mixing.specs.MixedBoards.{mixed_machine}
 use Rattle.ps_mixing.specs.Mixings.{Mixing, IsMixing, moved}
 use Rattle.ps_mixing.proofs.MixedMachineParts.{name_at}
-use Rattle.ps_mixing.proofs.MovedLetters.{from_beyond, moved_back, moved_bit, renamed_bit, same_bits}
-use Rattle.ps_mixing.proofs.MovedLists.{test_moved}
+use Rattle.ps_mixing.proofs.MovedPropositions.MovedLetters.{from_beyond, moved_back, moved_bit, renamed_bit, same_bits}
+use Rattle.ps_mixing.proofs.MovedPropositions.MovedLists.{test_moved}
 
 sym_test : (a b : ℕ) → nat_eq a b ≡ nat_eq b a
 sym_test a b = elim (cases_eq a b) [

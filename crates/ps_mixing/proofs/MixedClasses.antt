@@ -10,7 +10,7 @@ use Rattle.ps_mixing.specs.MixedBoards.{mixed_board}
 use Rattle.ps_mixing.specs.Mixings.{Mixing, inverse, moved}
 use Rattle.ps_mixing.proofs.MixedLetters.{IsBoardMixing, before_first, before_second, first_moved}
 use Rattle.ps_mixing.proofs.MixedLetters.{second_moved, step_moved, sum_moved, unmixed}
-use Rattle.ps_mixing.proofs.MovedLetters.{inverse_is, moved_back, moved_forth}
+use Rattle.ps_mixing.proofs.MovedPropositions.MovedLetters.{inverse_is, moved_back, moved_forth}
 
 module _ (board : Board) (mixing : Mixing) (is : IsBoardMixing board mixing) where
   abbrev mv : ℕ → ℕ

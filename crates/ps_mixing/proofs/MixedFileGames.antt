@@ -23,8 +23,8 @@ use Rattle.ps_mixing.proofs.MixedGames.{game_moved}
 use Rattle.ps_mixing.proofs.MixedLetters.{IsBoardMixing, auto_unmixed, unmixed}
 use Rattle.ps_mixing.proofs.MixedNames.{names_moved}
 use Rattle.ps_mixing.proofs.MixedSteps.{names_count}
-use Rattle.ps_mixing.proofs.MovedLetters.{inverse_is}
-use Rattle.ps_mixing.proofs.MovedLists.{among_moved, not_same}
+use Rattle.ps_mixing.proofs.MovedPropositions.MovedLetters.{inverse_is}
+use Rattle.ps_mixing.proofs.MovedPropositions.MovedLists.{among_moved, not_same}
 
 -- ## Owners
 

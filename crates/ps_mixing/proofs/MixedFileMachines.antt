@@ -16,7 +16,7 @@ use Rattle.ps_mixing.specs.Mixings.{Mixing, inverse}
 use Rattle.ps_mixing.proofs.MixedFileGames.{auto_before, board_back, game_back, on_board}
 use Rattle.ps_mixing.proofs.MixedLetters.{IsBoardMixing, unmixed}
 use Rattle.ps_mixing.proofs.MixedMachines.{machine_moved}
-use Rattle.ps_mixing.proofs.MovedLetters.{inverse_is}
+use Rattle.ps_mixing.proofs.MovedPropositions.MovedLetters.{inverse_is}
 
 module _ (order : Order) (file : FileData) (mixing : Mixing) (is : IsMixingOf file mixing) (game : NamedGameData)
     (of : IsGameOfFile order (mixed_file mixing file) game) where

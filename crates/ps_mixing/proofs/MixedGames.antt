@@ -11,11 +11,11 @@ use Rattle.ps_machine.specs.declared.key.Key.{Key}
 use Rattle.ps_machine.specs.declared.key.Key.TheVariants.{First, Second}
 use Rattle.ps_mixing.specs.MixedBoards.{mixed_board, mixed_key, mixed_keys}
 use Rattle.ps_mixing.specs.Mixings.{Mixing, inverse}
-use Rattle.ps_mixing.proofs.GameLetters.{letter_of_key}
+use Rattle.ps_mixing.proofs.MovedPropositions.GameLetters.{letter_of_key}
 use Rattle.ps_mixing.proofs.MixedSuccessors.{IsKeyOf, leads_moved}
 use Rattle.ps_mixing.proofs.MixedLetters.{IsBoardMixing}
 use Rattle.ps_mixing.proofs.MixedSteps.{entry_there}
-use Rattle.ps_mixing.proofs.MovedLetters.{moved_back}
+use Rattle.ps_mixing.proofs.MovedPropositions.MovedLetters.{moved_back}
 
 zip_there : (f : Key → Key) (keys : List Key) (numbers : List ℕ) (next : List Key) →
     AllZip (StandsAt keys) numbers next → AllZip (StandsAt (map f keys)) numbers (map f next)

@@ -8,15 +8,15 @@ use Rattle.std.proofs.Math.Path.{fun_ext}
 use Rattle.std.proofs.lemmas.Bool.{cases_eq, cases_lt}
 use Rattle.ps_label.specs.Truth.{is_in}
 use Rattle.ps_diagram.specs.Letters.{IsBefore}
-use Rattle.ps_diagram.proofs.Cells.{bool_cases, true_is_not_false}
+use Rattle.ps_diagram.proofs.NodeTables.Cells.{bool_cases, true_is_not_false}
 use Rattle.ps_automaton.specs.Autos.{Auto}
 use Rattle.ps_machine.specs.Boards.{Board, IsFirstLetter, IsSecondLetter, SameStep}
 use Rattle.ps_mixing.specs.MixedAutos.{mixed_auto}
 use Rattle.ps_mixing.specs.MixedBoards.{mixed_board}
 use Rattle.ps_mixing.specs.Mixings.{Mixing, IsMixing, inverse, moved}
-use Rattle.ps_mixing.proofs.MovedLetters.{from_beyond, moved_back, moved_bit, moved_within}
-use Rattle.ps_mixing.proofs.MovedLetters.{renamed_bit, same_bits}
-use Rattle.ps_mixing.proofs.MovedSums.{sum_bit}
+use Rattle.ps_mixing.proofs.MovedPropositions.MovedLetters.{from_beyond, moved_back, moved_bit, moved_within}
+use Rattle.ps_mixing.proofs.MovedPropositions.MovedLetters.{renamed_bit, same_bits}
+use Rattle.ps_mixing.proofs.MovedPropositions.MovedSums.{sum_bit}
 
 pub auto_unmixed : {n : ℕ} {is_first : ℕ → Bool} {mixing : Mixing} → IsMixing n is_first mixing → (auto : Auto) →
     mixed_auto n (inverse mixing) (mixed_auto n mixing auto) ≡ auto

@@ -16,11 +16,11 @@ use Rattle.ps_machine.proofs.Uniqueness.Rising.{in_cons}
 use Rattle.ps_mixing.specs.MixedBoards.{mixed_board, mixed_machine}
 use Rattle.ps_mixing.specs.MixedFiles.{mixed_names}
 use Rattle.ps_mixing.specs.Mixings.{Mixing, IsMixing, inverse, moved}
-use Rattle.ps_mixing.proofs.MovedLists.{among_moved, not_same}
+use Rattle.ps_mixing.proofs.MovedPropositions.MovedLists.{among_moved, not_same}
 use Rattle.ps_mixing.proofs.MixedLetters.{IsBoardMixing}
 use Rattle.ps_mixing.proofs.MixedSteps.{names_count}
-use Rattle.ps_mixing.proofs.MovedLetters.{from_beyond, inverse_is, moved_bit, moved_within, to_within}
-use Rattle.ps_mixing.proofs.OwnedLists.{moved_rise}
+use Rattle.ps_mixing.proofs.MovedPropositions.MovedLetters.{from_beyond, inverse_is, moved_bit, moved_within, to_within}
+use Rattle.ps_mixing.proofs.MovedPropositions.OwnedLists.{moved_rise}
 
 -- ## Lists
 

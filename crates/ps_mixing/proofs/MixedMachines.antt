@@ -6,18 +6,20 @@ use Rattle.ps_diagram.specs.Letters.{IsBefore}
 use Rattle.ps_game.specs.Games.{ParityGame}
 use Rattle.ps_machine.specs.Behaviours.{Behaviour}
 use Rattle.ps_machine.specs.Boards.{Board, IsFirstLetter, IsGameOf}
-use Rattle.ps_machine.specs.Extracting.{GoesTo, IsMachineOf, IsOtherLetter, IsPlayed, IsRepresentative, IsStep, IsUsedFirst}
+use Rattle.ps_machine.specs.Extracting.{GoesTo, IsMachineOf, IsOtherLetter, IsPlayed, IsRepresentative, IsStep}
+use Rattle.ps_machine.specs.Extracting.{IsUsedFirst}
 use Rattle.ps_machine.specs.Extracting.{Shares, StandsFor, StepsFirst, StepsSecond}
 use Rattle.ps_machine.specs.Numbering.{StandsAt}
 use Rattle.ps_machine.specs.declared.key.Key.{Key}
 use Rattle.ps_machine.specs.declared.key.Key.TheVariants.{First, Second}
 use Rattle.ps_mixing.specs.MixedBoards.{mixed_board, mixed_key, mixed_keys, mixed_machine}
 use Rattle.ps_mixing.specs.Mixings.{Mixing, moved}
-use Rattle.ps_mixing.proofs.GameLetters.{letter_of_key}
-use Rattle.ps_mixing.proofs.MixedClasses.{before_second_back, class_moved, first_back, second_back, steps_moved, sum_there}
+use Rattle.ps_mixing.proofs.MovedPropositions.GameLetters.{letter_of_key}
+use Rattle.ps_mixing.proofs.MixedClasses.{before_second_back, class_moved, first_back, second_back, steps_moved}
+use Rattle.ps_mixing.proofs.MixedClasses.{sum_there}
 use Rattle.ps_mixing.proofs.MixedLetters.{IsBoardMixing, next_moved, priority_moved, second_moved, sum_moved}
 use Rattle.ps_mixing.proofs.MixedSteps.{entry_back, entry_there}
-use Rattle.ps_mixing.proofs.MovedLetters.{moved_back, moved_forth}
+use Rattle.ps_mixing.proofs.MovedPropositions.MovedLetters.{moved_back, moved_forth}
 
 module _ (n : ℕ) (mixing : Mixing) (keys : List Key) where
   abbrev others : List Key

@@ -16,8 +16,8 @@ use Rattle.ps_mixing.specs.MixedBoards.{mixed_board, mixed_key, mixed_keys}
 use Rattle.ps_mixing.specs.Mixings.{Mixing, moved}
 use Rattle.ps_mixing.specs.Inner.Merging.{owned_below}
 use Rattle.ps_mixing.proofs.MixedLetters.{IsBoardMixing}
-use Rattle.ps_mixing.proofs.MovedLetters.{renamed_bit}
-use Rattle.ps_mixing.proofs.OwnedLists.{owned_moved}
+use Rattle.ps_mixing.proofs.MovedPropositions.MovedLetters.{renamed_bit}
+use Rattle.ps_mixing.proofs.MovedPropositions.OwnedLists.{owned_moved}
 
 abbrev digit : ℕ → ℕ → ℕ
 digit x p = if is_in p x then 49 else 48

@@ -11,40 +11,20 @@ use Rattle.std.proofs.lemmas.List.{length-map}
 use Rattle.std.proofs.lemmas.List.Folds.{fold-map}
 use Rattle.std.proofs.lemmas.List.Elements.{All-map}
 use Rattle.std.proofs.lemmas.Slice.Eq.{bytes_eq-Decides}
-use Rattle.ps_label.specs.Expression.{Expression, constant, proposition, alias, not_of, all_of, any_of, Operands, last}
-use Rattle.ps_label.specs.Expression.{AreOver, AreOverFrom, IsOver, more}
-use Rattle.ps_hoa.specs.Body.{edge_limit, has_row}
+use Rattle.ps_label.specs.Expression.{Expression, IsOver}
+use Rattle.ps_hoa.specs.Grammar.Body.{edge_limit, has_row}
 use Rattle.ps_hoa.specs.Files.{GuardData, EdgeData, RowData, FileData, stated, of_state, at_letter, is_among}
-use Rattle.ps_hoa.specs.Header.{alias_limit, has_control, is_empty, is_name_among, proposition_limit}
+use Rattle.ps_hoa.specs.Grammar.Header.{alias_limit, has_control, is_empty, is_name_among, proposition_limit}
 use Rattle.ps_hoa.specs.Sound.{AreAtLetters, AreDifferent, AreLabelled, AreNames, AreRowsOnce, IsGuard, IsLabelOf}
 use Rattle.ps_hoa.specs.Sound.{IsOfState, IsSoundEdge, IsSoundFile, IsSoundRow, IsStated, edges_of}
-use Rattle.ps_mixing.specs.MixedFiles.{HasLabels, IsMixingOf, IsWithLabel, all_renamed, mixed_edge, mixed_file}
+use Rattle.ps_mixing.specs.MixedFiles.{HasLabels, IsMixingOf, IsWithLabel, mixed_edge, mixed_file}
 use Rattle.ps_mixing.specs.MixedFiles.{mixed_guard, mixed_row, renamed}
 use Rattle.ps_mixing.specs.Mixings.{Mixing}
 use Rattle.ps_mixing.proofs.MixedSteps.{names_count}
-use Rattle.ps_mixing.proofs.MovedLetters.{inverse_is, to_within}
-use Rattle.ps_mixing.proofs.MovedLists.{among_moved}
+use Rattle.ps_mixing.proofs.MovedPropositions.MovedLetters.{inverse_is, to_within}
+use Rattle.ps_mixing.proofs.MovedPropositions.MovedLists.{among_moved}
+use Rattle.ps_mixing.proofs.Renamings.{aliases_over, over_renamed}
 use Rattle.ps_simulate.proofs.NamingLemmas.{names_differ}
-
--- ## Labels
-
-module _ (to : ℕ → ℕ) (n m : ℕ) (within : (p : ℕ) → p < n → to p < m) where
-  mutual
-    over_renamed : (k : ℕ) (e : Expression) → IsOver k n e → IsOver k m (renamed to e)
-    over_renamed k (constant b) over = over
-    over_renamed k (proposition p) over = within p over
-    over_renamed k (alias a) over = over
-    over_renamed k (not_of e) over = over_renamed k e over
-    over_renamed k (all_of es) over = all_over k es over
-    over_renamed k (any_of es) over = all_over k es over
-
-    all_over : (k : ℕ) (es : Operands) → AreOver k n es → AreOver k m (all_renamed to es)
-    all_over k last over = over
-    all_over k (more e es) over = (over_renamed k e over.0, all_over k es over.1)
-
-  aliases_over : (k : ℕ) (es : List Expression) → AreOverFrom k n es → AreOverFrom k m (map (renamed to) es)
-  aliases_over k [] over = over
-  aliases_over k (e ∷ es) over = (over_renamed k e over.0, aliases_over (k + 1) es over.1)
 
 -- ## Edges
 

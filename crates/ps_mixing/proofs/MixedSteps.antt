@@ -13,8 +13,9 @@ use Rattle.ps_hoa.specs.Files.{GuardData, EdgeData, RowData, FileData, stated, o
 use Rattle.ps_automaton.specs.Answers.{AreAlike, AreClashing, Clash}
 use Rattle.ps_mixing.specs.MixedFiles.{IsMixingOf, mixed_edge, mixed_file, mixed_guard, mixed_names, mixed_row, renamed}
 use Rattle.ps_mixing.specs.Mixings.{Mixing, moved}
-use Rattle.ps_mixing.proofs.MovedLetters.{inverse_is, moved_back, moved_forth, moved_within, renamed_bit}
-use Rattle.ps_mixing.proofs.RenamedLabels.{renamed_label}
+use Rattle.ps_mixing.proofs.MovedPropositions.MovedLetters.{inverse_is, moved_back, moved_forth, moved_within}
+use Rattle.ps_mixing.proofs.MovedPropositions.MovedLetters.{renamed_bit}
+use Rattle.ps_mixing.proofs.MovedPropositions.RenamedLabels.{renamed_label}
 
 -- ## Lists
 

@@ -15,7 +15,7 @@ use Rattle.ps_mixing.specs.Mixings.{Mixing, inverse, moved}
 use Rattle.ps_mixing.proofs.MixedClasses.{class_moved, move_moved}
 use Rattle.ps_mixing.proofs.MixedLetters.{IsBoardMixing, before_first, before_second, first_moved}
 use Rattle.ps_mixing.proofs.MixedLetters.{sum_moved, unmixed}
-use Rattle.ps_mixing.proofs.MovedLetters.{inverse_is, moved_back, moved_forth}
+use Rattle.ps_mixing.proofs.MovedPropositions.MovedLetters.{inverse_is, moved_back, moved_forth}
 
 -- ## Lists of letters
 

@@ -12,7 +12,7 @@ use Rattle.ps_automaton.specs.Words.{lasso_word}
 use Rattle.ps_mixing.specs.MixedFiles.{IsMixingOf, mixed_file, moved_word}
 use Rattle.ps_mixing.specs.Mixings.{Mixing, moved}
 use Rattle.ps_mixing.proofs.MixedSteps.{steps_back, steps_there}
-use Rattle.ps_mixing.proofs.MovedLetters.{from_beyond, moved_back, moved_zero}
+use Rattle.ps_mixing.proofs.MovedPropositions.MovedLetters.{from_beyond, moved_back, moved_zero}
 
 -- two files with the same start and the same condition, the second of which takes the edges of the first along two
 -- lassos of the same lengths

@@ -17,7 +17,6 @@ ghost use Rattle.ps_machine.specs.Extracting.{HasPropositions, IsMachineOf};
 ghost use Rattle.ps_machine.specs.FileGames.{IsGameOfFile, board_of_file};
 ghost use Rattle.ps_machine.specs.Keys.{mover_of};
 ghost use Rattle.ps_machine.specs.declared.key.Order.{Order};
-ghost use Rattle.ps_synthesis.specs.Reports.{IsWinnersCircuit};
 ghost use Rattle.ps_mixing.specs.MixedBoards.{mixed_machine};
 ghost use Rattle.ps_mixing.specs.MixedFiles.{HasLabels, IsMixingOf, mixed_file, moved_word};
 ghost use Rattle.ps_mixing.specs.Mixings.{IsMixing, Mixing, inverse};
@@ -68,13 +67,4 @@ pub fn circuit_of_machine()
         (circuit : CircuitData) → Encodes m circuit → IsWired m circuit →
         Encodes (mixed_machine board.propositions mixing m) circuit ×
         IsWired (mixed_machine board.propositions mixing m) circuit }
-{}
-
-/// The winner's circuit of the mixed file is the winner's circuit of the file.
-pub fn circuit_of_mixed()
-    ensures { (file : FileData) (mixing : Mixing) → IsMixingOf file mixing → IsSoundFile file → (order : Order)
-        (game : NamedGameData) (of : IsGameOfFile order (mixed_file mixing file) game)
-        (certificate : CertificateData) (circuit : CircuitData) →
-        IsWinnersCircuit order (mixed_file mixing file) game of certificate circuit →
-        (here : IsGameOfFile order file game) × IsWinnersCircuit order file game here certificate circuit }
 {}

@@ -1,7 +1,11 @@
 //! Mixings of an automaton's propositions: other orders of the propositions, in which those of each player keep their
 //! order. Decision diagrams test propositions in this order, and are small only for some orders.
 //!
-//! `even_order` mixes two players' propositions, so that those of each are evenly spread among the others.
+//! | Call | What it gives |
+//! |---|---|
+//! | `even_order` | a mixing in which each player's propositions are evenly spread among the others |
+//! | `mixed` | a file with its propositions mixed, if the file has labels |
+//! | `has_labels` | whether a file states a label for each edge, or for its state |
 //!
 //! | Law | What it says |
 //! |---|---|
@@ -11,14 +15,18 @@
 //! | `game_of_mixed` | they have the same games |
 //! | `machine_of_mixed` | a machine for the mixed file is one for the file, if the propositions of letters are moved |
 //! | `circuit_of_machine` | a machine's circuit is the circuit of the machine with its propositions moved |
-//! | `circuit_of_mixed` | the winner's circuit of the mixed file is the winner's circuit of the file |
 #![tactic(auto)]
 
+mod copies;
+mod file;
+mod label;
 mod laws;
 mod order;
+mod rows;
 
+pub use file::{has_labels, mixed};
 pub use laws::{
-    answer_of_mixed, circuit_of_machine, circuit_of_mixed, game_of_mixed, lassos_of_mixed,
-    machine_of_mixed, mixed_is_sound,
+    answer_of_mixed, circuit_of_machine, game_of_mixed, lassos_of_mixed, machine_of_mixed,
+    mixed_is_sound,
 };
 pub use order::{Order, even_order};

@@ -5,7 +5,7 @@ ghost use Rattle.std.specs.List.{AllPairs};
 ghost use Rattle.ps_hoa.specs.Files.{is_among};
 ghost use Rattle.ps_mixing.specs.Mixings.{IsMixing};
 ghost use Rattle.ps_mixing.specs.Inner.Merging.{AreMerged, ArePlaces, CanMerge, IsMergedOrder, is_by, owned_below};
-ghost use Rattle.ps_mixing.specs.Orders.{mixing_of};
+ghost use Rattle.ps_mixing.specs.Orders.{mixing_of, place_in};
 
 use std::alloc::{AllocError, Global};
 
@@ -107,4 +107,14 @@ fn places(alloc: Global, from: &[u32]) -> Result<Vec<u32>, AllocError>
         to[*p as usize] = k as u32;
     }
     Ok(to)
+}
+
+/// The table's entry for a proposition; the proposition itself, if the table has none.
+pub(crate) fn entry(table: &[u32], proposition: u32) -> u32
+    ensures { result ≡ place_in table.now proposition }
+{
+    match table.get(proposition as usize) {
+        Some(other) => *other,
+        None => proposition,
+    }
 }

@@ -2,7 +2,7 @@ use Rattle.std.proofs.Common.{◌≡◌, true, false, length, arith, ap}
 use Rattle.std.specs.Prelude.{Result, Ok, Err, IfOk}
 use Rattle.ps_hoa.specs.Files.{is_among}
 use Rattle.ps_mixing.specs.Inner.Merging.{is_by, owned_below}
-use Rattle.ps_mixing.proofs.MergedOrders.{merged_by, owned_few}
+use Rattle.ps_mixing.proofs.MovedPropositions.MergedOrders.{merged_by, owned_few}
 use Rattle.ps_mixing.proofs.order.even_list.Goals as goal
 
 if_ok : {X E : Type 0} (P Q : X → Type 0) → ((x : X) → P x → Q x) → (r : Result X E) → IfOk r P → IfOk r Q

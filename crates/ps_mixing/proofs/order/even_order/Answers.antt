@@ -1,7 +1,7 @@
 use Rattle.std.proofs.Common.{ℕ, List, subst}
 use Rattle.ps_hoa.specs.Files.{is_among}
 use Rattle.ps_mixing.specs.Inner.Merging.{ArePlaces}
-use Rattle.ps_mixing.proofs.OrderMixings.{order_is_mixing}
+use Rattle.ps_mixing.proofs.MovedPropositions.OrderMixings.{order_is_mixing}
 use Rattle.ps_mixing.proofs.order.even_order.Goals as goal
 
 pub returns : goal.returns

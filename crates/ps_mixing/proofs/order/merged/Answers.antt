@@ -1,6 +1,6 @@
 use Rattle.std.proofs.Common.{◌≡◌, ℕ, ◌<◌, length, arith, subst}
 use Rattle.ps_mixing.specs.Inner.Merging.{AreMerged}
-use Rattle.ps_mixing.proofs.MergedOrders.{other_next, own_next}
+use Rattle.ps_mixing.proofs.MovedPropositions.MergedOrders.{other_next, own_next}
 use Rattle.ps_mixing.proofs.order.merged.Goals as goal
 
 pub more-preserved-then-is_others_turn : goal.more-preserved-then-is_others_turn

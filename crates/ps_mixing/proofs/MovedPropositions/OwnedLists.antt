@@ -10,7 +10,7 @@ use Rattle.ps_machine.proofs.Uniqueness.Rising.{same_rising}
 use Rattle.ps_basis.proofs.ArenaKeys.{from_map, in_map}
 use Rattle.ps_mixing.specs.Mixings.{Mixing, IsMixing}
 use Rattle.ps_mixing.specs.Inner.Merging.{owned_below}
-use Rattle.ps_mixing.proofs.MovedLetters.{inverse_is, to_within}
+use Rattle.ps_mixing.proofs.MovedPropositions.MovedLetters.{inverse_is, to_within}
 
 -- ## Its elements
 

@@ -5,7 +5,7 @@ use Rattle.std.proofs.Math.Nat.{pow-suc, pow-le-pow_right}
 use Rattle.std.proofs.lemmas.Bool.{cases_eq, cases_lt}
 use Rattle.ps_label.specs.Truth.{is_in}
 use Rattle.ps_diagram.specs.Letters.{letter_of}
-use Rattle.ps_diagram.proofs.Alone.{same_letter}
+use Rattle.ps_diagram.proofs.TreesFromData.Alone.{same_letter}
 use Rattle.ps_diagram.proofs.Letters.{letter_is, letter_lt, no_bit}
 use Rattle.ps_mixing.specs.Mixings.{Mixing, IsMixing, inverse, moved}
 

@@ -8,7 +8,7 @@ use Rattle.std.proofs.lemmas.List.{get_or_default, length-append}
 use Rattle.std.proofs.lemmas.List.Elements.{All-push, Contains-append_left, Contains-push, Contains-get_or}
 use Rattle.std.proofs.lemmas.List.Quantifiers.{all_pairs_push}
 use Rattle.ps_mixing.specs.Inner.Merging.{AreMerged, CanMerge, IsEarlier, IsMergedOrder, owned_below}
-use Rattle.ps_mixing.proofs.OwnedLists.{owned_from, owned_rise, owned_there}
+use Rattle.ps_mixing.proofs.MovedPropositions.OwnedLists.{owned_from, owned_rise, owned_there}
 
 pub merged_none : (is_own : ℕ → Bool) (others own : List ℕ) → AreMerged is_own others own 0 0 []
 merged_none is_own others own = record {

@@ -4,8 +4,8 @@ use Rattle.std.proofs.Common.{refl, sym, ap, ◌∙◌, inl, inr, arith}
 use Rattle.std.proofs.lemmas.Bool.{cases_lt}
 use Rattle.ps_label.specs.Truth.{is_in}
 use Rattle.ps_diagram.specs.Letters.{letter_of}
-use Rattle.ps_diagram.proofs.Alone.{same_letter}
-use Rattle.ps_diagram.proofs.Cells.{bool_cases}
+use Rattle.ps_diagram.proofs.TreesFromData.Alone.{same_letter}
+use Rattle.ps_diagram.proofs.NodeTables.Cells.{bool_cases}
 use Rattle.ps_diagram.proofs.Letters.{letter_is, letter_lt, no_bit}
 use Rattle.ps_machine.specs.Boards.{Board, IsFirstLetter, IsSecondLetter}
 

@@ -1,6 +1,0 @@
-use Rattle.ps_mixing.proofs.MixedWinners.{circuit_back}
-use Rattle.ps_mixing.proofs.laws.circuit_of_mixed.Goals as goal
-
-pub returns : goal.returns
-returns c file mixing is sound order game of certificate circuit is_circuit =
-    circuit_back order file mixing is sound game of certificate circuit is_circuit
