@@ -1,5 +1,11 @@
 -- Definitions that only private contracts use; no public clause refers to them.
 
+pub mod Arranging
 pub mod Covering
+pub mod Drafts
+pub mod Finding
 pub mod Placing
+pub mod Playable
+pub mod Reaching
+pub mod Rows
 pub mod Visiting

@@ -1,3 +1,6 @@
+pub mod Briefs
+pub mod Drawing
+pub mod ArenaGames
 pub mod Listings
 pub mod Settings
 pub mod Targets

@@ -1,17 +1,25 @@
 //! Bases of states, by the minimal sets of what the second player can reach.
 
-ghost use Rattle.std.specs.Prelude.{◌≡◌, ◌≢◌, ◌+◌, ◌^◌, ◌<◌, ◌⊎◌, ℕ, IfOk, IfSome, None, Some, length};
+ghost use Rattle.std.specs.Prelude.{◌≡◌, ◌≢◌, ◌+◌, ◌^◌, ◌<◌, ◌⊎◌, ℕ, true, IfOk, IfSome, None, Some, length};
+ghost use Rattle.std.specs.List.{Contains};
 ghost use Rattle.ps_diagram.specs.Leaves.{chosen};
 ghost use Rattle.ps_diagram.specs.Reached.{LeadsToLeaf};
 ghost use Rattle.ps_diagram.specs.Table.{IsNode, Keeps, leaf_of};
 ghost use Rattle.ps_machine.specs.Boards.{Board, IsClassLetter, IsFirstLetter, IsListOf};
+ghost use Rattle.ps_machine.specs.Numbering.{StandsAt};
+ghost use Rattle.ps_machine.specs.declared.key.Key.TheVariants.{First};
 ghost use Rattle.ps_basis.specs.Bases.{IsBasis, ReachesNoMore};
+ghost use Rattle.ps_brief.specs.ArenaGames.{AreBases, letters_at};
+ghost use Rattle.ps_brief.specs.Listings.{IsListing, listed_keys};
 ghost use Rattle.ps_brief.specs.Settings.{Fits, board_in};
 ghost use Rattle.ps_brief.specs.Targets.{AreTargetsOf, IsTarget};
 ghost use Rattle.ps_brief.specs.Inner.Covering.{IsCovered, IsCovering, IsLow, IsMarked};
+ghost use Rattle.ps_brief.specs.Inner.Finding.{IsFinding};
 
+use crate::listing::Listing;
 use crate::setting::Setting;
 use crate::steps::{Target, Targets};
+use indexmap::IndexMap;
 use ps_diagram::{Node, Store};
 use std::alloc::{AllocError, Global};
 
@@ -20,6 +28,82 @@ use std::alloc::{AllocError, Global};
 pub struct Basis {
     /// Its letters, in their order.
     pub letters: Vec<u64>,
+}
+
+/// Bases of some states.
+#[derive(Drop)]
+pub struct Bases {
+    /// The basis of each state.
+    pub of: IndexMap<u32, Basis>,
+}
+
+/// Finds a basis of each state of a listing, or `None` if one of them comes to `most` letters. Fails if out of memory.
+pub fn bases_of(
+    alloc: Global,
+    setting: &Setting<'_>,
+    store: &mut Store,
+    listing: &Listing,
+    most: usize,
+) -> Result<Option<Bases>, AllocError>
+    requires fits { Fits setting.now store.old }
+    requires listing { IsListing setting.now store.old listing.now }
+    ensures keeps { Keeps store.old store.new }
+    ensures bases { IfOk result (λ found. IfSome found (AreBases setting.now listing.now)) }
+{
+    let mut bases = Bases {
+        of: IndexMap::new(alloc),
+    };
+    for step in listing.entered.as_slice() {
+        let is_found = bases.find(alloc, setting, store, listing, step.state, most)?;
+        if !is_found {
+            return Ok(None);
+        }
+    }
+    Ok(Some(bases))
+}
+
+impl Bases {
+    /// The letters of a state's basis; none if the state has none here.
+    pub fn letters(&self, state: u32) -> &[u64]
+        ensures { result.now ≡ letters_at self.now state }
+    {
+        match self.of.get(&state) {
+            Some(basis) => &basis.letters,
+            None => &[],
+        }
+    }
+
+    /// Finds a basis of a listed state that has none yet. False if the search comes to `most` letters.
+    fn find(
+        &mut self,
+        alloc: Global,
+        setting: &Setting<'_>,
+        store: &mut Store,
+        listing: &Listing,
+        state: u32,
+        most: usize,
+    ) -> Result<bool, AllocError>
+        requires fits { Fits setting.now store.old }
+        requires listing { IsListing setting.now store.old listing.now }
+        requires listed { (p : ℕ) × Contains (listed_keys listing.now) (First state p) }
+        ensures keeps { Keeps store.old store.new }
+        ensures found { IfOk result (λ found. found ≡ true → (n p : ℕ) →
+            IsFinding setting.now listing.now self.old n → StandsAt (listed_keys listing.now) n (First state p) →
+            IsFinding setting.now listing.now self.new (n + 1)) }
+    {
+        let is_known = self.of.contains_key(&state);
+        if is_known {
+            return Ok(true);
+        }
+        let found = basis_of(alloc, setting, store, listing.of(state), most)?;
+        match found {
+            Some(basis) => {
+                self.of.insert(state, basis)?;
+                Ok(true)
+            }
+            None => Ok(false),
+        }
+    }
 }
 
 /// Finds a basis of a state with less than `most` letters, or `None` if the search comes to that many. Fails if out of

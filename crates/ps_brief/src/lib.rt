@@ -4,7 +4,8 @@
 //!
 //! A *target* of a state is a key to which it has a step, with a diagram of the first player's letters behind which the
 //! second player can make this step. A *basis* of a state has letters of the first player: each letter lets the second
-//! player reach all that one of these does.
+//! player reach all that one of these does. An *arena* is the game with only those vertices of the second player that
+//! stand for a letter in a basis (ps_basis has the laws about bases and arenas).
 //!
 //! | Call | What it gives |
 //! |---|---|
@@ -13,16 +14,33 @@
 //! | `listing_of(setting, store)` | the first player's keys in the order of the game, and the targets of their states |
 //! | `Listing::of(state)` | the targets of a listed state |
 //! | `basis_of(setting, store, targets, most)` | a basis of a state, unless the search comes to `most` letters |
+//! | `bases_of(setting, store, listing, most)` | a basis of each state of the listing, likewise |
+//! | `Bases::letters(state)` | the letters of a state's basis |
+//! | `arena_of(setting, store, listing, bases)` | the arena for these bases, and what its vertices stand for |
+//! | `machine_of_arena(setting, store, listing, arena, keys, certificate)` | the machine of an arena's certificate |
+//! | `brief_machine(setting, store, listing, arena, keys, certificate)` | the same, as the machine of the whole game |
+//! | `machine_without_game(automaton, order)` | the machine of the winner at the start, without the game |
 //!
 //! The calls with a store fail if memory runs out. They keep the nodes of the store, also then.
 #![tactic(auto)]
 
+mod arena;
 mod bases;
+mod brief;
+mod drafts;
+mod drawing;
 mod listing;
+mod memories;
+mod places;
+mod reach;
+mod rows;
 mod setting;
 mod steps;
 
-pub use bases::{Basis, basis_of};
+pub use arena::{ArenaGame, arena_of};
+pub use bases::{Bases, Basis, bases_of, basis_of};
+pub use brief::{brief_machine, machine_without_game};
+pub use drawing::machine_of_arena;
 pub use listing::{Listing, listing_of};
 pub use setting::Setting;
 pub use steps::{Target, Targets, targets_of};

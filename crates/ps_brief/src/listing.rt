@@ -3,6 +3,7 @@
 ghost use Rattle.std.specs.Prelude.{◌≡◌, ◌≢◌, ◌∷◌, ◌+◌, ◌<◌, ◌≤◌, ℕ, [], AllPairs, IfOk, IfSome, IsSome, None, OnOk};
 ghost use Rattle.std.specs.Prelude.{Some, nat_eq};
 ghost use Rattle.std.specs.Prelude.{option_map, slice_get};
+ghost use Rattle.std.specs.List.{Contains};
 ghost use Rattle.indexmap.specs.IndexMap.{get};
 ghost use Rattle.ps_automaton.specs.declared.step.Step.{Step};
 ghost use Rattle.ps_diagram.specs.Table.{Keeps};
@@ -18,6 +19,7 @@ use crate::steps::{Targets, targets_of};
 use indexmap::{IndexMap, IndexSet};
 use ps_automaton::Step;
 use ps_diagram::Store;
+use ps_machine::Key;
 use std::alloc::{AllocError, Global};
 
 /// The first player's keys in the order of the game, and the targets of their states.
@@ -87,6 +89,28 @@ impl Listing {
         ensures { get nat_eq self.now.targets state ≡ Some result.now }
     {
         self.targets.get(&state).unwrap()
+    }
+
+    /// The listed keys, in their order.
+    pub(crate) fn keys(&self, alloc: Global) -> Result<Vec<Key>, AllocError>
+        ensures { IfOk result (λ keys. keys.items ≡ listed_keys self.now) }
+    {
+        let mut keys = Vec::new(alloc);
+        for step in self.entered.as_slice() {
+            keys.push(Key::First {
+                state: step.state,
+                priority: step.priority,
+            })?;
+        }
+        Ok(keys)
+    }
+
+    /// The place of the key to which a step leads.
+    pub(crate) fn place(&self, step: Step) -> usize
+        requires { Contains (listed_keys self.now) (First step.state step.priority) }
+        ensures { StandsAt (listed_keys self.now) result (First step.state step.priority) }
+    {
+        self.entered.get_index_of(&step).unwrap()
     }
 
     /// Visits a key with this state: adds the state's targets, unless an earlier key has the same state.

@@ -1,10 +1,10 @@
 use Rattle.std.proofs.Common.{ℕ, ◌^◌, ◌<◌, ◌∙◌, subst}
 use Rattle.ps_diagram.specs.Letters.{IsLeastLetter}
 use Rattle.ps_diagram.specs.Reached.{LeadsToLeaf}
-use Rattle.ps_diagram.proofs.KnownLemmas.{keeps_trans}
+use Rattle.ps_diagram.proofs.NodeTables.KnownLemmas.{keeps_trans}
 use Rattle.ps_brief.specs.Settings.{board_in}
-use Rattle.ps_brief.proofs.Coverings.{covering_done, only_none}
-use Rattle.ps_brief.proofs.KeptTargets.{fits_kept, targets_kept}
+use Rattle.ps_brief.proofs.BasesOfLetters.Coverings.{covering_done, only_none}
+use Rattle.ps_brief.proofs.ListedStates.KeptTargets.{fits_kept, targets_kept}
 use Rattle.ps_brief.proofs.bases.basis_of.Goals as goal
 
 pub loop-round-init : goal.loop-round-init

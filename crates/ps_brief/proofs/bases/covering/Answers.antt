@@ -1,7 +1,7 @@
 use Rattle.std.proofs.Common.{sym}
-use Rattle.ps_diagram.proofs.Cells.{keeps_refl}
-use Rattle.ps_machine.proofs.GameKeys.Exploring.{both_ok}
-use Rattle.ps_brief.proofs.Lowering.{covered_more, covered_on, not_both, target_at}
+use Rattle.ps_diagram.proofs.NodeTables.Cells.{keeps_refl}
+use Rattle.ps_machine.proofs.AutomatonGames.GameKeys.Exploring.{both_ok}
+use Rattle.ps_brief.proofs.BasesOfLetters.Lowering.{covered_more, covered_on, not_both, target_at}
 use Rattle.ps_brief.proofs.bases.covering.Goals as goal
 
 pub eval-requires : goal.eval-requires

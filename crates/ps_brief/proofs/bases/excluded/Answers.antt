@@ -1,6 +1,6 @@
-use Rattle.ps_diagram.proofs.KnownLemmas.{keeps_trans}
-use Rattle.ps_brief.proofs.KeptTargets.{targets_kept}
-use Rattle.ps_brief.proofs.Lowering.{all_low}
+use Rattle.ps_diagram.proofs.NodeTables.KnownLemmas.{keeps_trans}
+use Rattle.ps_brief.proofs.ListedStates.KeptTargets.{targets_kept}
+use Rattle.ps_brief.proofs.BasesOfLetters.Lowering.{all_low}
 use Rattle.ps_brief.proofs.bases.excluded.Goals as goal
 
 pub loop-place-init : goal.loop-place-init

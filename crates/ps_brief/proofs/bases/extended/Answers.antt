@@ -1,8 +1,8 @@
 use Rattle.std.proofs.Common.{ℕ, ◌^◌, ◌<◌, sym, ◌∙◌, subst}
-use Rattle.ps_diagram.proofs.KnownLemmas.{keeps_three, keeps_trans}
+use Rattle.ps_diagram.proofs.NodeTables.KnownLemmas.{keeps_three, keeps_trans}
 use Rattle.ps_brief.specs.Settings.{board_in}
-use Rattle.ps_brief.proofs.Coverings.{covering_kept, covering_more}
-use Rattle.ps_brief.proofs.KeptTargets.{fits_kept, targets_kept}
+use Rattle.ps_brief.proofs.BasesOfLetters.Coverings.{covering_kept, covering_more}
+use Rattle.ps_brief.proofs.ListedStates.KeptTargets.{fits_kept, targets_kept}
 use Rattle.ps_brief.proofs.bases.extended.Goals as goal
 
 pub least_low-requires-clause-fits : goal.least_low-requires-clause-fits

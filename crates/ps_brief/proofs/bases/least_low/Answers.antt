@@ -1,7 +1,7 @@
-use Rattle.ps_diagram.proofs.Cells.{keeps_refl}
-use Rattle.ps_diagram.proofs.KnownLemmas.{keeps_trans}
-use Rattle.ps_brief.proofs.KeptTargets.{fits_kept, targets_kept}
-use Rattle.ps_brief.proofs.Lowering.{low_least}
+use Rattle.ps_diagram.proofs.NodeTables.Cells.{keeps_refl}
+use Rattle.ps_diagram.proofs.NodeTables.KnownLemmas.{keeps_trans}
+use Rattle.ps_brief.proofs.ListedStates.KeptTargets.{fits_kept, targets_kept}
+use Rattle.ps_brief.proofs.BasesOfLetters.Lowering.{low_least}
 use Rattle.ps_brief.proofs.bases.least_low.Goals as goal
 
 pub loop-place-init : goal.loop-place-init

@@ -1,8 +1,8 @@
 use Rattle.std.proofs.Common.{arith}
-use Rattle.ps_diagram.proofs.KnownLemmas.{keeps_three, keeps_trans}
-use Rattle.ps_machine.proofs.GameKeys.Exploring.{both_ok}
-use Rattle.ps_brief.proofs.KeptTargets.{targets_kept}
-use Rattle.ps_brief.proofs.Lowering.{all_covered, left_after}
+use Rattle.ps_diagram.proofs.NodeTables.KnownLemmas.{keeps_three, keeps_trans}
+use Rattle.ps_machine.proofs.AutomatonGames.GameKeys.Exploring.{both_ok}
+use Rattle.ps_brief.proofs.ListedStates.KeptTargets.{targets_kept}
+use Rattle.ps_brief.proofs.BasesOfLetters.Lowering.{all_covered, left_after}
 use Rattle.ps_brief.proofs.bases.left_uncovered.Goals as goal
 
 pub loop-place-init : goal.loop-place-init

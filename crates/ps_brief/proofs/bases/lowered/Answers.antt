@@ -1,4 +1,4 @@
-use Rattle.ps_brief.proofs.Lowering.{leads_kept, low_kept, target_at}
+use Rattle.ps_brief.proofs.BasesOfLetters.Lowering.{leads_kept, low_kept, target_at}
 use Rattle.ps_brief.proofs.bases.lowered.Goals as goal
 
 pub without-requires-clause-target : goal.without-requires-clause-target

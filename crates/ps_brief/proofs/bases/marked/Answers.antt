@@ -1,6 +1,6 @@
-use Rattle.ps_diagram.proofs.KnownLemmas.{keeps_three, keeps_trans}
-use Rattle.ps_machine.proofs.GameKeys.Exploring.{both_ok}
-use Rattle.ps_brief.proofs.Marking.{mark_here, mark_other}
+use Rattle.ps_diagram.proofs.NodeTables.KnownLemmas.{keeps_three, keeps_trans}
+use Rattle.ps_machine.proofs.AutomatonGames.GameKeys.Exploring.{both_ok}
+use Rattle.ps_brief.proofs.BasesOfLetters.Marking.{mark_here, mark_other}
 use Rattle.ps_brief.proofs.bases.marked.Goals as goal
 
 pub returns-in_err-leaf-clause-keeps : goal.returns-in_err-leaf-clause-keeps

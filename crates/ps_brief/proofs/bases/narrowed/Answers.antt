@@ -1,7 +1,7 @@
 use Rattle.std.proofs.Common.{sym}
 use Rattle.std.proofs.lemmas.Result.{IfOk-weaker}
-use Rattle.ps_diagram.proofs.Cells.{keeps_refl}
-use Rattle.ps_brief.proofs.Lowering.{target_at}
+use Rattle.ps_diagram.proofs.NodeTables.Cells.{keeps_refl}
+use Rattle.ps_brief.proofs.BasesOfLetters.Lowering.{target_at}
 use Rattle.ps_brief.proofs.bases.narrowed.Goals as goal
 
 pub eval-requires : goal.eval-requires

@@ -1,7 +1,7 @@
 use Rattle.std.proofs.Common.{◌∙◌}
-use Rattle.ps_diagram.proofs.KnownLemmas.{keeps_trans}
-use Rattle.ps_machine.proofs.GameKeys.Exploring.{both_ok}
-use Rattle.ps_brief.proofs.Lowering.{chosen_kept}
+use Rattle.ps_diagram.proofs.NodeTables.KnownLemmas.{keeps_trans}
+use Rattle.ps_machine.proofs.AutomatonGames.GameKeys.Exploring.{both_ok}
+use Rattle.ps_brief.proofs.BasesOfLetters.Lowering.{chosen_kept}
 use Rattle.ps_brief.proofs.bases.within.Goals as goal
 
 pub choose-requires-clause-truth : goal.choose-requires-clause-truth

@@ -1,8 +1,8 @@
 use Rattle.std.proofs.Common.{◌∙◌}
-use Rattle.ps_diagram.proofs.KnownLemmas.{keeps_trans}
-use Rattle.ps_machine.proofs.GameKeys.Exploring.{both_ok}
-use Rattle.ps_brief.proofs.KeptTargets.{leaf_kept, target_kept}
-use Rattle.ps_brief.proofs.Lowering.{low_kept, low_more, low_stays, not_both}
+use Rattle.ps_diagram.proofs.NodeTables.KnownLemmas.{keeps_trans}
+use Rattle.ps_machine.proofs.AutomatonGames.GameKeys.Exploring.{both_ok}
+use Rattle.ps_brief.proofs.ListedStates.KeptTargets.{leaf_kept, target_kept}
+use Rattle.ps_brief.proofs.BasesOfLetters.Lowering.{low_kept, low_more, low_stays, not_both}
 use Rattle.ps_brief.proofs.bases.without.Goals as goal
 
 pub choose-requires-clause-truth : goal.choose-requires-clause-truth

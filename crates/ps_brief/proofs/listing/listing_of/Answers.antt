@@ -1,9 +1,9 @@
 use Rattle.std.proofs.Common.{ap, sym, ◌∙◌, arith}
-use Rattle.ps_diagram.proofs.Cells.{keeps_refl}
-use Rattle.ps_diagram.proofs.KnownLemmas.{keeps_trans}
+use Rattle.ps_diagram.proofs.NodeTables.Cells.{keeps_refl}
+use Rattle.ps_diagram.proofs.NodeTables.KnownLemmas.{keeps_trans}
 use Rattle.ps_brief.specs.Listings.{keys_of}
-use Rattle.ps_brief.proofs.KeptTargets.{fits_kept}
-use Rattle.ps_brief.proofs.Visits.{key_there, none_at, none_past, visiting_begun, visiting_done}
+use Rattle.ps_brief.proofs.ListedStates.KeptTargets.{fits_kept}
+use Rattle.ps_brief.proofs.ListedStates.Visits.{key_there, none_at, none_past, visiting_begun, visiting_done}
 use Rattle.ps_brief.proofs.listing.listing_of.Goals as goal
 
 pub returns-in_err-listing-clause-keeps : goal.returns-in_err-listing-clause-keeps

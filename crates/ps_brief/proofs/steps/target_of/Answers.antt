@@ -1,5 +1,5 @@
-use Rattle.ps_diagram.proofs.KnownLemmas.{keeps_three, keeps_trans}
-use Rattle.ps_brief.proofs.MadeTargets.{made_answered, made_place, made_some, made_target, named_leaf}
+use Rattle.ps_diagram.proofs.NodeTables.KnownLemmas.{keeps_three, keeps_trans}
+use Rattle.ps_brief.proofs.ListedStates.MadeTargets.{made_answered, made_place, made_some, made_target, named_leaf}
 use Rattle.ps_brief.proofs.steps.target_of.Goals as goal
 
 pub pair-step-requires : goal.pair-step-requires

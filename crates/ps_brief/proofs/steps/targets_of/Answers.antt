@@ -1,14 +1,14 @@
 use Rattle.std.proofs.Common.{refl, arith, rules}
 use Rattle.std.proofs.lemmas.List.Elements.{All-push}
 use Rattle.std.proofs.lemmas.List.Sorted.{IsNonDecreasingBy-from_sort_by_key}
-use Rattle.ps_diagram.proofs.Cells.{keeps_refl}
-use Rattle.ps_diagram.proofs.KnownLemmas.{keeps_trans}
+use Rattle.ps_diagram.proofs.NodeTables.Cells.{keeps_refl}
+use Rattle.ps_diagram.proofs.NodeTables.KnownLemmas.{keeps_trans}
 use Rattle.ps_brief.specs.Inner.Placing.{IsPlaced}
 use Rattle.ps_brief.specs.Settings.{board_in}
 use Rattle.ps_brief.specs.Targets.{IsTarget}
 use Rattle.ps_brief.specs.declared.steps.Target.{Target}
-use Rattle.ps_brief.proofs.KeptTargets.{fits_kept, target_kept}
-use Rattle.ps_brief.proofs.TargetLists.{all_leaves, are_targets, leaves_more}
+use Rattle.ps_brief.proofs.ListedStates.KeptTargets.{fits_kept, target_kept}
+use Rattle.ps_brief.proofs.ListedStates.TargetLists.{all_leaves, are_targets, leaves_more}
 use Rattle.ps_brief.proofs.steps.targets_of.Goals as goal
 
 pub leaves-requires : goal.leaves-requires

@@ -1,7 +1,7 @@
 use Rattle.std.proofs.Common.{◌∙◌}
-use Rattle.ps_diagram.proofs.KnownLemmas.{keeps_trans}
-use Rattle.ps_brief.proofs.Coverings.{covering_begun}
-use Rattle.ps_brief.proofs.KeptTargets.{leaf_kept}
+use Rattle.ps_diagram.proofs.NodeTables.KnownLemmas.{keeps_trans}
+use Rattle.ps_brief.proofs.BasesOfLetters.Coverings.{covering_begun}
+use Rattle.ps_brief.proofs.ListedStates.KeptTargets.{leaf_kept}
 use Rattle.ps_brief.proofs.bases.Cover.new.Goals as goal
 
 pub returns-in_err-basis-clause-keeps : goal.returns-in_err-basis-clause-keeps

@@ -2,9 +2,9 @@ use Rattle.std.proofs.Common.{◌<◌, length, refl, arith}
 use Rattle.std.proofs.lemmas.List.{length-map}
 use Rattle.ps_automaton.specs.contracts.step.StepPartialEq.TheImpl as step_eq
 use Rattle.ps_brief.specs.Targets.{target_keys}
-use Rattle.ps_brief.proofs.EnteredKeys.{adding_next, adding_none, target_key_at}
-use Rattle.ps_brief.proofs.StepTests.{passes_itself, same_by_test}
-use Rattle.ps_brief.proofs.TargetLists.{key_of_target}
+use Rattle.ps_brief.proofs.ListedStates.EnteredKeys.{adding_next, adding_none, target_key_at}
+use Rattle.ps_brief.proofs.ListedStates.StepTests.{passes_itself, same_by_test}
+use Rattle.ps_brief.proofs.ListedStates.TargetLists.{key_of_target}
 use Rattle.ps_brief.proofs.listing.Listing.add.Goals as goal
 
 pub loop-place-init : goal.loop-place-init

@@ -1,9 +1,9 @@
 use Rattle.std.proofs.Common.{Some, ap, cond, nat_eq, sym, ◌∙◌}
 use Rattle.indexmap.specs.IndexMap.{get}
-use Rattle.ps_diagram.proofs.Cells.{keeps_refl}
+use Rattle.ps_diagram.proofs.NodeTables.Cells.{keeps_refl}
 use Rattle.ps_brief.specs.Settings.{board_in}
 use Rattle.ps_brief.specs.Targets.{target_keys}
-use Rattle.ps_brief.proofs.Visits.{targets_differ, visiting_added, visiting_passed}
+use Rattle.ps_brief.proofs.ListedStates.Visits.{targets_differ, visiting_added, visiting_passed}
 use Rattle.ps_brief.proofs.listing.Listing.visit.Goals as goal
 
 pub returns-then-is_known-clause-keeps : goal.returns-then-is_known-clause-keeps

@@ -1,7 +1,7 @@
 use Rattle.std.proofs.Common.{◌≡◌, length, arith, rules}
 use Rattle.std.proofs.lemmas.List.{length-map}
-use Rattle.ps_machine.proofs.Diagrams.MaskLemmas.{mask_fits, mask_whole, mask_with, mask_without}
-use Rattle.ps_brief.proofs.Masks.{second_whole}
+use Rattle.ps_machine.proofs.Machines.Diagrams.MaskLemmas.{mask_fits, mask_whole, mask_with, mask_without}
+use Rattle.ps_brief.proofs.BasesOfLetters.Masks.{second_whole}
 use Rattle.ps_brief.proofs.setting.Setting.new.Goals as goal
 use Rattle.ps_brief.proofs.setting.Setting.new.Goals.{then-moves_first, else-moves_first}
 

@@ -1,0 +1,198 @@
+//! The moves of the player who wins an arena, as diagrams.
+
+ghost use Rattle.std.specs.Prelude.{◌≡◌, ◌+◌, ◌<◌, ◌≤◌, ℕ, true, false, List, IfOk, MatchOption, Some, Contains, None};
+ghost use Rattle.std.specs.Prelude.{length, slice_get, slice_index_or};
+ghost use Rattle.ps_diagram.specs.Table.{IsNode, Keeps, Table};
+ghost use Rattle.ps_game.specs.Games.{successors_of, vertex_count};
+ghost use Rattle.ps_machine.specs.Numbering.{StandsAt};
+ghost use Rattle.ps_machine.specs.declared.key.Key.TheVariants.{First};
+ghost use Rattle.ps_basis.specs.Memories.{PlayReaches};
+ghost use Rattle.ps_brief.specs.Inner.Drafts.{IsDraft, IsJoined, IsMoveLeaf, IsReady, IsSingle, NeverMoves, TriesMoves};
+ghost use Rattle.ps_brief.specs.Inner.Drafts.{play_of};
+ghost use Rattle.ps_brief.specs.Inner.Playable.{IsFirstMove};
+
+use crate::listing::Listing;
+use crate::setting::Setting;
+use ps_automaton::Step;
+use ps_certificate::Certificate;
+use ps_diagram::{Node, Store};
+use ps_game::{Arena, Game};
+use ps_machine::Key;
+use std::alloc::AllocError;
+
+/// What a machine is drawn from.
+#[derive(Drop)]
+pub(crate) struct Plan<'a> {
+    pub setting: &'a Setting<'a>,
+    pub listing: &'a Listing,
+    pub arena: &'a Game,
+    /// The key of each vertex of the arena.
+    pub others: &'a [Key],
+    pub certificate: &'a Certificate,
+    /// Whether the winner of the arena's start moves first.
+    pub moves_first: bool,
+    /// For each listed key, the leaf of the steps to it in the automaton's diagrams, if a step leads there.
+    pub leaves: Vec<Option<u64>>,
+}
+
+/// The winner's moves at a state, for each letter of the other player.
+#[derive(Debug, Clone, Copy)]
+pub(crate) struct Draft {
+    /// The automaton's step, as a leaf of its diagrams.
+    pub steps: Node,
+    /// The winner's letter.
+    pub letters: Node,
+}
+
+impl Plan<'_> {
+    /// The winner's moves at a vertex of the first player, which a step enters.
+    pub fn draft(&self, store: &mut Store, vertex: usize, step: Step) -> Result<Draft, AllocError>
+        requires ready { IsReady self.now store.old }
+        requires reached { PlayReaches (play_of self.now) self.now.moves_first vertex step.state step.priority }
+        ensures keeps { Keeps store.old store.new }
+        ensures draft { IfOk result (IsDraft self.now store.new step.state step.priority) }
+    {
+        if self.moves_first {
+            self.first_draft(store, vertex, step)
+        } else {
+            self.second_draft(store, vertex, step)
+        }
+    }
+
+    /// The moves of a winner who moves first: one letter, and the steps behind it.
+    fn first_draft(&self, store: &mut Store, vertex: usize, step: Step) -> Result<Draft, AllocError>
+        requires turn { self.now.moves_first ≡ true }
+        requires ready { IsReady self.now store.old }
+        requires reached { PlayReaches (play_of self.now) self.now.moves_first vertex step.state step.priority }
+        ensures keeps { Keeps store.old store.new }
+        ensures draft { IfOk result (IsDraft self.now store.new step.state step.priority) }
+    {
+        let letter = self.letter_at(vertex, step.state);
+        let node = self.setting.automaton.node(step.state);
+        let steps = store.behind(node, self.setting.first, letter)?;
+        let letters = store.leaf(letter)?;
+        Ok(Draft { steps, letters })
+    }
+
+    /// The letter that a winner who moves first chooses at a vertex.
+    fn letter_at(&self, vertex: usize, state: u32) -> u64
+        requires within { vertex < length self.now.certificate.now.entries }
+        requires moves { (letter : ℕ) × IsFirstMove (play_of self.now) vertex state letter }
+        ensures { IsFirstMove (play_of self.now) vertex state result }
+    {
+        let Some(chosen) = self.certificate.choice(vertex) else {
+            unreachable!();
+        };
+        match self.key_of(chosen) {
+            Key::Second { letter, .. } => letter,
+            Key::First { .. } => unreachable!(),
+        }
+    }
+
+    fn key_of(&self, vertex: usize) -> Key
+        requires { vertex < length self.now.others.now }
+        ensures { StandsAt self.now.others.now vertex result }
+    {
+        self.others[vertex]
+    }
+
+    /// The leaf that is noted for a listed key.
+    fn leaf_at(&self, place: usize) -> Option<u64>
+        requires { place < length self.now.leaves.items }
+        ensures { result ≡ slice_index_or self.now.leaves.items place None }
+    {
+        self.leaves[place]
+    }
+
+    /// The moves of a winner who moves second: behind each letter, the first of the arena's moves at this state that
+    /// can be made there, by its least letter.
+    fn second_draft(
+        &self,
+        store: &mut Store,
+        vertex: usize,
+        step: Step,
+    ) -> Result<Draft, AllocError>
+        requires turn { self.now.moves_first ≡ false }
+        requires ready { IsReady self.now store.old }
+        requires reached { PlayReaches (play_of self.now) self.now.moves_first vertex step.state step.priority }
+        ensures keeps { Keeps store.old store.new }
+        ensures draft { IfOk result (IsDraft self.now store.new step.state step.priority) }
+    {
+        let none = store.none()?;
+        let mut draft = Draft {
+            steps: none,
+            letters: none,
+        };
+        for number in 0..self.arena.degree(vertex) {
+            let next = self.arena.successor(vertex, number);
+            draft = self.with_move(store, step.state, next, draft)?;
+        }
+        Ok(draft)
+    }
+
+    /// Adds the move at one of the arena's vertices to a draft, for letters at which it has no move.
+    fn with_move(
+        &self,
+        store: &mut Store,
+        state: u32,
+        vertex: usize,
+        draft: Draft,
+    ) -> Result<Draft, AllocError>
+        requires turn { self.now.moves_first ≡ false }
+        requires ready { IsReady self.now store.old }
+        requires held { IsNode store.old draft.steps × IsNode store.old draft.letters }
+        requires next { (v : ℕ) × (p : ℕ) × StandsAt (play_of self.now).keys v (First state p) ×
+            Contains (successors_of self.now.arena.now v) vertex }
+        ensures keeps { Keeps store.old store.new }
+        ensures tried { IfOk result (λ made. (vertices : List ℕ) (k : ℕ) → slice_get vertices k ≡ Some vertex →
+            TriesMoves self.now store.old state vertices k draft →
+            TriesMoves self.now store.new state vertices (k + 1) made) }
+    {
+        let Some(leaf) = self.move_at(vertex, state) else {
+            return Ok(draft);
+        };
+        let made = self.single(store, state, leaf)?;
+        joined(store, draft, made)
+    }
+
+    /// The move of a winner who moves second at one of the arena's vertices, as a leaf of the automaton's diagrams.
+    fn move_at(&self, vertex: usize, state: u32) -> Option<u64>
+        requires turn { self.now.moves_first ≡ false }
+        requires ready { (t : Table) × IsReady self.now t }
+        requires next { (v : ℕ) × (p : ℕ) × StandsAt (play_of self.now).keys v (First state p) ×
+            Contains (successors_of self.now.arena.now v) vertex }
+        ensures { MatchOption result (NeverMoves self.now state vertex) (IsMoveLeaf self.now state vertex) }
+    {
+        let Some(chosen) = self.certificate.choice(vertex) else {
+            return None;
+        };
+        self.leaf_at(chosen)
+    }
+
+    /// One step, where it can be made, by its least letter.
+    fn single(&self, store: &mut Store, state: u32, leaf: u64) -> Result<Draft, AllocError>
+        requires ready { IsReady self.now store.old }
+        requires state { state ≤ self.now.setting.now.automaton.now.states }
+        requires leaf { leaf < length self.now.setting.now.automaton.now.steps }
+        ensures keeps { Keeps store.old store.new }
+        ensures single { IfOk result (IsSingle self.now.setting.now store.new state leaf) }
+    {
+        let node = self.setting.automaton.node(state);
+        let making = store.selected(node, leaf)?;
+        let letters = store.least_letters(making, self.setting.second)?;
+        let steps = store.guard(letters, leaf)?;
+        Ok(Draft { steps, letters })
+    }
+}
+
+/// The moves of the first draft, and those of the second where it has none.
+fn joined(store: &mut Store, first: Draft, second: Draft) -> Result<Draft, AllocError>
+    requires first { IsNode store.old first.steps × IsNode store.old first.letters }
+    requires second { IsNode store.old second.steps × IsNode store.old second.letters }
+    ensures keeps { Keeps store.old store.new }
+    ensures joined { IfOk result (IsJoined store.old store.new first second) }
+{
+    let steps = store.choose(first.steps, first.steps, second.steps)?;
+    let letters = store.choose(first.letters, first.letters, second.letters)?;
+    Ok(Draft { steps, letters })
+}
