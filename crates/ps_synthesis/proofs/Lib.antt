@@ -6,3 +6,4 @@ mod GreatestWord
 pub mod SynthesiseLemmas
 mod OneWinnersCircuit
 mod WinnersCircuitThere
+mod MixedWinners

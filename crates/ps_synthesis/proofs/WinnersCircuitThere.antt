@@ -15,7 +15,7 @@ use Rattle.ps_machine.specs.Keys.{mover_of}
 use Rattle.ps_machine.specs.Solving.{IsCertified}
 use Rattle.ps_machine.specs.declared.key.Key.{Key}
 use Rattle.ps_machine.specs.declared.key.Order.{Order}
-use Rattle.ps_machine.proofs.Movers.{small_mover}
+use Rattle.ps_machine.proofs.AutomatonGames.Movers.{small_mover}
 use Rattle.ps_synthesis.specs.Reports.{IsWinners, IsWinnersCircuit}
 
 -- laws of other crates that a lemma of this file takes as arguments

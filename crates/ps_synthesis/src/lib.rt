@@ -25,6 +25,7 @@
 //! | `ids_of(game, vertices)` | the ids that name vertices in a fault |
 //! | `SynthFault::number`, `name` | its number and name in psyn's list of faults |
 //! | `winners_circuit_is_one`, `winners_circuit_is_there` | laws: a certificate has one circuit, if not too large |
+//! | `circuit_of_mixed` | a law: the winner's circuit of a mixed file is the winner's circuit of the file |
 //! | `written_texts_are_read` | a law: the texts of games, certificates and circuits parse as the same values |
 #![tactic(auto)]
 
@@ -33,6 +34,7 @@ mod certifying;
 mod circuits;
 mod fault;
 mod laws;
+mod mixing;
 mod problem;
 mod report;
 mod synthesis;
@@ -42,6 +44,7 @@ pub use certifying::{certified, ids_of, is_certified};
 pub use circuits::circuit_of_certificate;
 pub use fault::SynthFault;
 pub use laws::{winners_circuit_is_one, winners_circuit_is_there, written_texts_are_read};
+pub use mixing::circuit_of_mixed;
 pub use problem::{Problem, Synthesis};
 pub use report::{Report, certificate_text, report_of};
 pub use synthesis::synthesise_by;
