@@ -17,8 +17,8 @@ use Rattle.ps_models.specs.Judgements.{IsWinningFor, NamedFormula}
 use Rattle.ps_simulate.specs.Lassos.{AreLetters, IsLetterOf}
 use Rattle.ps_simulate.specs.Symbols.{AreDistinct, HasSymbols, IsSymbol}
 use Rattle.ps_simulate.specs.declared.role.Role.TheVariants.{Controller, Environment}
-use Rattle.ps_simulate.proofs.CountLemmas.{code, code_lt, code_same}
-use Rattle.ps_simulate.proofs.LassoLemmas.{GoesOn-append}
+use Rattle.ps_simulate.proofs.LapsOfRuns.CountLemmas.{code, code_lt, code_same}
+use Rattle.ps_simulate.proofs.LapsOfRuns.LassoLemmas.{GoesOn-append}
 use Rattle.ps_traces.specs.Shapes.{IsInTimeWhereReached, IsReachedByTrace}
 use Rattle.ps_traces.specs.Traces.{IsLassoWord}
 use Rattle.ps_traces.proofs.CircuitRuns.{next_reached, resets_reached, step}
