@@ -3,6 +3,5 @@ pub mod AtMostOne
 pub mod ByCommand
 pub mod CommandLines
 pub mod Exchanged
-pub mod OutcomeLemmas
 pub mod ProgramLemmas
 pub mod StreamLemmas

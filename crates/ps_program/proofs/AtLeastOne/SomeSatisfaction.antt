@@ -8,7 +8,7 @@ use Rattle.ps_simulate.specs.Symbols.{AreDistinct}
 use Rattle.ps_simulate.specs.Words.{TraceWordData}
 use Rattle.ps_simulate.specs.declared.lassos.LassoFault.TheVariants.{EmptyLap, Symbols}
 use Rattle.ps_simulate.specs.declared.role.Role.{Role}
-use Rattle.ps_simulate.proofs.WordLemmas.{some_in_lap}
+use Rattle.ps_simulate.proofs.LapsOfRuns.WordLemmas.{some_in_lap}
 use Rattle.ps_tlsf.specs.Causes as tlsf
 use Rattle.ps_tlsf.specs.Names.{names_in, outputs_in}
 use Rattle.ps_tlsf.specs.Reading.{answer_of}

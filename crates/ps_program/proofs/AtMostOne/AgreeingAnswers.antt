@@ -56,7 +56,7 @@ use Rattle.ps_program.proofs.AtMostOne.OneLine.{is_line_one}
 use Rattle.ps_program.proofs.AtMostOne.OneSatisfaction.{OneWord, lasso_tlsf_one}
 use Rattle.ps_program.proofs.AtMostOne.CompareDetermined.{agree_one_or}
 use Rattle.ps_program.proofs.AtMostOne.TranslateDetermined.{translate_one_or}
-use Rattle.ps_machine.proofs.CertificateThere.{NoCycle, NoFlaw}
+use Rattle.ps_machine.proofs.Machines.CertificateThere.{NoCycle, NoFlaw}
 use Rattle.ps_program.proofs.ByCommand.JudgeLemmas.{OneSolution, OneJudged, OneLoser, NoFlawAndCycle}
 use Rattle.ps_program.proofs.ByCommand.JudgeLemmas.{judges_one_or}
 use Rattle.ps_solution.specs.Solved.{SolutionData}

@@ -11,7 +11,7 @@ use Rattle.ps_program.specs.Outcomes.{Gives, Then}
 use Rattle.ps_program.specs.Replies.{Reply, reply_of}
 use Rattle.ps_program.specs.Texts.{NamesVertices, ReadsCertified}
 use Rattle.ps_program.proofs.ByCommand.TextLemmas.{flaw_names_vertices}
-use Rattle.ps_program.proofs.OutcomeLemmas.{gives_after}
+use Rattle.ps_program.proofs.ByCommand.OutcomeLemmas.{gives_after}
 
 reply_or : Reply → Result Reply (List ℕ) → Reply
 reply_or other (Ok reply) = reply

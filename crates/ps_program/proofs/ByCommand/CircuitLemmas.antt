@@ -11,7 +11,7 @@ use Rattle.ps_program.specs.Faults.{fault_text}
 use Rattle.ps_program.specs.Outcomes.{Gives}
 use Rattle.ps_program.specs.Refusals.{IsRefusalOf}
 use Rattle.ps_program.specs.Texts.{CutsInTwo, ReadsCircuitText, ReadsStimulusText, ReadsSimulated}
-use Rattle.ps_program.proofs.OutcomeLemmas.{gives_fault}
+use Rattle.ps_program.proofs.ByCommand.OutcomeLemmas.{gives_fault}
 
 -- a circuit and a stimulus for it
 abbrev pub Run : Type 0

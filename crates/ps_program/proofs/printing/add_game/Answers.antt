@@ -1,6 +1,6 @@
 use Rattle.std.proofs.Common.{ℕ, List, arith, subst}
 use Rattle.ps_synthesis.specs.Printing.{PrintsGame}
-use Rattle.ps_program.proofs.OutcomeLemmas.{whenever}
+use Rattle.ps_program.proofs.ByCommand.OutcomeLemmas.{whenever}
 use Rattle.ps_program.proofs.printing.add_game.Goals as goal
 
 pub returns-clause-printed : goal.returns-clause-printed

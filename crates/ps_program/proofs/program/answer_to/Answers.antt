@@ -4,7 +4,7 @@ use Rattle.ps_program.specs.CommandLine.{IsLine}
 use Rattle.ps_program.specs.Replies.{Reply, reply_of}
 use Rattle.ps_program.specs.Solvers.{Solvers, solvers_of}
 use Rattle.ps_program.specs.declared.answer.Answer.{Answer}
-use Rattle.ps_program.proofs.OutcomeLemmas.{settled}
+use Rattle.ps_program.proofs.ByCommand.OutcomeLemmas.{settled}
 use Rattle.ps_program.proofs.program.answer_to.Goals as goal
 
 pub returns-clause-answer : goal.returns-clause-answer

@@ -1,7 +1,7 @@
 use Rattle.ps_certificate.specs.Certificates.{CertificateData}
 use Rattle.ps_certificate.specs.Faults.{cause_number, cause_name}
 use Rattle.ps_certificate.specs.Texts.{ReadsCertificate}
-use Rattle.ps_program.proofs.OutcomeLemmas.{gives_parsed}
+use Rattle.ps_program.proofs.ByCommand.OutcomeLemmas.{gives_parsed}
 use Rattle.ps_program.proofs.texts.read_certificate.Goals as goal
 
 pub returns-in_err-read-clause-read : goal.returns-in_err-read-clause-read

@@ -2,7 +2,7 @@ use Rattle.ps_circuit.specs.CauseNames.{cause_name}
 use Rattle.ps_circuit.specs.Causes.{cause_number}
 use Rattle.ps_circuit.specs.Circuits.{CircuitData}
 use Rattle.ps_circuit.specs.Texts.{ReadsCircuit}
-use Rattle.ps_program.proofs.OutcomeLemmas.{gives_parsed}
+use Rattle.ps_program.proofs.ByCommand.OutcomeLemmas.{gives_parsed}
 use Rattle.ps_program.proofs.texts.read_circuit.Goals as goal
 
 pub returns : goal.returns

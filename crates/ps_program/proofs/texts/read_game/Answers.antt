@@ -1,7 +1,7 @@
 use Rattle.ps_game.specs.Games.{NamedGameData}
 use Rattle.ps_pgsolver.specs.Causes.{cause_number, cause_name}
 use Rattle.ps_pgsolver.specs.Reading.{Answer}
-use Rattle.ps_program.proofs.OutcomeLemmas.{gives_parsed}
+use Rattle.ps_program.proofs.ByCommand.OutcomeLemmas.{gives_parsed}
 use Rattle.ps_program.proofs.texts.read_game.Goals as goal
 
 pub returns-in_err-read : goal.returns-in_err-read

@@ -4,7 +4,7 @@ use Rattle.ps_simulate.specs.Stimuli.{stem_of}
 use Rattle.ps_program.specs.Refusals.{IsRefusalOf}
 use Rattle.ps_program.specs.Texts.{ReadsStimulusText}
 use Rattle.ps_program.proofs.ByCommand.CircuitLemmas.{letters_fault}
-use Rattle.ps_program.proofs.OutcomeLemmas.{gives_handed}
+use Rattle.ps_program.proofs.ByCommand.OutcomeLemmas.{gives_handed}
 use Rattle.ps_program.proofs.texts.read_letters.Goals as goal
 
 pub returns-in_err-parse_letters : goal.returns-in_err-parse_letters

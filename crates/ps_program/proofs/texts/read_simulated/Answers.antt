@@ -1,6 +1,6 @@
 use Rattle.std.proofs.Common.{rules, arith, inr}
 use Rattle.ps_program.specs.Texts.{ReadsSimulated}
-use Rattle.ps_program.proofs.OutcomeLemmas.{gives_passed}
+use Rattle.ps_program.proofs.ByCommand.OutcomeLemmas.{gives_passed}
 use Rattle.ps_program.proofs.ByCommand.CircuitLemmas.{run_view, simulated_circuit_fault, simulated_stimulus_fault}
 use Rattle.ps_program.proofs.texts.read_simulated.Goals as goal
 

@@ -4,7 +4,7 @@ use Rattle.ps_tlsf.specs.Names.{names_in}
 use Rattle.ps_tlsf.specs.Reading.{answer_of}
 use Rattle.ps_tlsf.specs.SpecificationViews.{specification_data}
 use Rattle.ps_specification.proofs.DistinctNames.{are_distinct}
-use Rattle.ps_program.proofs.OutcomeLemmas.{gives_parsed}
+use Rattle.ps_program.proofs.ByCommand.OutcomeLemmas.{gives_parsed}
 use Rattle.ps_program.proofs.texts.read_specification.Goals as goal
 
 pub returns-in_err-read-clause-read : goal.returns-in_err-read-clause-read

@@ -1,7 +1,7 @@
 use Rattle.ps_simulate.specs.Faults.{cause_number, cause_name}
 use Rattle.ps_simulate.specs.Stimuli.{StimulusData}
 use Rattle.ps_simulate.specs.StimulusTexts.{ReadsStimulus}
-use Rattle.ps_program.proofs.OutcomeLemmas.{gives_parsed}
+use Rattle.ps_program.proofs.ByCommand.OutcomeLemmas.{gives_parsed}
 use Rattle.ps_program.proofs.texts.read_stimulus.Goals as goal
 
 pub returns-in_err-parse_stimulus : goal.returns-in_err-parse_stimulus

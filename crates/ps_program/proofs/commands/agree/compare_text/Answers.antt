@@ -4,7 +4,7 @@ use Rattle.ps_program.specs.Automata.{ReadsAutomaton}
 use Rattle.ps_program.specs.Commands.Comparing.{ComparesText, TellsAgreement}
 use Rattle.ps_program.specs.Replies.{reply_of}
 use Rattle.ps_program.proofs.ByCommand.AutomatonLemmas.{automaton_failed}
-use Rattle.ps_program.proofs.OutcomeLemmas.{gives_after, gives_failed, gives_passed}
+use Rattle.ps_program.proofs.ByCommand.OutcomeLemmas.{gives_after, gives_failed, gives_passed}
 use Rattle.ps_program.proofs.commands.agree.compare_text.Goals as goal
 
 pub returns-in_err-automaton : goal.returns-in_err-automaton

@@ -1,7 +1,7 @@
 use Rattle.ps_game.specs.Games.{NamedGameData}
 use Rattle.ps_program.specs.Automata.{ReadsAutomaton}
 use Rattle.ps_program.specs.Commands.Games.{MakesGame}
-use Rattle.ps_program.proofs.OutcomeLemmas.{gives_after}
+use Rattle.ps_program.proofs.ByCommand.OutcomeLemmas.{gives_after}
 use Rattle.ps_program.proofs.commands.game.read_game_of.Goals as goal
 
 pub returns-clause-game : goal.returns-clause-game

@@ -2,7 +2,7 @@ use Rattle.ps_game.specs.Games.{NamedGameData}
 use Rattle.ps_solution.specs.Solved.{SolutionData}
 use Rattle.ps_program.specs.Commands.Judging.{ReadsSolved, Judges}
 use Rattle.ps_program.specs.Replies.{reply_of}
-use Rattle.ps_program.proofs.OutcomeLemmas.{gives_after}
+use Rattle.ps_program.proofs.ByCommand.OutcomeLemmas.{gives_after}
 use Rattle.ps_program.proofs.commands.judge.judge.Goals as goal
 
 pub returns : goal.returns

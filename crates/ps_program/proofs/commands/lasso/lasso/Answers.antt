@@ -4,7 +4,7 @@ use Rattle.ps_program.specs.Commands.Lassos.{AnswersLasso, RunsCircuit}
 use Rattle.ps_program.specs.Replies.{reply_of}
 use Rattle.ps_program.specs.Texts.{CutsInThree}
 use Rattle.ps_program.proofs.ByCommand.AutomatonLemmas.{automaton_failed}
-use Rattle.ps_program.proofs.OutcomeLemmas.{first_failed, first_read, gives_passed}
+use Rattle.ps_program.proofs.ByCommand.OutcomeLemmas.{first_failed, first_read, gives_passed}
 use Rattle.ps_program.proofs.commands.lasso.lasso.Goals as goal
 
 pub returns-in_err-automaton : goal.returns-in_err-automaton

@@ -2,7 +2,7 @@ use Rattle.std.proofs.Common.{arith, length, ap}
 use Rattle.ps_program.specs.Commands.Lassos.{RunsCircuit, TellsVerdict}
 use Rattle.ps_program.specs.Replies.{reply_of}
 use Rattle.ps_program.proofs.ByCommand.LassoAnswers.{run_stimulus_fault, run_told}
-use Rattle.ps_program.proofs.OutcomeLemmas.{gives_passed}
+use Rattle.ps_program.proofs.ByCommand.OutcomeLemmas.{gives_passed}
 use Rattle.ps_program.proofs.commands.lasso.run_circuit.Goals as goal
 
 pub returns-in_err-circuit : goal.returns-in_err-circuit

@@ -3,7 +3,7 @@ use Rattle.ps_tlsf.specs.SpecificationViews.{specification_data}
 use Rattle.ps_program.specs.Replies.{reply_of}
 use Rattle.ps_program.specs.Commands.Satisfying.{RunsSpecified, TellsSatisfaction}
 use Rattle.ps_program.proofs.ByCommand.LassoAnswers.{run_stimulus_fault, run_told}
-use Rattle.ps_program.proofs.OutcomeLemmas.{gives_passed}
+use Rattle.ps_program.proofs.ByCommand.OutcomeLemmas.{gives_passed}
 use Rattle.ps_program.proofs.commands.lasso_tlsf.run_circuit.Goals as goal
 
 pub returns-in_err-circuit : goal.returns-in_err-circuit

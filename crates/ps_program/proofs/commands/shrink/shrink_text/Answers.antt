@@ -2,7 +2,7 @@ use Rattle.ps_circuit.specs.Circuits.{CircuitData}
 use Rattle.ps_program.specs.Commands.Shrinking.{TellsReduction, ShrinksText}
 use Rattle.ps_program.specs.Replies.{reply_of}
 use Rattle.ps_program.specs.Texts.{ReadsCircuitText}
-use Rattle.ps_program.proofs.OutcomeLemmas.{gives_after, gives_failed, gives_passed}
+use Rattle.ps_program.proofs.ByCommand.OutcomeLemmas.{gives_after, gives_failed, gives_passed}
 use Rattle.ps_program.proofs.commands.shrink.shrink_text.Goals as goal
 
 pub returns-in_err-circuit : goal.returns-in_err-circuit

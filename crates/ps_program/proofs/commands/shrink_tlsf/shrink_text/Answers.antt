@@ -2,7 +2,7 @@ use Rattle.ps_tlsf.specs.SpecificationViews.{specification_data}
 use Rattle.ps_program.specs.Replies.{reply_of}
 use Rattle.ps_program.specs.Texts.{ReadsCircuitText}
 use Rattle.ps_program.specs.Commands.ShrinkingTlsf.{TellsReductionFor}
-use Rattle.ps_program.proofs.OutcomeLemmas.{gives_after}
+use Rattle.ps_program.proofs.ByCommand.OutcomeLemmas.{gives_after}
 use Rattle.ps_program.proofs.commands.shrink_tlsf.shrink_text.Goals as goal
 
 pub returns : goal.returns

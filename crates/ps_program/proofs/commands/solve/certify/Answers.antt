@@ -1,6 +1,6 @@
 use Rattle.std.proofs.Common.{arith}
 use Rattle.ps_synthesis.proofs.CertifyingLemmas.{fault_might}
-use Rattle.ps_program.proofs.OutcomeLemmas.{gives_failed, gives_handed}
+use Rattle.ps_program.proofs.ByCommand.OutcomeLemmas.{gives_failed, gives_handed}
 use Rattle.ps_program.proofs.ByCommand.SolverLemmas.{certifies_refused}
 use Rattle.ps_program.proofs.commands.solve.certify.Goals as goal
 

@@ -2,7 +2,7 @@ use Rattle.std.proofs.Common.{arith}
 use Rattle.ps_program.specs.Replies.{reply_of}
 use Rattle.ps_program.specs.Commands.Solving.{AnswersGame}
 use Rattle.ps_program.specs.Texts.{ReadsGameText}
-use Rattle.ps_program.proofs.OutcomeLemmas.{gives_after}
+use Rattle.ps_program.proofs.ByCommand.OutcomeLemmas.{gives_after}
 use Rattle.ps_program.proofs.commands.solve.solve.Goals as goal
 
 pub returns-in_err-game-clause-answer : goal.returns-in_err-game-clause-answer

@@ -6,7 +6,7 @@ use Rattle.ps_program.specs.declared.answer.Refusal.{Refusal}
 use Rattle.ps_program.specs.Replies.{Reply, reply_of}
 use Rattle.ps_program.specs.StageFaults.{IsTold}
 use Rattle.ps_program.specs.Commands.Synthesis.{AnswersReport, IsPrinted, Synthesises, synthesis_reply}
-use Rattle.ps_program.proofs.OutcomeLemmas.{gives_failed, gives_handed}
+use Rattle.ps_program.proofs.ByCommand.OutcomeLemmas.{gives_failed, gives_handed}
 use Rattle.ps_program.proofs.ByCommand.SynthLemmas.{gives_told, of_text}
 use Rattle.ps_program.proofs.commands.synth.report.Goals as goal
 

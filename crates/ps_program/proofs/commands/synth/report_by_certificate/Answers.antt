@@ -3,7 +3,7 @@ use Rattle.ps_machine.specs.Solvers.{once_fed}
 use Rattle.ps_program.specs.Replies.{reply_of}
 use Rattle.ps_program.specs.Commands.Synthesis.{AnswersReport}
 use Rattle.ps_program.specs.Texts.{CutsInTwo}
-use Rattle.ps_program.proofs.OutcomeLemmas.{gives_after}
+use Rattle.ps_program.proofs.ByCommand.OutcomeLemmas.{gives_after}
 use Rattle.ps_program.proofs.ByCommand.SynthLemmas.{gives_kept}
 use Rattle.ps_program.proofs.commands.synth.report_by_certificate.Goals as goal
 

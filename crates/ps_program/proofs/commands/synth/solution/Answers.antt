@@ -8,7 +8,7 @@ use Rattle.ps_program.specs.declared.answer.Refusal.TheVariants as refusal
 use Rattle.ps_program.specs.Replies.{Reply, reply_of}
 use Rattle.ps_program.specs.StageFaults.{IsTold}
 use Rattle.ps_program.specs.Commands.Synthesis.{AnswersReport, IsPrinted, Synthesises, synthesis_reply}
-use Rattle.ps_program.proofs.OutcomeLemmas.{gives_failed, gives_handed, gives_passed}
+use Rattle.ps_program.proofs.ByCommand.OutcomeLemmas.{gives_failed, gives_handed, gives_passed}
 use Rattle.ps_program.proofs.ByCommand.SynthLemmas.{gives_told, unsure_of}
 use Rattle.ps_program.proofs.commands.synth.solution.Goals as goal
 

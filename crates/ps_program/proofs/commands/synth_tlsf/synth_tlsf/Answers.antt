@@ -6,7 +6,7 @@ use Rattle.ps_program.specs.declared.answer.Refusal.{Refusal}
 use Rattle.ps_program.specs.declared.answer.Refusal.TheVariants as refusal
 use Rattle.ps_program.specs.Replies.{reply_of}
 use Rattle.ps_program.specs.Commands.SynthesisTlsf.{AnswersSynthTlsf, IsSpecificationTold}
-use Rattle.ps_program.proofs.OutcomeLemmas.{gives_handed, gives_passed}
+use Rattle.ps_program.proofs.ByCommand.OutcomeLemmas.{gives_handed, gives_passed}
 use Rattle.ps_program.proofs.ByCommand.SynthTlsfLemmas.{specification_fault}
 use Rattle.ps_program.proofs.commands.synth_tlsf.synth_tlsf.Goals as goal
 

@@ -2,7 +2,7 @@ use Rattle.ps_tlsf.specs.SpecificationViews.{specification_data}
 use Rattle.ps_program.specs.Commands.VerifyingTlsf.{AnswersVerifyTlsf, VerifiesSpecified}
 use Rattle.ps_program.specs.Replies.{reply_of}
 use Rattle.ps_program.specs.Texts.{CutsInTwo, ReadsSpecificationText}
-use Rattle.ps_program.proofs.OutcomeLemmas.{first_failed, first_read, gives_passed}
+use Rattle.ps_program.proofs.ByCommand.OutcomeLemmas.{first_failed, first_read, gives_passed}
 use Rattle.ps_program.proofs.commands.verify_tlsf.verify_tlsf.Goals as goal
 
 pub returns-in_err-specification : goal.returns-in_err-specification
