@@ -2,7 +2,7 @@ use Rattle.std.proofs.Common.{◌≡◌, ◌<◌, Bool, List, true, false, IsTru
 use Rattle.std.proofs.lemmas.List.{length-replicate, get_or-replicate}
 use Rattle.ps_game.specs.Games.{vertex_count}
 use Rattle.ps_game.specs.Regions.{has}
-use Rattle.ps_game.proofs.SubgameFacts.{has-below}
+use Rattle.ps_game.proofs.PathsAndLoops.SubgameFacts.{has-below}
 use Rattle.ps_game_tests.proofs.solvers.attract_to.Goals as goal
 
 pub attract-requires-clause-target : goal.attract-requires-clause-target
