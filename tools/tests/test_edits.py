@@ -55,10 +55,18 @@ VERDICTS = {"refused", "refused by a name", "to be tried"}
 
 
 def edits_in(folder):
-    """For each edit in a crate's folder of the given name (`must-fail` or `more-edits`), the crate and the name of the
-    edit."""
-    paths = sorted(glob.glob(os.path.join(TOP, "crates", "*", folder, "*")))
-    return [(path.split(os.sep)[-3], os.path.basename(path).removesuffix(".edit")) for path in paths]
+    """For each file in a crate's folder of the given name (`must-fail` or `more-edits`), or in a folder within it, the
+    crate and the name of the edit."""
+    paths = [path for path in paths_in(folder) if os.path.isfile(path)]
+    return [(crate_of(path), os.path.basename(path).removesuffix(".edit")) for path in paths]
+
+
+def paths_in(folder):
+    return sorted(glob.glob(os.path.join(TOP, "crates", "*", folder, "**", "*"), recursive=True))
+
+
+def crate_of(path):
+    return os.path.relpath(path, os.path.join(TOP, "crates")).split(os.sep)[0]
 
 
 def why_not(crate, edit):
@@ -89,10 +97,10 @@ class Edits(unittest.TestCase):
     def test_each_applies(self):
         wrong, found = [], 0
         for folder in ("must-fail", "more-edits"):
-            for path in sorted(glob.glob(os.path.join(TOP, "crates", "*", folder, "*.edit"))):
+            for path in (it for it in paths_in(folder) if it.endswith(".edit")):
                 found += 1
                 with open(path, encoding="utf-8") as file:
-                    why = why_not(os.path.dirname(os.path.dirname(path)), file.read())
+                    why = why_not(os.path.join(TOP, "crates", crate_of(path)), file.read())
                 if why:
                     wrong.append(f"{os.path.relpath(path, TOP)}: {why}")
         self.assertFalse(wrong, "\n".join(wrong))

@@ -29,8 +29,9 @@ FAMILIES = {
     "letters over a mask, and formulas over propositions; what stands behind a letter, and in a text": "IsBehind IsOver",
     "classes of letters that are known, and covers of sets that are known": "AreKnown",
 }
-# Acceptance marks are those of HOA texts; a fair cycle has marks of any kind on its edges.
-WITH_MARKS = ("ps_hoa", "ps_automaton", "ps_automaton_tests", "ps_fairness", "ps_game_tests", "ps_models", "ps_translation")
+# Acceptance marks are those of HOA texts; a fair cycle has marks of any kind on its edges, and in ps_tableau a set that
+# is known to be reduced is marked.
+WITH_MARKS = ("ps_hoa", "ps_automaton", "ps_automaton_tests", "ps_fairness", "ps_game_tests", "ps_mixing", "ps_models", "ps_tableau", "ps_translation")
 PLAYER = re.compile(r"\b(?:player|owner|winner)s?: u8\b|\((?:player|owner|winner)\b[^)]*\): \(u8\b")
 NUMBERS_OF_PLAYERS = {
     "ps_game/src/builder.rt": "`GameBuilder::vertex` takes the number of an owner",
@@ -44,6 +45,9 @@ SAME_LEMMA_FILES = {
     "DraftLemmas.antt": "ps_circuit ps_models: circuits that are read; products that are explored",
     "ExploringLemmas.antt": "ps_product ps_timing: products, and the values of latches, that are explored",
     "RowLemmas.antt": "ps_models ps_simulate: the edges of a vertex; rows of lanes",
+    "RowSteps.antt": "ps_automaton ps_brief: steps of a table's rows; rows of a machine that is drawn",
+    "Drafting.antt": "ps_automaton ps_brief: automata, and a winner's moves, that are drafted",
+    "Orders.antt": "ps_brief ps_zielonka: the order of the second player's moves; lists by priority",
     "StepLemmas.antt": "ps_models ps_simulate: steps with covers; steps of lanes",
     "ValueLemmas.antt": "ps_simulate ps_timing: values of variables; values of Boolean functions",
     "Bits.antt": "ps_automaton ps_formula: sets that are numbers; one bit of the rows of truths",
