@@ -1,4 +1,5 @@
--- The circuit of a machine is the circuit of the mixed machine.
+-- The circuit of a machine is the circuit of the mixed machine, and if it needs too many variables, so does the mixed
+-- machine's.
 use Rattle.std.specs.Prelude.{◌≡◌, ℕ, zero, suc, ◌+◌, ◌^◌, ◌<◌, Bool, cond, nat_eq, List, [], ◌∷◌}
 use Rattle.std.specs.Prelude.{length, map, Option, Some, slice_index_or}
 use Rattle.std.specs.List.{AllPairs, range_with_len}
@@ -9,10 +10,10 @@ use Rattle.std.proofs.lemmas.List.{length-map}
 use Rattle.std.proofs.lemmas.Simd.{map-map}
 use Rattle.ps_label.specs.Truth.{is_in}
 use Rattle.ps_aiger.specs.Encoded.{Encodes, StepsAs, bits_over, letter_over, memory_of, memory_of_code, symbols_of}
-use Rattle.ps_aiger.specs.Wires.{AreGates, IsWired, StepBit, Wired, code_made, next_bit, next_wires, output_bit}
-use Rattle.ps_aiger.specs.Wires.{output_wires, over_variables, wired}
+use Rattle.ps_aiger.specs.Wires.{AreGates, IsOutOfLiterals, IsWired, StepBit, Wired, code_made, next_bit, next_wires}
+use Rattle.ps_aiger.specs.Wires.{output_bit, output_wires, over_variables, wired}
 use Rattle.ps_aiger.proofs.LetterLemmas.{bit_for, letter_bit}
-use Rattle.ps_circuit.specs.Building.{Drafted}
+use Rattle.ps_circuit.specs.Building.{Drafted, HasTooMany}
 use Rattle.ps_circuit.specs.declared.builder.Sides.{Sides}
 use Rattle.ps_circuit.specs.Circuits.{CircuitData}
 use Rattle.ps_machine.specs.Behaviours.{Behaviour}
@@ -158,4 +159,12 @@ module _ {n : ℕ} {is_first : ℕ → Bool} {mixing : Mixing} (is : IsMixing n 
           (subst (λ (k : ℕ). AreGates (k + length circuit.latches + 1)
           (output_wires m (length circuit.latches)).draft.gates circuit.gates)
           (sym (length-map m.inputs mixing.to)) wired.gates);
+    }
+
+    pub out_of_literals_moved : IsOutOfLiterals m → IsOutOfLiterals other
+    out_of_literals_moved out = record {
+      latches = out.latches;
+      room = out.room;
+      needed = out.needed;
+      above = subst HasTooMany (sym (ap (λ (w : Wired). w.draft) (output_wires_same out.latches))) out.above;
     }
