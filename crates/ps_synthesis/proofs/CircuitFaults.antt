@@ -15,7 +15,7 @@ use Rattle.ps_synthesis.specs.declared.fault.SynthFault.{SynthFault}
 
 module _ (order : Order) (a : AutomatonData) (game : ParityGame) (certificate : CertificateData) (m : Behaviour)
     (extracted : IsExtracted order a game certificate m) where
-  cause_of : (given : EncodeFault) → (given ≡ circuit.CircuitTooLarge → IsOutOfLiterals m) →
+  pub cause_of : (given : EncodeFault) → (given ≡ circuit.CircuitTooLarge → IsOutOfLiterals m) →
       IsCircuitFault order a game certificate (of_circuit given)
   cause_of given large = grind arith
 

@@ -5,5 +5,7 @@ pub mod Reporting
 mod GreatestWord
 pub mod SynthesiseLemmas
 mod OneWinnersCircuit
+pub mod ShortTexts
+pub mod UnseenGames
 mod WinnersCircuitThere
 mod MixedWinners

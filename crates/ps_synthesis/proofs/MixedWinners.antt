@@ -1,9 +1,10 @@
--- The winner's circuit of a mixed file is the winner's circuit of the file.
+-- The winner's circuit of a mixed file is the winner's circuit of the file, and if it needs too many variables, so does
+-- the file's.
 use Rattle.std.specs.Prelude.{◌≡◌, ℕ, ◌<◌, List, length, map}
 use Rattle.std.specs.List.{AllPairs}
 use Rattle.std.proofs.Common.{refl, ap, subst, sym, ◌∙◌}
 use Rattle.ps_aiger.specs.Encoded.{Encodes, IsTidy}
-use Rattle.ps_aiger.specs.Wires.{IsWired}
+use Rattle.ps_aiger.specs.Wires.{IsOutOfLiterals, IsWired}
 use Rattle.ps_certificate.specs.Certificates.{CertificateData}
 use Rattle.ps_circuit.specs.Circuits.{CircuitData}
 use Rattle.ps_hoa.specs.Files.{FileData}
@@ -13,12 +14,14 @@ use Rattle.ps_machine.specs.Behaviours.{Behaviour}
 use Rattle.ps_machine.specs.Boards.{Board}
 use Rattle.ps_machine.specs.Extracting.{HasPropositions}
 use Rattle.ps_machine.specs.FileGames.{IsGameOfFile}
+use Rattle.ps_machine.specs.Solvers.{MayAnswer}
 use Rattle.ps_machine.specs.declared.key.Order.{Order}
 use Rattle.ps_synthesis.specs.Reports.{IsWinners, IsWinnersCircuit}
+use Rattle.ps_synthesis.specs.SynthFaults.{IsTooLarge}
 use Rattle.ps_mixing.specs.MixedBoards.{mixed_board, mixed_machine}
 use Rattle.ps_mixing.specs.MixedFiles.{IsMixingOf, mixed_file, mixed_names}
 use Rattle.ps_mixing.specs.Mixings.{Mixing, inverse}
-use Rattle.ps_mixing.proofs.MixedCircuits.{encodes_moved, wired_moved}
+use Rattle.ps_mixing.proofs.MixedCircuits.{encodes_moved, out_of_literals_moved, wired_moved}
 use Rattle.ps_mixing.proofs.MixedFileGames.{board_back, game_back}
 use Rattle.ps_mixing.proofs.MixedFileMachines.{back_on, board_again, board_before, machine_back}
 use Rattle.ps_mixing.proofs.MixedMachineParts.{inputs_there, machine_there, many, names_unmixed, propositions_there}
@@ -65,6 +68,10 @@ module _ (order : Order) (file : FileData) (mixing : Mixing) (is : IsMixingOf fi
     rise = inputs_there board (inverse mixing) (back_on order file mixing is game of) m winners.is_machine
         (mixed_names mixing file.names) has
 
+    out_of_literals_back : IsOutOfLiterals m → IsOutOfLiterals (mixed_machine n (inverse mixing) m)
+    out_of_literals_back out = out_of_literals_moved (back_on order file mixing is game of) m length_is
+        winners.is_machine.inputs_rise rise out
+
     circuit_of : (circuit : CircuitData) → Encodes m circuit → IsTidy circuit → IsWired m circuit →
         IsWinnersCircuit order file game (game_back order file mixing is game of) certificate circuit
     circuit_of circuit encodes tidy wired = record {
@@ -84,3 +91,17 @@ module _ (order : Order) (file : FileData) (mixing : Mixing) (is : IsMixingOf fi
     game_back order file mixing is game of,
     circuit_of is_circuit.machine is_circuit.winners circuit is_circuit.encodes is_circuit.tidy is_circuit.wired,
   )
+
+pub too_large_back : (May : MayAnswer) (order : Order) (file : FileData) (mixing : Mixing) → IsMixingOf file mixing →
+    IsSoundFile file → (game : NamedGameData) → IsTooLarge May order (mixed_file mixing file) game →
+    IsTooLarge May order file game
+too_large_back May order file mixing is sound game large = record {
+  certificate = large.certificate;
+  answered = large.answered;
+  certified = large.certified;
+  is_game = game_back order file mixing is game large.is_game;
+  machine = mixed_machine (length file.names) (inverse mixing) large.machine;
+  winners = winners_back order file mixing is sound game large.is_game large.certificate large.machine large.winners;
+  out_of_literals = out_of_literals_back order file mixing is sound game large.is_game large.certificate large.machine
+      large.winners large.out_of_literals;
+}

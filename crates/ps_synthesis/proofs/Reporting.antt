@@ -1,7 +1,7 @@
 -- If the stages of synthesis succeed, they give a certificate and a circuit that are right (`IsWinnersSynthesis`), and
 -- the report guarantees what it states (`IsReport`); if one fails, the fault has the reason that `IsSynthFault` states.
 use Rattle.std.proofs.Common.{rules, arith, ◌≡◌, ◌↔◌, ℕ, Bool, List, Result, Ok, Err, refl, subst, sym}
-use Rattle.std.specs.Prelude.{IfErr, IfOk, IsTrue}
+use Rattle.std.specs.Prelude.{IfErr, IfOk, IsTrue, nat_eq}
 use Rattle.std.specs.Result.{IsErrAnd}
 use Rattle.ps_circuit.specs.Circuits.{CircuitData}
 use Rattle.ps_automaton.specs.Automata.{AutomatonData, IsBuiltFrom, auto_of}
@@ -36,10 +36,10 @@ module _ (order : Order) (text : List ℕ) (a : AutomatonData) (keys : List Key)
     (of : IsAutomatonOf text a)
     (is_game : IsGameOf (board_of order a) (mover_of order) keys game.game)
     (are_named : AreNamed (board_of order a) keys game) where
-  board_same : board_of order a ≡ board_of_file order of.file (auto_of a)
+  pub board_same : board_of order a ≡ board_of_file order of.file (auto_of a)
   board_same = grind arith
 
-  abbrev of_file : IsGameOfFile order of.file game
+  abbrev pub of_file : IsGameOfFile order of.file game
   of_file = record {
     chain = of.chain;
     is_chain = of.built.is_chain;
@@ -59,7 +59,7 @@ module _ (order : Order) (text : List ℕ) (a : AutomatonData) (keys : List Key)
       certificate circuit
   circuit_is certificate circuit made = grind (arith, winners)
 
-  synthesis_is : (May : MayAnswer) (certificate : CertificateData) (circuit : CircuitData) → May game (Ok certificate) →
+  pub synthesis_is : (May : MayAnswer) (certificate : CertificateData) (circuit : CircuitData) → May game (Ok certificate) →
       IsCertified game certificate → BothHold game.game certificate → NoneWinsOutside game.game certificate →
       IsCircuitOf order a game.game certificate circuit →
       ((file : FileData) (chain : Chain) → IsBuiltFrom file chain a →
@@ -79,7 +79,7 @@ module _ (order : Order) (text : List ℕ) (a : AutomatonData) (keys : List Key)
     circuit = circuit_is certificate circuit made;
   }
 
-  circuit_cause : (May : MayAnswer) (certificate : CertificateData) (fault : SynthFault) → May game (Ok certificate) →
+  pub circuit_cause : (May : MayAnswer) (certificate : CertificateData) (fault : SynthFault) → May game (Ok certificate) →
       IsCertified game certificate → IsCircuitFault order a game.game certificate fault →
       IsSynthFault May order text fault
   circuit_cause May certificate CircuitTooLarge may certified h = record {
@@ -147,6 +147,10 @@ report_is May order text s compact report is realizable circuit game certificate
 }
 
 -- ## Results
+
+-- a truth value is that of a test which decides the same
+pub zero_test : (b : Bool) (n : ℕ) → (IsTrue b ↔ (n ≡ 0)) → b ≡ nat_eq n 0
+zero_test b n same = grind arith
 
 -- what follows from two facts about a value follows from two facts about a result
 pub ok_both : {V E : Type 0} (P Q R : V → Type 0) → ((v : V) → P v → Q v → R v) → (r : Result V E) → IfOk r P →

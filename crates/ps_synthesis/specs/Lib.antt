@@ -2,6 +2,8 @@ pub mod Printing
 pub mod Promises
 pub mod Problems
 pub mod Reports
+pub mod ShortAnswers
+pub mod ShortFiles
 pub mod Stages
 pub mod SynthFaults
 pub mod SynthFaultNames

@@ -20,6 +20,7 @@
 //! | `Problem::report_of_certified(certificate, compact)` | the same by one that was checked before |
 //! | `Problem::solve(solver)` | the certificate that a solver returns, checked, and the winner's circuit |
 //! | `Problem::circuit(certificate)` | this circuit, by a certificate that was checked before |
+//! | `short_answer(text, order, solver)` | the winner and a circuit without the game, if that is worth it |
 //! | `read_automaton(text)`, `circuit_of_certificate` | an automaton; the winner's circuit by a valid certificate |
 //! | `report_of`, `certificate_text` | the three texts of a report; a certificate's text |
 //! | `ids_of(game, vertices)` | the ids that name vertices in a fault |
@@ -37,6 +38,7 @@ mod laws;
 mod mixing;
 mod problem;
 mod report;
+mod short;
 mod synthesis;
 
 pub use automata::read_automaton;
@@ -47,4 +49,5 @@ pub use laws::{winners_circuit_is_one, winners_circuit_is_there, written_texts_a
 pub use mixing::circuit_of_mixed;
 pub use problem::{Problem, Synthesis};
 pub use report::{Report, certificate_text, report_of};
+pub use short::{Short, short_answer};
 pub use synthesis::synthesise_by;

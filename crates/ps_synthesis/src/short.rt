@@ -1,0 +1,187 @@
+//! The winner and the winner's circuit, without the game.
+
+ghost use Rattle.std.specs.Prelude.{◌≡◌, ◌≤◌, ◌<◌, ◌↔◌, ◌⊎◌, IsTrue, Ok, Err, IfErr, IfOk, IfSome, IsNone};
+ghost use Rattle.ps_aiger.specs.Encoded.{Encodes, IsTidy};
+ghost use Rattle.ps_aiger.specs.Wires.{IsOutOfLiterals, IsWired};
+ghost use Rattle.ps_automaton.specs.Answers.{IsAdmitted};
+ghost use Rattle.ps_automaton.specs.Automata.{IsBuiltFrom};
+ghost use Rattle.ps_automaton.specs.Chains.{Chain};
+ghost use Rattle.ps_circuit.specs.declared.encode_fault.EncodeFault.TheVariants as encoding;
+ghost use Rattle.ps_hoa.specs.Files.{FileData};
+ghost use Rattle.ps_hoa.specs.Sound.{IsSoundFile};
+ghost use Rattle.ps_hoa.specs.Texts.{ReadsFile};
+ghost use Rattle.ps_machine.specs.Behaviours.{IsMachine};
+ghost use Rattle.ps_machine.specs.Machines.{behaviour};
+ghost use Rattle.ps_machine.specs.Solvers.{Answered};
+ghost use Rattle.ps_machine.specs.Solving.{AnswersLeast};
+ghost use Rattle.ps_mixing.specs.MixedFiles.{HasLabels, IsMixingOf, mixed_file};
+ghost use Rattle.ps_mixing.specs.Mixings.{Mixing};
+ghost use Rattle.ps_synthesis.specs.ShortAnswers.{IsShortOf, first_count};
+ghost use Rattle.ps_synthesis.specs.ShortFiles.{IsFaultOfFile, IsShortOfFile};
+ghost use Rattle.ps_synthesis.specs.Stages.{IsTextFault};
+ghost use Rattle.ps_synthesis.specs.SynthFaults.{IsSureFault, IsSynthFault};
+
+use crate::fault::SynthFault;
+use ps_aiger::{Circuit, EncodeFault, encode};
+use ps_automaton::Automaton;
+use ps_brief::machine_without_game;
+use ps_certificate::{no_strategy_wins_outside, valid_regions_are_held};
+use ps_hoa::{HoaFile, one_answer};
+use ps_machine::{Machine, Order, Solver, game_of_file_is_game};
+use ps_mixing::{even_order, has_labels, mixed};
+use ps_traces::certified_circuit_of_file_answers;
+use std::alloc::{AllocError, Global};
+
+/// If the player who moves first has fewer propositions, a state of the game has at most 2^7 classes of letters, and
+/// the game is built: its circuits stay as they are.
+const LEAST_PROPOSITIONS: usize = 8;
+
+/// Who wins, and the winner's circuit.
+#[derive(Drop)]
+pub struct Short {
+    /// Whether the controller wins.
+    pub realizable: bool,
+    /// A controller or an environment.
+    pub circuit: Circuit,
+}
+
+/// The winner and a circuit for an HOA text, by a certificate that a free solver may give, although neither the game
+/// nor the certificate is made. `None` where the game has to be built: if the solver is not free, if the player who
+/// moves first has fewer than eight propositions, or if a state's basis would come to too many letters. Fails with the
+/// text's first error, with the reason why its file has no automaton, if the circuit needs more than 2147483647
+/// variables, or if out of memory.
+pub fn short_answer<S: Solver>(
+    alloc: Global,
+    text: &[u8],
+    order: Order,
+    solver: &S,
+) -> Result<Option<Short>, SynthFault>
+    ensures short { IfOk result (λ found. IfSome found
+        (IsShortOf (Answered (S.known solver.now) (S.known solver.now)) order text.now)) }
+    ensures few { (file : FileData) → ReadsFile text.now (Ok file) → first_count order file < 8 →
+        IfOk result (λ found. IsNone found) }
+    ensures refused { IfErr result (IsSynthFault (Answered (S.known solver.now) (S.known solver.now)) order text.now) }
+    ensures sure { IfErr result (λ fault. IsTextFault text.now fault ⊎ IsSureFault fault) }
+{
+    one_answer();
+    game_of_file_is_game();
+    valid_regions_are_held();
+    no_strategy_wins_outside();
+    certified_circuit_of_file_answers();
+    let file = ps_hoa::read(alloc, text)?;
+    let found = answer_of_file(alloc, &file, order, solver);
+    drop(file);
+    found
+}
+
+fn answer_of_file<S: Solver>(
+    alloc: Global,
+    file: &HoaFile,
+    order: Order,
+    solver: &S,
+) -> Result<Option<Short>, SynthFault>
+    ensures short { IfOk result (λ found. IfSome found
+        (IsShortOfFile (Answered (S.known solver.now) (S.known solver.now)) order file.now)) }
+    ensures few { first_count order file.now < 8 → IfOk result (λ found. IsNone found) }
+    ensures refused { IfErr result (IsFaultOfFile (Answered (S.known solver.now) (S.known solver.now)) order file.now) }
+{
+    if solver.is_free() && moves_first_with_many(file, order) {
+        answer_without_game(alloc, file, order)
+    } else {
+        Ok(None)
+    }
+}
+
+/// Whether the player who moves first has so many propositions that the game is better not built.
+fn moves_first_with_many(file: &HoaFile, order: Order) -> bool
+    ensures { IsTrue result ↔ (8 ≤ first_count order file.now) }
+{
+    let controllable = file.controllable().len();
+    match order {
+        Order::Mealy => controllable + LEAST_PROPOSITIONS <= file.names().len(),
+        Order::Moore => LEAST_PROPOSITIONS <= controllable,
+    }
+}
+
+/// The winner and a circuit by a valid certificate with the least counts. If the file has labels, its propositions are
+/// mixed before: an automaton whose propositions stand player by player often has diagrams with a node for each letter.
+fn answer_without_game(
+    alloc: Global,
+    file: &HoaFile,
+    order: Order,
+) -> Result<Option<Short>, SynthFault>
+    ensures short { IfOk result (λ found. IfSome found (IsShortOfFile AnswersLeast order file.now)) }
+    ensures refused { IfErr result (IsFaultOfFile AnswersLeast order file.now) }
+{
+    if !has_labels(file) {
+        return answer_as_it_stands(alloc, file, order);
+    }
+    let mixed = evenly_mixed(alloc, file)?;
+    let found = answer_as_it_stands(alloc, &mixed, order);
+    drop(mixed);
+    found
+}
+
+/// The file with each player's propositions evenly spread among the other's.
+fn evenly_mixed(alloc: Global, file: &HoaFile) -> Result<HoaFile, AllocError>
+    requires { HasLabels file.now }
+    ensures mixed { IfOk result (λ made. (mixing : Mixing) × IsMixingOf file.now mixing ×
+        (made ≡ mixed_file mixing file.now)) }
+    ensures sound { IsSoundFile file.now }
+{
+    let order = even_order(alloc, file.names().len() as u32, file.controllable())?;
+    let made = mixed(alloc, file, &order);
+    drop(order);
+    made
+}
+
+/// The winner and a circuit, from the automaton of the file with its propositions as they stand.
+fn answer_as_it_stands(
+    alloc: Global,
+    file: &HoaFile,
+    order: Order,
+) -> Result<Option<Short>, SynthFault>
+    ensures short { IfOk result (λ found. IfSome found (IsShortOfFile AnswersLeast order file.now)) }
+    ensures refused { IfErr result (IsFaultOfFile AnswersLeast order file.now) }
+{
+    let automaton = Automaton::build(alloc, file)?;
+    let found = answer_of_automaton(alloc, &automaton, order);
+    drop(automaton);
+    found
+}
+
+/// `None` if a state's basis would come to too many letters.
+fn answer_of_automaton(
+    alloc: Global,
+    automaton: &Automaton,
+    order: Order,
+) -> Result<Option<Short>, SynthFault>
+    ensures short { (file : FileData) (chain : Chain) → IsAdmitted file → IsBuiltFrom file chain automaton.now →
+        IfOk result (λ found. IfSome found (IsShortOfFile AnswersLeast order file)) }
+    ensures refused { (file : FileData) (chain : Chain) → IsAdmitted file → IsBuiltFrom file chain automaton.now →
+        IfErr result (IsFaultOfFile AnswersLeast order file) }
+{
+    let Some(machine) = machine_without_game(alloc, automaton, order)? else {
+        return Ok(None);
+    };
+    let short = encoded(alloc, &machine);
+    drop(machine);
+    Ok(Some(short?))
+}
+
+/// The player and the circuit of a machine.
+fn encoded(alloc: Global, machine: &Machine) -> Result<Short, EncodeFault>
+    ensures realizable { IfOk result (λ short. IsTrue short.realizable ↔ (machine.now.player ≡ 0)) }
+    ensures encodes { IfOk result (λ short. Encodes (behaviour machine.now) short.circuit) }
+    ensures tidy { IfOk result (λ short. IsTidy short.circuit) }
+    ensures wired { IfOk result (λ short. IsWired (behaviour machine.now) short.circuit) }
+    ensures too_large { result ≡ Err encoding.CircuitTooLarge → IsOutOfLiterals (behaviour machine.now) }
+    ensures machine { IsMachine (behaviour machine.now) }
+{
+    let realizable = machine.player().number() == 0;
+    let circuit = encode(alloc, machine)?;
+    Ok(Short {
+        realizable,
+        circuit,
+    })
+}
