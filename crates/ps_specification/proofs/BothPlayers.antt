@@ -5,7 +5,7 @@
 -- - `not_both`: the theorem
 use Rattle.std.proofs.Common.{◌≡◌, ◌∙◌, ◌+◌, ◌*◌, ◌^◌, ◌<◌, ℕ, zero, suc, Bool, true, false, List, [], ◌∷◌, ◌++◌}
 use Rattle.std.proofs.Common.{length}
-use Rattle.std.proofs.Common.{Option, ap, arith, get_or, length-append, refl, rules, subst, sym}
+use Rattle.std.proofs.Common.{Option, arith, get_or, length-append, refl, subst, sym}
 use Rattle.std.specs.Prelude.{replicate}
 use Rattle.std.proofs.lemmas.List.{length-map, length-replicate}
 use Rattle.std.proofs.lemmas.Nat.{mul-add-lt, same_from_place}

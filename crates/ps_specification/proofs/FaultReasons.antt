@@ -3,7 +3,7 @@
 -- - `pass_reason`: by a circuit that does not win for the specification
 -- - `given_reason`: of a fault of a translator's text, for the specification's text
 -- - `sure_fault`: a fault of synthesis that a sure solver allows becomes a fault that it allows
-use Rattle.std.proofs.Common.{arith, ◌≡◌, ◌≢◌, ℕ, List, Result, Ok, Err, Some, ap, inl, inr, refl, subst, sym}
+use Rattle.std.proofs.Common.{◌≡◌, ◌≢◌, ℕ, List, Result, Ok, Err, Some, ap, inl, inr, subst}
 use Rattle.ps_text.specs.Answers.{Found}
 use Rattle.ps_automaton.specs.Answers.{IsAdmitted, IsRefused}
 use Rattle.ps_automaton.specs.declared.fault.AutomatonFault.{AutomatonFault}
@@ -23,7 +23,7 @@ use Rattle.ps_synthesis.specs.declared.fault.SynthFault.TheVariants as synth
 use Rattle.ps_tlsf.specs.Reading.{answer_of}
 use Rattle.ps_tlsf.specs.Specifications.{Specification}
 use Rattle.ps_models.specs.Judgements.{IsWinningFor}
-use Rattle.ps_specification.specs.Faults.{IsFaultBy, IsSpecificationFault, IsSureSpecificationFault, IsUnfit}
+use Rattle.ps_specification.specs.Faults.{IsFaultBy, IsSpecificationFault, IsSureSpecificationFault}
 use Rattle.ps_specification.specs.Faults.{fault_of_hoa, fault_of_synthesis}
 use Rattle.ps_specification.specs.Inner.Steps.{IsPassFault, IsWonBy}
 use Rattle.ps_specification.specs.Requirements.{order_in, requirement_of}

@@ -3,7 +3,7 @@
 -- - `is_translation_of`: a text has one file, so it is a translation exactly if that file is one
 -- - `translation_text_reason`: a fault of the automaton's text
 -- - `translation_reason`: of a fault of a translator's text, for the specification's text
-use Rattle.std.proofs.Common.{◌≡◌, ◌∙◌, ◌↔◌, ℕ, List, Ok, Err, Some, ap, refl, subst, sym}
+use Rattle.std.proofs.Common.{◌≡◌, ◌∙◌, ◌↔◌, ℕ, List, Ok, Some, ap, subst, sym}
 use Rattle.ps_automaton.specs.Automata.{AutomatonData, IsBuiltFrom}
 use Rattle.ps_automaton.specs.Chains.{Chain}
 use Rattle.ps_hoa.specs.Files.{FileData}
@@ -14,7 +14,6 @@ use Rattle.ps_synthesis.specs.Promises.{IsAcceptedText}
 use Rattle.ps_synthesis.specs.Stages.{IsTextFault}
 use Rattle.ps_synthesis.specs.declared.fault.SynthFault.{SynthFault}
 use Rattle.ps_synthesis.specs.declared.fault.SynthFault.TheVariants as synth
-use Rattle.ps_tlsf.specs.Names.{names_in, outputs_in}
 use Rattle.ps_tlsf.specs.Reading.{answer_of}
 use Rattle.ps_tlsf.specs.Specifications.{Specification}
 use Rattle.ps_specification.specs.Faults.{fault_of_hoa, fault_of_synthesis}

@@ -1,13 +1,16 @@
 //! From a specification's text to a circuit.
 
-ghost use Rattle.std.specs.Prelude.{◌≡◌, ◌<◌, ◌↔◌, ℕ, true, IsTrue, List, length, map, IfErr, IfOk, Ok};
+ghost use Rattle.std.specs.Prelude.{◌≡◌, ◌<◌, ◌↔◌, ◌⊎◌, ℕ, true, IsTrue, List, length, map, IfErr, IfOk, IfSome, Ok};
+ghost use Rattle.std.specs.Prelude.{if◌then◌else◌};
 ghost use Rattle.ps_circuit.specs.Circuits.{IsCircuit};
 ghost use Rattle.ps_machine.specs.Solvers.{Answered, IsKept};
 ghost use Rattle.ps_machine.specs.Solving.{winner_at_start};
 ghost use Rattle.ps_machine.specs.declared.key.Order.{Order};
 ghost use Rattle.ps_models.specs.Judgements.{IsWinningFor};
 ghost use Rattle.ps_simulate.specs.Symbols.{AreDistinct};
+ghost use Rattle.ps_simulate.specs.declared.role.Role.TheVariants.{Controller, Environment};
 ghost use Rattle.ps_synthesis.specs.Problems.{IsProblemOf};
+ghost use Rattle.ps_synthesis.specs.Stages.{IsTextFault};
 ghost use Rattle.ps_synthesis.specs.SynthFaults as synthesis;
 ghost use Rattle.ps_synthesis.specs.SynthFaults.{IsSynthFault};
 ghost use Rattle.ps_tlsf.specs.NameViews.{name_data};
@@ -25,11 +28,11 @@ use crate::judging::{judged, order_of};
 use crate::translator::Translator;
 use ps_certificate::Certificate;
 use ps_circuit::Circuit;
-use ps_machine::Solver;
+use ps_machine::{Order, Solver};
 use ps_models::laws::judgement_is_one;
 use ps_product::ProductFault;
 use ps_simulate::Role;
-use ps_synthesis::{Problem, SynthFault, Synthesis};
+use ps_synthesis::{Problem, Short, SynthFault, Synthesis, short_answer};
 use ps_tlsf::Specification;
 use ps_verify::Judgement;
 use std::alloc::{AllocError, Global};
@@ -96,10 +99,72 @@ fn by_automaton<S: Solver>(
 {
     ps_hoa::one_answer();
     ps_automaton::refusal_is_one();
-    let problem = Problem::read(alloc, hoa, order_of(specification))?;
+    let winner = winner_of(alloc, hoa, order_of(specification), solver)?;
+    passed(alloc, specification, winner)
+}
+
+/// The winner of the game of an automaton's text, with its circuit: without the game, where this is possible.
+fn winner_of<S: Solver>(
+    alloc: Global,
+    hoa: &[u8],
+    order: Order,
+    solver: &mut S,
+) -> Result<Winner, SynthFault>
+    ensures won { IfOk result (λ winner. IsWonBy (Answered (S.known solver.old) (S.known solver.new)) order hoa.now
+        winner.role winner.circuit) }
+    ensures refused { IfErr result (IsSynthFault (Answered (S.known solver.old) (S.known solver.new)) order hoa.now) }
+    ensures sure { (S.known solver.old).is_sure ≡ true →
+        IfErr result (λ fault. IsTextFault hoa.now fault ⊎ synthesis.IsSureFault fault) }
+    ensures kept { IsKept (S.known solver.old) (S.known solver.new) }
+{
+    match short_winner(alloc, hoa, order, solver) {
+        Ok(Some(winner)) => Ok(winner),
+        Ok(None) => winner_by_game(alloc, hoa, order, solver),
+        Err(fault) => Err(fault),
+    }
+}
+
+/// The winner without the game. `None` if the game has to be built.
+fn short_winner<S: Solver>(
+    alloc: Global,
+    hoa: &[u8],
+    order: Order,
+    solver: &S,
+) -> Result<Option<Winner>, SynthFault>
+    ensures won { IfOk result (λ found. IfSome found (λ winner.
+        IsWonBy (Answered (S.known solver.now) (S.known solver.now)) order hoa.now winner.role winner.circuit)) }
+    ensures refused { IfErr result (IsSynthFault (Answered (S.known solver.now) (S.known solver.now)) order hoa.now) }
+    ensures sure { IfErr result (λ fault. IsTextFault hoa.now fault ⊎ synthesis.IsSureFault fault) }
+{
+    let Some(short) = short_answer(alloc, hoa, order, solver)? else {
+        return Ok(None);
+    };
+    let Short {
+        realizable,
+        circuit,
+    } = short;
+    let role = role_if(realizable);
+    Ok(Some(Winner { role, circuit }))
+}
+
+/// The winner by the solver's certificate of the game.
+fn winner_by_game<S: Solver>(
+    alloc: Global,
+    hoa: &[u8],
+    order: Order,
+    solver: &mut S,
+) -> Result<Winner, SynthFault>
+    ensures won { IfOk result (λ winner. IsWonBy (Answered (S.known solver.old) (S.known solver.new)) order hoa.now
+        winner.role winner.circuit) }
+    ensures refused { IfErr result (IsSynthFault (Answered (S.known solver.old) (S.known solver.new)) order hoa.now) }
+    ensures sure { (S.known solver.old).is_sure ≡ true →
+        IfErr result (λ fault. IsTextFault hoa.now fault ⊎ synthesis.IsSureFault fault) }
+    ensures kept { IsKept (S.known solver.old) (S.known solver.new) }
+{
+    let problem = Problem::read(alloc, hoa, order)?;
     let winner = won(alloc, &problem, solver);
     problem.close();
-    passed(alloc, specification, winner?)
+    winner
 }
 
 /// The winner by the solver's certificate, with its circuit.
@@ -125,7 +190,13 @@ fn role_at_start(certificate: &Certificate) -> Role
     requires { 0 < length certificate.now.entries }
     ensures { result ≡ role_of (winner_at_start certificate.now) }
 {
-    if certificate.winner(0) == 0 {
+    role_if(certificate.winner(0) == 0)
+}
+
+fn role_if(realizable: bool) -> Role
+    ensures { result ≡ (if realizable then Controller else Environment) }
+{
+    if realizable {
         Role::Controller
     } else {
         Role::Environment

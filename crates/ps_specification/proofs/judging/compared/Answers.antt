@@ -1,4 +1,4 @@
-use Rattle.std.proofs.Common.{arith, ◌≡◌, List, map, subst}
+use Rattle.std.proofs.Common.{arith, ◌≡◌, map, subst}
 use Rattle.std.specs.Prelude.{IfOk}
 use Rattle.ps_automaton.specs.Automata.{IsBuiltFrom}
 use Rattle.ps_automaton.specs.Chains.{Chain}

@@ -1,4 +1,4 @@
-use Rattle.std.proofs.Common.{◌≡◌, Bool, false, true}
+use Rattle.std.proofs.Common.{◌≡◌, false, true}
 use Rattle.ps_specification.proofs.synthesis.wins.Goals as goal
 
 false_true : false ≡ true → ⊥
