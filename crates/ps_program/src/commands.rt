@@ -234,7 +234,7 @@ pub const ON_SYNTH: &str = "\
            REALIZABLE and a circuit of one, or UNREALIZABLE and the circuit of an
            environment against which each trace is rejected; --moore;
            --full: then a line %%, the game, a line %% and its certificate, with
-           --compact as a compact text;
+           --compact as a compact text; the circuit may then be another one;
            --cert: by a certificate of the game, which is the second text;
            --tlsf, without another flag: a specification in the automaton's place";
 
