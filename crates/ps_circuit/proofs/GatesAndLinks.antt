@@ -6,3 +6,4 @@ pub mod LinksLemmas
 pub mod MadeLemmas
 pub mod MadeSound
 pub mod Ordered
+pub mod Rising

@@ -17,3 +17,4 @@ pub mod SomeCircuitReading
 pub mod SoundParts
 pub mod SoundTexts
 pub mod SymbolLemmas
+pub mod Marks

@@ -4,3 +4,5 @@ pub mod Cursors
 pub mod GateGraphs
 pub mod Names
 pub mod Reading
+pub mod RisingGates
+pub mod Marks

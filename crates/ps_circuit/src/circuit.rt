@@ -10,6 +10,7 @@ use crate::gate_graph::GateGraph;
 use crate::links::links_of;
 use crate::literal::Literal;
 use crate::parts::{Gate, Latch, Parts};
+use crate::rising::by_variable;
 use ps_components::{Arrangement, arrange};
 use std::alloc::{AllocError, Global};
 use std::marker::Model;
@@ -60,6 +61,19 @@ impl Model for Circuit {
 impl Circuit {
     /// The circuit of these parts. Fails if a gate depends on itself, or if out of memory.
     pub(crate) fn new(alloc: Global, parts: Parts) -> Result<Self, CircuitFault>
+        requires { IsDraft (data_of parts) }
+        ensures made { IfOk result (IsMadeOf (data_of parts)) }
+        ensures cyclic { (i : ℕ) → result ≡ Err (CircuitFault.Cyclic i) →
+            IsFirstOnCycle (ReadsGate parts.gates.items) i }
+    {
+        match by_variable(alloc, &parts.gates)? {
+            Some(order) => Ok(Circuit { parts, order }),
+            None => Circuit::arranged(alloc, parts),
+        }
+    }
+
+    /// The same, by a search of the gates.
+    fn arranged(alloc: Global, parts: Parts) -> Result<Self, CircuitFault>
         requires { IsDraft (data_of parts) }
         ensures made { IfOk result (IsMadeOf (data_of parts)) }
         ensures cyclic { (i : ℕ) → result ≡ Err (CircuitFault.Cyclic i) →

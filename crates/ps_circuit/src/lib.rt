@@ -21,7 +21,7 @@
 //! | `one_answer`, `some_answer` | laws: a text has exactly one answer, its circuit or its first error |
 //! | `read_circuit_is_circuit` | a law: what a text describes is a circuit |
 //!
-//! Parsing takes time proportional to the length of the text, but variables far out of order are looked up in a B-tree.
+//! Parsing takes time proportional to the length of the text, but variables far out of order are put into a B-tree.
 //! A text must have no bad states, constraints, justice or fairness, and no latch with its own literal as its reset.
 #![tactic(auto)]
 
@@ -40,7 +40,9 @@ mod names;
 mod number;
 mod parts;
 mod reader;
+mod rising;
 mod sizes;
+mod variables;
 mod writer;
 
 pub use builder::{Builder, Sides};

@@ -21,7 +21,7 @@ use crate::literal::Literal;
 use crate::number::Number;
 use crate::parts::{Gate, Latch};
 use crate::sizes::Header;
-use ps_ids::Ids;
+use crate::variables::Variables;
 use ps_text::cursor::Cursor;
 use std::alloc::{AllocError, Global};
 
@@ -29,7 +29,7 @@ use std::alloc::{AllocError, Global};
 #[derive(Drop)]
 pub struct Noted {
     /// The variables that are defined, in text order.
-    pub variables: Ids,
+    pub variables: Variables,
     /// The literals that use a variable, in text order.
     pub readings: Vec<Number>,
     /// The offset of each gate's line.
@@ -37,15 +37,15 @@ pub struct Noted {
 }
 
 impl Noted {
-    /// Before the first line.
-    pub fn nothing(alloc: Global) -> Self
-        ensures { lines_of [] result ≡ no_lines {A = ℕ} }
+    /// Before the first line. Variables below the limit are found fastest. Fails if out of memory.
+    pub fn nothing(alloc: Global, limit: usize) -> Result<Self, AllocError>
+        ensures { IfOk result (λ noted. lines_of [] noted ≡ no_lines {A = ℕ}) }
     {
-        Noted {
-            variables: Ids::starting_at(alloc, 1),
+        Ok(Noted {
+            variables: Variables::new(alloc, limit)?,
             readings: Vec::new(alloc),
             starts: Vec::new(alloc),
-        }
+        })
     }
 }
 
@@ -101,7 +101,7 @@ fn can_define(literal: u64, most: u32) -> bool
 }
 
 /// Notes that a variable is defined, and returns whether it was undefined.
-fn adds(variables: &mut Ids, variable: u64) -> Result<bool, AllocError>
+fn adds(variables: &mut Variables, variable: u64) -> Result<bool, AllocError>
     ensures new { IfOk result (λ new. OnTrue new (AddsVariable variables.old variable variables.new)) }
     ensures twice { result ≡ Ok false → Contains variables.old variable }
 {
@@ -113,7 +113,11 @@ fn adds(variables: &mut Ids, variable: u64) -> Result<bool, AllocError>
 }
 
 /// Reads a literal that defines its variable.
-fn definition(cursor: &mut Cursor, variables: &mut Ids, header: Header) -> Result<Number, AigFault>
+fn definition(
+    cursor: &mut Cursor,
+    variables: &mut Variables,
+    header: Header,
+) -> Result<Number, AigFault>
     ensures exact { Tells (λ n. n) (signs.number (WrongDefinition header.most variables.old)) cursor.old result cursor.new }
     ensures defined { IfOk result (λ n. Defines header.most variables.old (n.value ∷ []) variables.new) }
 {

@@ -16,9 +16,13 @@ use crate::header::read_header;
 use crate::lines::{GateLine, InputLine, LatchLine, Noted, OutputLine, lines};
 use crate::names::{Names, comment, symbols};
 use crate::parts::Parts;
-use ps_ids::Ids;
+use crate::sizes::Header;
+use crate::variables::Variables;
 use ps_text::cursor::Cursor;
 use std::alloc::Global;
+
+/// A text has a mark for each of its variables, if they are not more than its bytes and this many.
+const LEAST_LIMIT: usize = 4096;
 
 /// The parts that a text states, and what was noted for checks.
 #[derive(Drop)]
@@ -38,13 +42,18 @@ pub fn read(alloc: Global, text: &[u8]) -> Result<Circuit, AigFault>
     assembled(alloc, parts, &noted.starts)
 }
 
+/// A number above all variables, or else not much greater than the text's length.
+fn limit_of(header: Header, text: &[u8]) -> usize {
+    (header.most as usize + 1).min(text.len().saturating_add(LEAST_LIMIT))
+}
+
 fn read_draft(alloc: Global, text: &[u8]) -> Result<Draft, AigFault>
     ensures exact { TellsDraft text.now result }
     ensures sound { IfOk result (λ d. IsSoundDraft (draft_data d)) }
 {
     let mut cursor = Cursor::of_lines(text);
     let header = read_header(&mut cursor)?;
-    let mut noted = Noted::nothing(alloc);
+    let mut noted = Noted::nothing(alloc, limit_of(header, text))?;
     let inputs = lines::<InputLine>(alloc, &mut cursor, &mut noted, header, header.inputs)?;
     let latches = lines::<LatchLine>(alloc, &mut cursor, &mut noted, header, header.latches)?;
     let outputs = lines::<OutputLine>(alloc, &mut cursor, &mut noted, header, header.outputs)?;
@@ -77,7 +86,7 @@ fn all_defined(noted: &Noted) -> Result<(), AigFault>
     Ok(())
 }
 
-fn is_defined(variables: &Ids, variable: u64) -> bool
+fn is_defined(variables: &Variables, variable: u64) -> bool
     ensures defined { IsTrue result → (variable ≡ 0) ⊎ Contains variables.now variable }
     ensures not_defined { result ≡ false → (variable ≡ 0) ⊎ Contains variables.now variable → ⊥ }
 {

@@ -1,7 +1,7 @@
 //! The machine of the winner of an automaton's game, and its circuit.
 
 ghost use Rattle.std.specs.Prelude.{IfOk};
-ghost use Rattle.ps_machine.specs.Solving.{IsCertified};
+ghost use Rattle.ps_solver.specs.Solving.{IsCertified};
 
 use ps_aiger::{encode, write};
 use ps_automaton::Automaton;

@@ -53,14 +53,14 @@ abbrev gates_of : After-symbols → Lines Gate
 gates_of c = lines_of c.in_ok-gates.gates.items c.lines-4.new.noted
 
 inputs_ahead : (c : After-lines) → Ahead (input_line c.in_ok-header.header.most) (body_latches (header_of c))
-    c.of_lines-cursor.result c.read_header.new.cursor c.in_ok-header.header.inputs (lines_of [] c.nothing-noted.result)
+    c.of_lines-cursor.result c.read_header.new.cursor c.in_ok-header.header.inputs (lines_of [] c.in_ok-noted.noted)
 inputs_ahead c = record {
   n = (header_of c).inputs;
   counted = c.in_ok-header.ensures.1.inputs;
   chain = chain_inputs (header_of c) _;
   reached =
       past_header c.in_ok-header.ensures.1.most c.of_lines-cursor.ensures.small c.in_ok-header.ensures.2
-      c.nothing-noted.ensures;
+      c.in_ok-noted.ensures;
 }
 
 latches_ahead : (c : After-lines-2) →
@@ -112,6 +112,9 @@ none_yet c =
 pub returns-in_err-header-clause-exact : goal.returns-in_err-header-clause-exact
 returns-in_err-header-clause-exact c = draft_fails c.args.text.now _ _ c.of_lines-cursor.ensures.stream
     (stops_at chain_text text_unread _ c.in_err-header.ensures) c.from_residual.ensures.1
+
+pub returns-in_err-noted-clause-exact : goal.returns-in_err-noted-clause-exact
+returns-in_err-noted-clause-exact c = search (rules, draft_memory)
 
 pub returns-in_err-inputs-clause-exact : goal.returns-in_err-inputs-clause-exact
 returns-in_err-inputs-clause-exact c = draft_fails c.args.text.now _ _ c.of_lines-cursor.ensures.stream
@@ -165,7 +168,7 @@ returns-clause-sound c =
     let read = draft_reads c.args.text.now c.of_lines-cursor.ensures.stream c.in_ok-comment.ensures.1
     (all_reads _ _ _ _ _ (behind_gates b) (none_yet b) c.in_ok-symbols.ensures.exact c.in_ok-comment.ensures.0) in
     sound_draft most (names_data c.symbols.new.names) c.in_ok-header.header.small (gates_placed _ _ read.0)
-    (search (rules, c.nothing-noted.ensures, c.in_ok-inputs.ensures.grown)) c.in_ok-latches.ensures.grown
+    (search (rules, c.in_ok-noted.ensures, c.in_ok-inputs.ensures.grown)) c.in_ok-latches.ensures.grown
     c.in_ok-outputs.ensures.grown c.in_ok-gates.ensures.grown (search (rules, each_named, c.len.ensures))
     (search (rules, each_named, c.len-2.ensures)) (search (rules, each_named, c.len-3.ensures)) n.inputs_named
     n.latches_named n.outputs_named
