@@ -1,5 +1,6 @@
 -- Definitions that only contracts of private functions use; no clause of a public function refers to them.
 
+pub mod Bits
 pub mod Chosen
 pub mod Composed
 pub mod Hiding

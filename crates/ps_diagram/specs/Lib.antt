@@ -12,4 +12,5 @@ pub mod Reached
 pub mod Classes
 pub mod Composing
 pub mod Hidden
+pub mod Bits
 pub mod Inner

@@ -60,7 +60,7 @@ impl Store {
         self.hidden_by(node, hiding, &mut known)
     }
 
-    fn hidden_by(
+    pub(crate) fn hidden_by(
         &mut self,
         node: Node,
         hiding: Hiding,

@@ -30,7 +30,9 @@
 //! | `least_letters(node, hidden)` | the least letter over the hidden propositions that gives the node a leaf; none if no letter |
 //! | `behind(node, fixed, letter)` | the node's at the letter, but with the fixed propositions as in `letter` |
 //!
-//! These calls keep every node of the store with its leaves, even if they fail (`Keeps`). So does
+//! These calls keep every node of the store with its leaves, even if they fail (`Keeps`). So do
+//! `least_bits(node, hidden)`, which gives a diagram for each bit of the least letter of `least_letters`, in far less
+//! time where there are many such letters, and `letter_bits(letter, mask)`, which gives those of one letter, and
 //! `classes(node, split)`, which divides the letters over the propositions of `split` into classes: two are in one
 //! exactly if the node has the same leaf for both, whatever the other propositions' values (`AreClasses`).
 //! `classes_in_copy(other, node, split)` does this for a node of a store `other` of which this one began as a copy
@@ -63,6 +65,7 @@ mod hidden;
 mod interning;
 mod labels;
 mod leaf_table;
+mod least_bits;
 mod letter;
 mod maps;
 mod memo;

@@ -36,7 +36,7 @@ one_joined p None (Some y) = refl
 one_joined p None None = refl
 
 -- the leaf 1 stands where the least letter does
-ones : (mask : ℕ) (a : Tree) (f : ℕ → Bool) →
+pub ones : (mask : ℕ) (a : Tree) (f : ℕ → Bool) →
     hidden_leaf (whether_over mask) a f ≡ option_map (λ _. 1) (hidden_leaf (least_over mask) a f)
 ones mask empty f = refl
 ones mask (final k) f = refl
@@ -52,7 +52,7 @@ ones mask (choice p low high) f = elim (bool_cases (is_in p mask)) [
 -- the diagram `made` has the leaves of the node, with the propositions of the mask hidden
 module _ {s : Table} (mask node : ℕ) (sound : IsSoundTable s) (held : IsNode s node) where
   -- the leaf at x + y is the leaf at the letter mixed of y on the mask and of x elsewhere
-  sum_leaf : (x y : ℕ) → IsClear mask x → IsOver mask y →
+  pub sum_leaf : (x y : ℕ) → IsClear mask x → IsOver mask y →
       leaf_at (tree_of s node) (mixed mask (assignment y) (assignment x)) ≡ leaf_of s node (x + y)
   sum_leaf x y clear over = from-blind 0 s.propositions (tree_of s node) (sound.ordered node held)
       (mixed mask (assignment y) (assignment x)) (assignment (x + y)) (λ q _ _. sym (in_sum mask x y clear over q))
@@ -67,7 +67,7 @@ module _ {s : Table} (mask node : ℕ) (sound : IsSoundTable s) (held : IsNode s
   there x y clear h =
       record { within = h.within; own = h.own; leaf = subst IsSome (sum_leaf x y clear h.own) h.there }
 
-  least : (x y : ℕ) → IsClear mask x → IsLeastAt mask 0 s.propositions (tree_of s node) (assignment x) y →
+  pub least : (x y : ℕ) → IsClear mask x → IsLeastAt mask 0 s.propositions (tree_of s node) (assignment x) y →
       IsLeastLetter (HasLeafBehind s node mask x) y
   least x y clear h = record {
     here = there x y clear h;
