@@ -1,8 +1,10 @@
 pub mod Aims
+pub mod Graphs
 pub mod Levels
 pub mod Numbers
 pub mod Results
 pub mod Room
+pub mod Sorting
 pub mod Sources
 pub mod Steps
 pub mod Tables

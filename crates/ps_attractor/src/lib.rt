@@ -14,6 +14,8 @@
 //! | `has_room` | whether numbers of a width, 4 or 8 bytes, are large enough for a game |
 //! | `no_room` | the error if no width has room: out of memory |
 //! | `Sources::of`, `at` | for each vertex the vertices with an edge to it, each once, in ascending order |
+//! | `Sources::reversed` | the same for the links of a graph |
+//! | `Edges` | the edges of a game as the links of a graph |
 //! | `Adjacency::of` | the edges of a game in both directions |
 //! | `Tables::new`, `place`, `cut` | levels, moves and the trail of attracted vertices, for many attractors |
 //! | `Tables::attract` | the attractor on these tables, whose vertices are appended to the trail |
@@ -25,15 +27,18 @@
 
 mod aim;
 mod attractor;
+mod edges;
 mod levels;
 mod numbers;
 mod room;
+mod sorting;
 mod sources;
 mod tables;
 mod worklist;
 
 pub use aim::Aim;
 pub use attractor::{Attracted, attract};
+pub use edges::Edges;
 pub use numbers::places_by_number;
 pub use room::{has_room, no_room};
 pub use sources::{Adjacency, Sources};

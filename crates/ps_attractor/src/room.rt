@@ -2,7 +2,7 @@
 
 ghost use Rattle.std.specs.Prelude.{◌↔◌, ◌≤◌, IsTrue};
 ghost use Rattle.ps_game.specs.Games.{vertex_count};
-ghost use Rattle.ps_attractor.specs.Sources.{edges_before};
+ghost use Rattle.ps_attractor.specs.Graphs.{edges_before};
 ghost use Rattle.ps_attractor.specs.Room.{HasRoom};
 
 use ps_game::{Arena, Width};

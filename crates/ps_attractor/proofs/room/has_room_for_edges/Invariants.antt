@@ -1,5 +1,5 @@
 use Rattle.std.proofs.Common.{◌≡◌, ◌+◌}
-use Rattle.ps_attractor.specs.Sources.{edges_before}
+use Rattle.ps_attractor.specs.Graphs.{edges_before}
 use Rattle.ps_attractor.proofs.room.has_room_for_edges.Given as goal
 
 abbrev pub invariant-loop-vertex : goal.invariant-loop-vertex
