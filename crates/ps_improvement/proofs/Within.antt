@@ -1,23 +1,17 @@
 -- Successors and predecessors (sources) of vertices, and the members of components, are vertices of the game.
-use Rattle.std.proofs.Common.{◌≡◌, ℕ, ◌<◌, List, length, get_or, subst, Some}
+use Rattle.std.proofs.Common.{ℕ, ◌<◌, List, length, get_or, subst, Some}
 use Rattle.std.specs.List.{All}
 use Rattle.std.proofs.lemmas.List.Elements.{Contains-get_or}
 use Rattle.std.proofs.lemmas.Option.{slice_get_within, slice_get-get_or}
+use Rattle.ps_attractor.specs.Graphs.{edge_graph}
 use Rattle.ps_attractor.specs.Sources.{IsSourcesOf, sources_of}
-use Rattle.ps_components.specs.Graphs.{LinksStayWithin}
 use Rattle.ps_components.specs.ComponentLists.{ComponentsData, AreComponents}
 use Rattle.ps_game.specs.Games.{ParityGame, IsGame, vertex_count, successors_of}
-use Rattle.ps_improvement.specs.Inner.Edges.{edge_graph}
 
 pub successor_within : (game : ParityGame) (v k : ℕ) → IsGame game → v < vertex_count game →
     k < length (successors_of game v) → get_or (successors_of game v) k 0 < vertex_count game
 successor_within game v k is_game is_vertex within =
     is_game.within v (get_or (successors_of game v) k 0) (is_vertex, Contains-get_or (successors_of game v) k 0 within)
-
-pub links_within : (game : ParityGame) → IsGame game → LinksStayWithin (edge_graph game)
-links_within game is_game v w link =
-    let same : get_or (successors_of game v) link.place 0 ≡ w = cc link.target in
-    subst (λ (x : ℕ). x < vertex_count game) same (successor_within game v link.place is_game link.from link.at)
 
 pub sources_within : (game : ParityGame) (sources : List (List ℕ)) → IsSourcesOf game sources → (v : ℕ) →
     All (λ u. u < vertex_count game) (sources_of sources v)

@@ -4,34 +4,11 @@ ghost use Rattle.std.specs.Prelude.{◌≡◌, ◌<◌, ℕ, All, IfOk, length};
 ghost use Rattle.ps_attractor.specs.Room.{HasRoom};
 ghost use Rattle.ps_attractor.specs.Sources.{sources_of};
 ghost use Rattle.ps_game.specs.Games.{vertex_count};
-ghost use Rattle.ps_improvement.specs.Inner.Edges.{edge_graph};
 
-use ps_attractor::Sources;
-use ps_components::{Components, Graph, components_of};
+use ps_attractor::{Edges, Sources};
+use ps_components::{Components, components_of};
 use ps_game::Arena;
 use std::alloc::{AllocError, Global};
-
-#[derive(Drop)]
-struct Edges<'a, A: Arena> {
-    arena: &'a A,
-}
-
-impl<'a, A: Arena> Graph for Edges<'a, A> {
-    ghost graph = { λ e. edge_graph (A.game e.arena.now) };
-
-    fn count(&self) -> usize {
-        self.arena.count()
-    }
-
-    fn degree(&self, item: usize) -> usize {
-        self.arena.degree(item)
-    }
-
-    fn target(&self, item: usize, place: usize) -> Option<usize> {
-        let _vertices = self.arena.count();
-        Some(self.arena.successor(item, place))
-    }
-}
 
 /// A game, its predecessors and its strongly connected components.
 #[derive(Drop)]

@@ -4,6 +4,5 @@ pub mod Cells
 pub mod Columns
 pub mod Filling
 pub mod Groups
-pub mod Links
 pub mod Outcomes
 pub mod Remaining

@@ -15,6 +15,7 @@ ghost use Rattle.ps_measure.specs.Sums.{count_below};
 use crate::low::Low;
 use crate::table::CountTable;
 use ps_components::{Components, Graph};
+use ps_game::Width;
 use std::alloc::{AllocError, Global};
 
 /// Counts are written by ascending vertex unless fewer than one in `FEW` vertices were visited.
@@ -39,9 +40,9 @@ impl Column {
     /// Computes the least counts for the priority of `low`. The count of a component starts at 1 if it has a vertex of
     /// `roots`, else at 0. If no counts keep the rule, returns a link to a vertex of this priority that lies on a
     /// cycle.
-    pub(crate) fn work_out(
+    pub(crate) fn work_out<W: Width>(
         &mut self,
-        low: &Low,
+        low: &Low<W>,
         roots: &[usize],
     ) -> Result<Option<(usize, usize)>, AllocError>
         requires { AreRoots (low_graph low.now) (low_weight low.now) roots.now }
@@ -138,7 +139,7 @@ impl Column {
 
     /// Raises the value of the component of `to` as far as the link from `from` requires. Returns true if the link
     /// stays within a component and leads to a vertex of the priority of `low`.
-    fn pass(&mut self, low: &Low, from: usize, number: usize, to: usize) -> bool
+    fn pass<W: Width>(&mut self, low: &Low<W>, from: usize, number: usize, to: usize) -> bool
         requires turn { IsTurn (low_graph low.now) (low_weight low.now) self.old.components self.old.values.items
             from number }
         requires link { Link (low_graph low.now) from to }
@@ -163,7 +164,7 @@ impl Column {
     }
 
     /// Raises values as far as the links of `from` require. Stops at a link on a lost cycle, and returns its target.
-    fn pass_all(&mut self, low: &Low, from: usize, number: usize) -> Option<usize>
+    fn pass_all<W: Width>(&mut self, low: &Low<W>, from: usize, number: usize) -> Option<usize>
         requires turn { IsTurn (low_graph low.now) (low_weight low.now) self.old.components self.old.values.items
             from number }
         ensures raised { IsRaised (low_graph low.now) (low_weight low.now) self.old.components self.new.components
@@ -184,7 +185,7 @@ impl Column {
 
     /// Raises values as far as all links require, from the last finished vertex to the first. Stops at a link on a lost
     /// cycle, and returns it.
-    fn settle(&mut self, low: &Low) -> Option<(usize, usize)>
+    fn settle<W: Width>(&mut self, low: &Low<W>) -> Option<(usize, usize)>
         requires { IsCounting (low_graph low.now) (low_weight low.now) self.old.components self.old.values.items }
         ensures raised { IsRaised (low_graph low.now) (low_weight low.now) self.old.components self.new.components
             self.old.values.items self.new.values.items (length self.old.components.order) }

@@ -23,7 +23,6 @@
 //! to `Counts::raises`.
 #![tactic(auto)]
 
-mod back;
 mod column;
 mod fault;
 mod groups;

@@ -103,7 +103,7 @@ filled_none low {roots} none are zeros = record {
   counts = λ _. 0;
   least = grind (arith, light);
   column = record { each = refl; wide = λ v. refl; here = zeros; others = λ v k other. refl };
-  raised_is = sym (raised_none (λ _. 0) low.star.count (λ _. refl));
+  raised_is = sym (raised_none (λ _. 0) (length low.sources) (λ _. refl));
 }
   where
     light : (w v : ℕ) → Link (low_graph low) w v → 0 + low_weight low v ≤ 0

@@ -8,7 +8,7 @@ use Rattle.ps_game.specs.Regions.{has, move_at}
 use Rattle.ps_game.specs.Ranking.{ListsPriorities}
 use Rattle.ps_measure.specs.declared.fault.MeasureFault.{MeasureFault}
 use Rattle.ps_measure.specs.declared.fault.MeasureFault.TheVariants.{BadCycle, OutOfMemory}
-use Rattle.ps_measure.specs.Inner.Remaining.{RemainingData, StarData, remaining_graph, star_graph, IsReverse, LowData}
+use Rattle.ps_measure.specs.Inner.Remaining.{RemainingData, remaining_graph, source_graph, IsReverse, LowData}
 use Rattle.ps_measure.specs.Inner.Remaining.{low_graph, low_weight}
 use Rattle.ps_measure.specs.Inner.Filling.{AreRanked, IsFilled, IsLowRefusal, AreLevels}
 use Rattle.ps_measure.specs.Ranks.{AreRanks, IsRefusal, total_of, raised_of, most_raises}
@@ -19,18 +19,19 @@ use Rattle.ps_measure.proofs.CountRows.Rows.{Row, ranked_more, raised-le-total, 
 pub record IsAtPlace (r : RemainingData) (low : LowData) (priorities : List ℕ) (place : ℕ) : Type 0 where
   pub is_game : IsGame r.game
   pub levels : AreLevels r.game low.levels
-  pub reverse : IsReverse (remaining_graph r) (star_graph low.star)
+  pub reverse : IsReverse (remaining_graph r) (source_graph low.sources)
   pub regions : low.region ≡ r.region
   pub within : place < length priorities
   pub priority : low.priority ≡ slice_index priorities place
 
-pub is_at_place : {game : ParityGame} (player : ℕ) (region : List Bool) (strategy : List (Option ℕ)) (star : StarData)
-    {levels : List ℕ} (priorities : List ℕ) (place : ℕ) → IsGame game → AreLevels game levels →
+pub is_at_place : {game : ParityGame} (player : ℕ) (region : List Bool) (strategy : List (Option ℕ))
+    (sources : List (List ℕ)) {levels : List ℕ} (priorities : List ℕ) (place : ℕ) → IsGame game → AreLevels game levels →
     IsReverse (remaining_graph (record { game = game; player = player; region = region; strategy = strategy }))
-    (star_graph star) → place < length priorities →
+    (source_graph sources) → place < length priorities →
     IsAtPlace (record { game = game; player = player; region = region; strategy = strategy })
-    (record { star = star; region = region; levels = levels; priority = slice_index priorities place }) priorities place
-is_at_place player region strategy star priorities place is_game levels reverse within = search rules
+    (record { sources = sources; region = region; levels = levels; priority = slice_index priorities place })
+    priorities place
+is_at_place player region strategy sources priorities place is_game levels reverse within = search rules
 
 module _ {r : RemainingData} {low : LowData} {priorities : List ℕ} {place : ℕ}
     (at : IsAtPlace r low priorities place) where

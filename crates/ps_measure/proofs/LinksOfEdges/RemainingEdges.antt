@@ -7,12 +7,13 @@ use Rattle.std.proofs.lemmas.Bool.{cases_eq, eqb-true, eq-eqb, ne_eqb, and_parts
 use Rattle.std.proofs.lemmas.Bool.{leb-true, leb-false, le-leb, not-true, not_from_false}
 use Rattle.std.proofs.lemmas.List.{get_or_default}
 use Rattle.std.proofs.lemmas.Option.{cond_some}
+use Rattle.ps_attractor.specs.Sources.{sources_of}
 use Rattle.ps_components.specs.Graphs.{Digraph, Link}
 use Rattle.ps_game.specs.Games.{ParityGame, IsGame, HasEdge, vertex_count, owner_of, successors_of}
 use Rattle.ps_game.specs.Regions.{has, move_at}
 use Rattle.ps_game.specs.Ranking.{RemainsWithin}
-use Rattle.ps_measure.specs.Inner.Remaining.{RemainingData, is_move, remaining_graph, star_graph, IsReverse}
-use Rattle.ps_measure.specs.Inner.Remaining.{LowData, low_graph, low_weight}
+use Rattle.ps_measure.specs.Inner.Remaining.{RemainingData, is_move, remaining_graph, source_graph, IsReverse}
+use Rattle.ps_measure.specs.Inner.Remaining.{LowData, IsLow, low_graph, low_weight}
 use Rattle.ps_measure.specs.Sums.{counted}
 
 -- an edge that remains within the region; the value r gives the game, the player, the region and the moves
@@ -61,13 +62,19 @@ remains_link r {v} {w} remains = search (rules, get_or_default, so_stays)
 
 -- ## Links of low vertices
 
+-- each listed source is a vertex
+pub source_low : (low : LowData) (v k : ℕ) → IsLow low → v < length low.sources →
+    k < length (sources_of low.sources v) → slice_index (sources_of low.sources v) k < length low.sources
+source_low low v k is below within = is.within v (slice_index (sources_of low.sources v) k)
+    (record { from = below; place = k; at = within; target = refl })
+
 -- each link of `low_graph` is a link of the stored graph between vertices whose priorities are at most `low.priority`
-pub low_link : (low : LowData) {w v : ℕ} → Link (low_graph low) w v → Link (star_graph low.star) w v ×
+pub low_link : (low : LowData) {w v : ℕ} → Link (low_graph low) w v → Link (source_graph low.sources) w v ×
     (slice_index low.levels w ≤ low.priority) × (slice_index low.levels v ≤ low.priority)
 low_link low {w} {v} link = search (rules, below_places, cond_some, leb-true)
 
-pub link_low : (low : LowData) {w v : ℕ} → Link (star_graph low.star) w v → slice_index low.levels w ≤ low.priority →
-    slice_index low.levels v ≤ low.priority → Link (low_graph low) w v
+pub link_low : (low : LowData) {w v : ℕ} → Link (source_graph low.sources) w v →
+    slice_index low.levels w ≤ low.priority → slice_index low.levels v ≤ low.priority → Link (low_graph low) w v
 link_low low {w} {v} link from to = search (rules, le-leb)
 
 -- ## Roots
@@ -90,14 +97,14 @@ pub high_target : (low : LowData) {to w : ℕ} → Some to ≡ Some w →
 high_target low {to} {w} same high = search (rules, leb-false)
 
 -- a link of g between vertices whose priorities are at most `low.priority`, reversed, is a link of `low_graph`
-pub leads_low : {g : Digraph} (low : LowData) {v : ℕ} (k : ℕ) {w : ℕ} → IsReverse g (star_graph low.star) →
+pub leads_low : {g : Digraph} (low : LowData) {v : ℕ} (k : ℕ) {w : ℕ} → IsReverse g (source_graph low.sources) →
     v < g.count → k < g.degree v → g.target v k ≡ Some w → slice_index low.levels v ≤ low.priority →
     nat_le (slice_index low.levels w) low.priority ≡ true → Link (low_graph low) w v
 leads_low low {v} k {w} reverse below within target from to =
     link_low low (reverse.there v w (grind arith)) (leb-true (slice_index low.levels w) low.priority to) from
 
-pub leads_nowhere : {g : Digraph} {low : LowData} {v k w : ℕ} → IsReverse g (star_graph low.star) → g.degree v ≤ k →
-    NoneLow g low v k → Link (low_graph low) w v → ⊥
+pub leads_nowhere : {g : Digraph} {low : LowData} {v k w : ℕ} → IsReverse g (source_graph low.sources) →
+    g.degree v ≤ k → NoneLow g low v k → Link (low_graph low) w v → ⊥
 leads_nowhere {low = low} {v} {w = w} reverse all none link =
     let parts = low_link low link in
     let there = reverse.back v w parts.0 in

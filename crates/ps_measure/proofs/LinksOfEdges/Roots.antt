@@ -1,13 +1,14 @@
 -- The search for the roots of a priority, which are the vertices of this priority to which a link of `low_graph` leads.
 use Rattle.std.proofs.Common.{◌≡◌, ℕ, ◌+◌, ◌<◌, ◌≤◌, ◌∙◌, List, [], ◌∷◌, ◌++◌, length, inl, inr, sym, ap, arith, rules}
 use Rattle.std.proofs.Common.{Option, None, Some, IfSome}
-use Rattle.std.specs.Prelude.{slice_get}
+use Rattle.std.specs.Prelude.{slice_get, slice_index}
 use Rattle.std.proofs.lemmas.Bool.{cases_eq}
+use Rattle.ps_attractor.specs.Sources.{sources_of}
 use Rattle.ps_components.specs.Graphs.{Link}
 use Rattle.ps_components.proofs.Places.{slice_get-append_left, slice_get-push, slice_get-push_cases}
 use Rattle.ps_measure.specs.Inner.Columns.{AreRoots}
 use Rattle.ps_measure.specs.Inner.Groups.{IsGroup, candidates_in, candidate_in}
-use Rattle.ps_measure.specs.Inner.Remaining.{StarData, star_graph, LowData, low_graph, low_weight}
+use Rattle.ps_measure.specs.Inner.Remaining.{LowData, low_graph, low_weight}
 use Rattle.ps_measure.proofs.LinksOfEdges.RemainingEdges.{heavy_inside, heavy_level}
 
 -- the list has exactly the roots that are among the first n candidates
@@ -41,8 +42,9 @@ roots_skip {low} {members} {n = n} {v} is none so_far = record {
 
 -- all roots of a priority are found if each vertex of the priority's group is tried. If vertices are not grouped by
 -- priority, each vertex of the graph must be tried
-pub roots_all : {low : LowData} (members : Option StarData) (place : ℕ) {roots : List ℕ} {n : ℕ} →
-    candidates_in members low.star.count place ≤ n → ((w v : ℕ) → Link (low_graph low) w v → v < low.star.count) →
+pub roots_all : {low : LowData} (members : Option (List (List ℕ))) (place : ℕ) {roots : List ℕ} {n : ℕ} →
+    candidates_in members (length low.sources) place ≤ n →
+    ((w v : ℕ) → Link (low_graph low) w v → v < length low.sources) →
     IfSome members (λ group. IsGroup group place low) → RootsAmong low (candidate_in members place) roots n →
     AreRoots (low_graph low) (low_weight low) roots
 roots_all None place all within group so_far = record {
@@ -58,6 +60,7 @@ roots_all {low} (Some members) place all within group so_far = record {
 }
 
 -- the members of a priority's group are vertices of the graph
-pub member_within : {low : LowData} {members : StarData} {place : ℕ} (k : ℕ) {v : ℕ} → IsGroup members place low →
-    k < (star_graph members).degree place → (star_graph members).target place k ≡ Some v → v < low.star.count
-member_within k {v} group below is = search (rules, group.within, group.at)
+pub member_within : {low : LowData} {members : List (List ℕ)} {place : ℕ} (k : ℕ) {v : ℕ} → IsGroup members place low →
+    k < length (sources_of members place) → slice_index (sources_of members place) k ≡ v → v < length low.sources
+member_within k {v} group below is =
+    group.within v (record { from = group.at; place = k; at = below; target = ap Some is })

@@ -13,8 +13,8 @@ use Rattle.ps_game.specs.Plays.{greatest, other_player}
 use Rattle.ps_game.specs.Regions.{has, move_at}
 use Rattle.ps_game.specs.Ranking.{KeepRuleWithin}
 use Rattle.ps_measure.specs.Sums.{sum_below}
-use Rattle.ps_measure.specs.Inner.Remaining.{RemainingData, remaining_graph, star_graph, IsReverse, LowData, low_graph}
-use Rattle.ps_measure.specs.Inner.Remaining.{low_weight}
+use Rattle.ps_measure.specs.Inner.Remaining.{RemainingData, remaining_graph, source_graph, IsReverse, LowData}
+use Rattle.ps_measure.specs.Inner.Remaining.{low_graph, low_weight}
 use Rattle.ps_measure.specs.Inner.Columns.{AreCounts, AreLeast}
 use Rattle.ps_measure.specs.Inner.Filling.{IsLowCycle, AreLevels}
 use Rattle.ps_measure.specs.Ranks.{count_with, AreLeastFor, IsLostCycle}
@@ -37,7 +37,7 @@ greatest_at : (xs : List ℕ) (k p : ℕ) → k < length xs → get_or xs k 0 �
 greatest_at xs k p within is each = omega (arith, is, greatest-bound xs p each, greatest-least xs k within)
 
 module _ (r : RemainingData) (low : LowData) (is_game : IsGame r.game) (levels : AreLevels r.game low.levels)
-    (reverse : IsReverse (remaining_graph r) (star_graph low.star)) (regions : low.region ≡ r.region) where
+    (reverse : IsReverse (remaining_graph r) (source_graph low.sources)) (regions : low.region ≡ r.region) where
   -- each link of `low_graph` is a reversed remaining edge between vertices whose priorities are at most `low.priority`
   remains_low : (w v : ℕ) → Link (low_graph low) w v → Remains r v w × (priority_of r.game w ≤ low.priority) ×
       (priority_of r.game v ≤ low.priority)

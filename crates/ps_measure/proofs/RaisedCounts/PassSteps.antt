@@ -55,9 +55,9 @@ module _ (low : LowData) {c : ComponentsData} {values : List ℕ} {from number t
     is_sum : value + weight ≡ slice_index values number + low_weight low to
     is_sum = search (rules, number_within, get_or_read)
 
-    pub step_fits : value + weight ≤ low.star.count
+    pub step_fits : value + weight ≤ length low.sources
     step_fits =
-        let all : sum_below (low_weight low) low.star.count ≤ low.star.count * 1 =
+        let all : sum_below (low_weight low) (length low.sources) ≤ length low.sources * 1 =
         search (rules, sum_below-bound, weight_light) in
         omega (arith, is_sum, raise_fits counting.components counting.column to before_in.0 less, all)
 
@@ -120,8 +120,8 @@ grows_within at_most grown = record { grows = grown.grows; same = λ j later. gr
 -- ## The start
 
 pub roots_within : (low : LowData) (roots : List ℕ) (i v : ℕ) →
-    ((w v : ℕ) → Link (low_graph low) w v → v < low.star.count) → AreRoots (low_graph low) (low_weight low) roots →
-    slice_get roots i ≡ Some v → v < low.star.count
+    ((w v : ℕ) → Link (low_graph low) w v → v < length low.sources) → AreRoots (low_graph low) (low_weight low) roots →
+    slice_get roots i ≡ Some v → v < length low.sources
 roots_within low roots i v within are at = (let link = are.sound i v at in within link.0 v link.1)
 
 -- the components of the first n roots have values of at least 1

@@ -5,7 +5,7 @@ use Rattle.ps_measure.proofs.CountRows.Rows.{filled_none}
 use Rattle.ps_measure.proofs.measuring.fill.Goals as goal
 
 pub returns-then-is_empty-clause-filled : goal.returns-then-is_empty-clause-filled
-returns-then-is_empty-clause-filled c = search (rules, eqb-true, filled_none)
+returns-then-is_empty-clause-filled g c = search (rules, eqb-true, filled_none)
 
 pub cycle_of-requires : goal.cycle_of-requires
-cycle_of-requires c = grind (arith, common_steps)
+cycle_of-requires g c = grind (arith, common_steps)

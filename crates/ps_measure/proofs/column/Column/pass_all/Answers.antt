@@ -7,7 +7,7 @@ use Rattle.ps_measure.proofs.column.Column.pass_all.Goals as goal
 use Rattle.ps_measure.proofs.column.Column.pass_all.Goals.{in-Some+else-pass, in_default}
 
 pub loop-place-preserved : goal.loop-place-preserved
-loop-place-preserved c =
+loop-place-preserved g c =
     let inv = c.loop-place.invariant in
     elim c.match-target.branch [
       | in-Some+else-pass w ↦
@@ -29,8 +29,8 @@ loop-place-preserved c =
     ]
 
 pub returns-clause-passed : goal.returns-clause-passed
-returns-clause-passed c = λ to link. c.loop-place.invariant.passed to link
+returns-clause-passed g c = λ to link. c.loop-place.invariant.passed to link
     (omega (arith, c.degree-place-end.ensures, c.loop-place-test.false, link.at))
 
 pub degree-place-end-requires : goal.degree-place-end-requires
-degree-place-end-requires c = grind (arith, elements)
+degree-place-end-requires g c = grind (arith, elements)

@@ -12,7 +12,7 @@ vertex_at : (order items : List ℕ) (place : ℕ) → items ≡ order → place
 vertex_at order items place same within = rw same (slice_get-get_or order place 0 within)
 
 pub loop-place-preserved-in_default-pass_all : goal.loop-place-preserved-in_default-pass_all
-loop-place-preserved-in_default-pass_all c =
+loop-place-preserved-in_default-pass_all g c =
     let inv = c.loop-place.invariant in
     let comps = c.loop-place.self.components in
     let at = vertex_at comps.order c.order.result.now (c.loop-place.place - 1) c.order.ensures
@@ -33,7 +33,7 @@ loop-place-preserved-in_default-pass_all c =
     }
 
 pub loop-place-preserved : goal.loop-place-preserved
-loop-place-preserved c =
+loop-place-preserved g c =
     let inv = c.loop-place.invariant in
     let comps = c.loop-place.self.components in
     grind (
@@ -43,6 +43,6 @@ loop-place-preserved c =
     )
 
 pub returns-clause-passed : goal.returns-clause-passed
-returns-clause-passed c =
+returns-clause-passed g c =
     let e : c.loop-place.place ≡ 0 = omega (arith, c.loop-place-test.false) in
     rw e at c.loop-place.invariant.passed

@@ -11,13 +11,13 @@ none_weaker : {X P Q : Type 0} (o : Option X) → (P → Q) → IfNone o P → I
 none_weaker o h k = search rules
 
 pub renew-requires : goal.renew-requires
-renew-requires c = search (rules, roots_within, slice_get-get_or)
+renew-requires g c = search (rules, roots_within, slice_get-get_or)
 
 pub number-requires : goal.number-requires
-number-requires c = search (rules, roots_within, slice_get-get_or)
+number-requires g c = search (rules, roots_within, slice_get-get_or)
 
 pub loop-root-preserved : goal.loop-root-preserved
-loop-root-preserved c =
+loop-root-preserved g c =
     let i = c.loop-root.invariant in
     elim c.match-number.branch [
       | in-Some w ↦
@@ -28,7 +28,7 @@ loop-root-preserved c =
     ]
 
 pub returns-clause-counts : goal.returns-clause-counts
-returns-clause-counts c =
+returns-clause-counts g c =
     let i = c.loop-root.invariant in
     let self = c.loop-root.self in
     let counting : IsCounting (low_graph c.args.low.now) (low_weight c.args.low.now) self.components self.values.items =

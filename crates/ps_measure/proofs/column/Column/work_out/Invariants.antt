@@ -5,7 +5,7 @@ use Rattle.ps_measure.proofs.RaisedCounts.PassSteps.{RaisedBelow}
 use Rattle.ps_measure.proofs.column.Column.work_out.Given as goal
 
 abbrev pub invariant-loop-root : goal.invariant-loop-root
-invariant-loop-root l = record {
+invariant-loop-root g l = record {
   components : AreComponents (low_graph l.low) l.self.components;
   met : AreMet (low_graph l.low) l.roots l.self.components;
   column : IsColumn (low_graph l.low) (low_weight l.low) l.self.components l.self.values.items;

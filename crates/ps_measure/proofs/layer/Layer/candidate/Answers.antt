@@ -1,3 +1,4 @@
+use Rattle.std.proofs.Common.{sym}
 use Rattle.ps_measure.proofs.LinksOfEdges.Roots.{member_within}
 use Rattle.ps_measure.proofs.layer.Layer.candidate.Goals as goal
 
@@ -5,4 +6,4 @@ pub returns-in-Some-clause-within : goal.returns-in-Some-clause-within
 returns-in-Some-clause-within g c =
     let below = rw c.in-Some.is at (rw (← c.self.view_is) at c.requires) in
     rw (← c.self.view_is) (member_within c.args.number (rw c.in-Some.is at c.self.invariant.group) below
-    c.target.ensures.target)
+    (sym c.source.ensures))

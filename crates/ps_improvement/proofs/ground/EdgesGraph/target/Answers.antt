@@ -1,6 +1,0 @@
-use Rattle.std.proofs.Common.{rules}
-use Rattle.ps_improvement.proofs.Within.{successor_within}
-use Rattle.ps_improvement.proofs.ground.EdgesGraph.target.Goals as goal
-
-pub returns-clause-within : goal.returns-clause-within
-returns-clause-within g c = search (rules, successor_within)

@@ -1,3 +1,0 @@
--- Definitions that only private contracts use; no public clause refers to them.
-
-pub mod Edges
