@@ -1,6 +1,6 @@
 //! The parser of the body of an HOA text.
 
-ghost use Rattle.std.specs.Prelude.{[], ◌≡◌, ◌≢◌, ℕ, ◌+◌, ◌^◌, ◌≤◌, ◌↔◌, false, true, codes, IfOk, is_some, length};
+ghost use Rattle.std.specs.Prelude.{[], ◌≡◌, ◌≢◌, ℕ, ◌+◌, ◌^◌, ◌≤◌, ◌↔◌, false, codes, IfOk, is_some, length, IsTrue};
 ghost use Rattle.std.specs.Prelude.{option_map};
 ghost use Rattle.ps_label.specs.Expression.{expression};
 ghost use Rattle.ps_text.specs.Parts.{many, one};
@@ -156,7 +156,7 @@ fn end_of(token: Token, header: &Header, rows: &Rows) -> Result<(), HoaFault>
 
 /// Whether `has_wrong_count` is true of the last state.
 fn is_end_wrong(header: &Header, rows: &Rows) -> bool
-    ensures { (result ≡ true) ↔ IsEndWrong (header_data header.now) (body_data rows.now) }
+    ensures { IsTrue result ↔ IsEndWrong (header_data header.now) (body_data rows.now) }
 {
     match rows.last() {
         Some(row) => has_wrong_count(row, header.propositions()),
@@ -167,14 +167,14 @@ fn is_end_wrong(header: &Header, rows: &Rows) -> bool
 /// Whether a row has implicit labels, but not exactly one edge for each letter.
 fn has_wrong_count(row: &Row, propositions: usize) -> bool
     ensures { (h : HeaderData) → length (names_of h) ≡ propositions →
-        (result ≡ true) ↔ IsWrongCount h (row_data row.now) }
+        IsTrue result ↔ IsWrongCount h (row_data row.now) }
 {
     matches!(labelling_of(row), Labelling::ByPlace)
         && !is_power_of_two(row.edges.len(), propositions)
 }
 
 fn is_power_of_two(number: usize, exponent: usize) -> bool
-    ensures { (result ≡ true) ↔ (number ≡ 2 ^ exponent) }
+    ensures { IsTrue result ↔ (number ≡ 2 ^ exponent) }
 {
     exponent < 64 && number == 1 << exponent
 }

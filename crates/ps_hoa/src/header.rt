@@ -19,6 +19,9 @@ use crate::header::propositions::Propositions;
 use ps_label::Label;
 use std::alloc::Global;
 
+/// The most states that a text may declare. Without `States:`, every state must be less than this.
+pub(crate) const STATE_LIMIT: u32 = 65_535;
+
 #[derive(Drop)]
 pub(crate) struct Acceptance {
     pub(crate) sets: u32,

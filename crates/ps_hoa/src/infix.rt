@@ -1,6 +1,6 @@
 //! The parser of operands with connectives between them.
 
-ghost use Rattle.std.specs.Prelude.{◌≡◌, ◌↔◌, [], ◌∷◌, ◌++◌, IfOk, List, option_map, true};
+ghost use Rattle.std.specs.Prelude.{◌≡◌, ◌↔◌, [], ◌∷◌, ◌++◌, IfOk, List, option_map, IsTrue};
 ghost use Rattle.ps_hoa.specs.Grammar.Operands.{InfixGrammar, between, holds as holds_at, nesting_limit};
 ghost use Rattle.ps_hoa.specs.Grammar.Operands.{operand as operand_of};
 ghost use Rattle.ps_hoa.specs.Grammar.Operands.{kind_of, rows};
@@ -206,7 +206,7 @@ fn operand<G: Infix>(
 
 #[inline(always)]
 fn is_at(tokens: &Tokens, connective: Connective) -> bool
-    ensures { (result ≡ true) ↔ ((next_of (stream_of tokens.now)).sign.kind ≡ kind_of connective) }
+    ensures { IsTrue result ↔ ((next_of (stream_of tokens.now)).sign.kind ≡ kind_of connective) }
 {
     match connective {
         Connective::And => tokens.is_at(Kind::And),

@@ -1,6 +1,6 @@
 //! The parser of labels.
 
-ghost use Rattle.std.specs.Prelude.{◌≡◌, ◌↔◌, true};
+ghost use Rattle.std.specs.Prelude.{◌≡◌, ◌↔◌, IsTrue};
 ghost use Rattle.ps_label.specs.Expression.{expression};
 ghost use Rattle.ps_hoa.specs.Grammar.Labels as labels;
 ghost use Rattle.ps_hoa.specs.Grammar.Operands.{nesting_limit};
@@ -112,7 +112,7 @@ fn leaf_of(token: Token, scope: &Scope) -> Result<Label, HoaFault>
 
 /// Whether no proposition has this number; false if their number is not known.
 fn is_beyond(propositions: Option<usize>, number: u32) -> bool
-    ensures { (result ≡ true) ↔ labels.IsBeyond propositions number }
+    ensures { IsTrue result ↔ labels.IsBeyond propositions number }
 {
     match propositions {
         None => false,

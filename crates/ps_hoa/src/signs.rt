@@ -1,6 +1,6 @@
 //! The parser of single tokens.
 
-ghost use Rattle.std.specs.Prelude.{◌≡◌, ◌≢◌, ◌≤◌, ◌↔◌, Bool, IfOk, false, is_some, true, None, Some, nat_le};
+ghost use Rattle.std.specs.Prelude.{◌≡◌, ◌≢◌, ◌≤◌, ◌↔◌, Bool, IfOk, false, is_some, None, Some, nat_le, IsTrue};
 ghost use Rattle.std.specs.Prelude.{if◌then◌else◌};
 ghost use Rattle.ps_text.specs.Digits.{decimal_value};
 ghost use Rattle.ps_text.specs.Parts.{NoBad, barred as barred_by};
@@ -39,7 +39,7 @@ fn expect_of(token: Token, kind: Kind) -> Result<(), HoaFault>
 }
 
 pub(crate) fn is_kind(token: Token, kind: Kind) -> bool
-    ensures { (result ≡ true) ↔ (token.entry.kind ≡ kind) }
+    ensures { IsTrue result ↔ (token.entry.kind ≡ kind) }
 {
     token.kind == kind
 }

@@ -1,6 +1,6 @@
 //! The tokens of an HOA text.
 
-ghost use Rattle.std.specs.Prelude.{◌≡◌, ℕ, ◌+◌, ◌-◌, ◌<◌, ◌≤◌, ◌↔◌, false, true, List, [], length, drop, slice_index};
+ghost use Rattle.std.specs.Prelude.{◌≡◌, ℕ, ◌+◌, ◌-◌, ◌<◌, ◌≤◌, ◌↔◌, false, List, [], length, drop, slice_index};
 ghost use Rattle.std.specs.Prelude.{IfSome, IsTrue, ◌==◌, ◌&&◌};
 ghost use Rattle.std.specs.Str.{bytes_eq};
 ghost use Rattle.ps_text.specs.Answers.{Piece};
@@ -613,7 +613,7 @@ impl<'a> Tokens<'a> {
 
     #[inline(always)]
     pub(crate) fn is_at(&self, kind: Kind) -> bool
-        ensures { (result ≡ true) ↔ ((next_of (stream_of self.now)).sign.kind ≡ kind) }
+        ensures { IsTrue result ↔ ((next_of (stream_of self.now)).sign.kind ≡ kind) }
     {
         self.peek().kind == kind
     }

@@ -16,7 +16,7 @@ ghost use Rattle.ps_text.specs.Parts.{many, one};
 
 use crate::fault::{HoaCause, HoaFault};
 use crate::file::{Edge, Guard, Row};
-use crate::header::Header;
+use crate::header::{Header, STATE_LIMIT};
 use crate::label::label;
 use crate::marks::Marks;
 use crate::refusal::{fault_at, refused};
@@ -27,9 +27,6 @@ use std::alloc::Global;
 
 /// The most edges of a text.
 pub(crate) const EDGE_LIMIT: usize = 1_048_576;
-
-/// The most states. Without `States:`, every state must be less than this.
-const STATE_LIMIT: u32 = 65_535;
 
 /// How the edges of a state are labelled.
 #[derive(Clone, Copy)]

@@ -1,6 +1,6 @@
 //! The checks of a whole header, made at `--BODY--`.
 
-ghost use Rattle.std.specs.Prelude.{◌≡◌, ◌↔◌, true, MatchOption, option_map};
+ghost use Rattle.std.specs.Prelude.{◌≡◌, ◌↔◌, MatchOption, option_map, IsTrue};
 ghost use Rattle.ps_label.specs.Expression.{expression, literal_expressions, operands_in};
 ghost use Rattle.ps_label.specs.Truth.{expressions};
 ghost use Rattle.ps_hoa.specs.Grammar.Header as parts;
@@ -11,11 +11,8 @@ ghost use Rattle.ps_hoa.specs.Grammar.Header.{header_data, acceptance_data};
 use crate::condition::Cond;
 use crate::fault::HoaCause;
 use crate::header::indices::Indices;
-use crate::header::{Acceptance, Header};
+use crate::header::{Acceptance, Header, STATE_LIMIT};
 use ps_label::{Label, Literal};
-
-/// The most states. Without `States:`, every state must be less than this.
-const STATE_LIMIT: u32 = 65_535;
 
 /// What is wrong with a header; of several flaws, the one with the smallest number in psyn's list of faults.
 pub(crate) fn flaw(header: &Header) -> Option<HoaCause>
@@ -41,7 +38,7 @@ pub(crate) fn flaw(header: &Header) -> Option<HoaCause>
 
 /// Whether the start state is beyond every possible state, without `States:`.
 fn is_start_too_large(states: Option<u32>, start: Option<u32>) -> bool
-    ensures { (result ≡ true) ↔ parts.IsStartTooLarge states start }
+    ensures { IsTrue result ↔ parts.IsStartTooLarge states start }
 {
     match (states, start) {
         (None, Some(start)) => start >= STATE_LIMIT,
@@ -51,7 +48,7 @@ fn is_start_too_large(states: Option<u32>, start: Option<u32>) -> bool
 
 /// Whether the header uses a state, a proposition or a set that does not exist.
 fn is_range_broken(header: &Header) -> bool
-    ensures { (result ≡ true) ↔ parts.IsRangeBroken (header_data header.now) }
+    ensures { IsTrue result ↔ parts.IsRangeBroken (header_data header.now) }
 {
     let count = header.propositions();
     if is_start_beyond(header.states, header.start) {
@@ -68,7 +65,7 @@ fn is_range_broken(header: &Header) -> bool
 
 /// Whether the start state is not a state of the automaton.
 fn is_start_beyond(states: Option<u32>, start: Option<u32>) -> bool
-    ensures { (result ≡ true) ↔ parts.IsStartBeyond states start }
+    ensures { IsTrue result ↔ parts.IsStartBeyond states start }
 {
     match (states, start) {
         (Some(states), Some(start)) => states <= start,
@@ -78,7 +75,7 @@ fn is_start_beyond(states: Option<u32>, start: Option<u32>) -> bool
 
 /// Whether an alias uses a proposition that does not exist.
 fn is_alias_beyond(count: usize, aliases: &[Label]) -> bool
-    ensures { (result ≡ true) ↔ parts.AnAliasBeyond count (expressions aliases.now) }
+    ensures { IsTrue result ↔ parts.AnAliasBeyond count (expressions aliases.now) }
 {
     for alias in aliases {
         if speaks_beyond(count, alias) {
@@ -90,7 +87,7 @@ fn is_alias_beyond(count: usize, aliases: &[Label]) -> bool
 
 /// Whether a label uses a proposition that does not exist.
 fn speaks_beyond(count: usize, label: &Label) -> bool
-    ensures { (result ≡ true) ↔ parts.SpeaksBeyond count (expression label.now) }
+    ensures { IsTrue result ↔ parts.SpeaksBeyond count (expression label.now) }
 {
     match label {
         Label::Truth(_) | Label::Named(_) => false,
@@ -109,7 +106,7 @@ fn speaks_beyond(count: usize, label: &Label) -> bool
 }
 
 fn a_literal_beyond(count: usize, literals: &[Literal]) -> bool
-    ensures { (result ≡ true) ↔ parts.SomeSpeaksBeyond count (operands_in (literal_expressions literals.now)) }
+    ensures { IsTrue result ↔ parts.SomeSpeaksBeyond count (operands_in (literal_expressions literals.now)) }
 {
     for literal in literals {
         if count <= literal.proposition() as usize {
@@ -121,7 +118,7 @@ fn a_literal_beyond(count: usize, literals: &[Literal]) -> bool
 
 /// Whether the acceptance condition names a set that does not exist.
 fn is_condition_beyond(acceptance: &Option<Acceptance>) -> bool
-    ensures { (result ≡ true) ↔ parts.IsConditionBeyond (option_map acceptance_data acceptance.now) }
+    ensures { IsTrue result ↔ parts.IsConditionBeyond (option_map acceptance_data acceptance.now) }
 {
     match acceptance {
         None => false,
@@ -130,7 +127,7 @@ fn is_condition_beyond(acceptance: &Option<Acceptance>) -> bool
 }
 
 fn names_set_beyond(count: u32, condition: &Cond) -> bool
-    ensures { (result ≡ true) ↔ parts.NamesSetBeyond count (condition_of condition.now) }
+    ensures { IsTrue result ↔ parts.NamesSetBeyond count (condition_of condition.now) }
 {
     match condition {
         Cond::Always | Cond::Never => false,
@@ -148,7 +145,7 @@ fn names_set_beyond(count: u32, condition: &Cond) -> bool
 
 /// Whether `controllable-AP:` names a proposition that does not exist.
 fn is_control_beyond(count: usize, controllable: &Option<Indices>) -> bool
-    ensures { (result ≡ true) ↔ parts.IsControlBeyond count controllable.now }
+    ensures { IsTrue result ↔ parts.IsControlBeyond count controllable.now }
 {
     match controllable {
         None => false,
@@ -157,7 +154,7 @@ fn is_control_beyond(count: usize, controllable: &Option<Indices>) -> bool
 }
 
 fn is_index_beyond(count: usize, indices: &[u32]) -> bool
-    ensures { (result ≡ true) ↔ parts.AnIndexBeyond count indices.now }
+    ensures { IsTrue result ↔ parts.AnIndexBeyond count indices.now }
 {
     for index in indices {
         if count <= *index as usize {

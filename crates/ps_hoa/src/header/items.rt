@@ -19,16 +19,13 @@ use crate::header::indices::Indices;
 use crate::header::names::{Names, Scope};
 use crate::header::new_names::{new_alias, propositions};
 use crate::header::skipped::{name, other, tool};
-use crate::header::{Acceptance, Header};
+use crate::header::{Acceptance, Header, STATE_LIMIT};
 use crate::label::label;
 use crate::refusal::{begins_capital, fault_at, refused};
 use crate::signs::{int, is_kind, start_state};
 use crate::tokens::{Kind, Token, Tokens, is_same};
 use ps_label::Label;
 use std::alloc::Global;
-
-/// The most states that a text may declare.
-const STATE_LIMIT: u32 = 65_535;
 
 /// The most propositions that a text may declare.
 const PROPOSITION_LIMIT: u32 = 64;
