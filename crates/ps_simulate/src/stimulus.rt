@@ -103,9 +103,9 @@ fn bits_of(alloc: Global, line: &[u8]) -> Result<Vec<bool>, AllocError>
     requires { All IsDigit line.now }
     ensures { IfOk result (λ bits. digits_of bits.items ≡ line.now) }
 {
-    let mut bits = Vec::new(alloc);
+    let mut bits = Vec::with_capacity(alloc, line.len())?;
     for byte in line {
-        bits.push(*byte == b'1')?;
+        bits.push_reserved(*byte == b'1');
     }
     Ok(bits)
 }
