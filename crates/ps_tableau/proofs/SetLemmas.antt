@@ -9,12 +9,14 @@ use Rattle.std.proofs.lemmas.Option.{slice_get-get_or, slice_get_within}
 use Rattle.std.proofs.lemmas.Bool.{eqb-true}
 use Rattle.std.proofs.lemmas.List.Elements.{Contains-append_left, Contains-push, Contains-push_cases}
 use Rattle.std.specs.List.{Contains, slice_get}
+use Rattle.std.specs.Prelude.{Err, Ok, Result}
+use Rattle.std.specs.Result.{IsErrAnd}
 use Rattle.ps_formula.proofs.AnyTrees.{tree-append, tree-node}
 use Rattle.ps_formula.proofs.Tables.{get_pushed, old_or_pushed}
 use Rattle.ps_keys.specs.Keys.{IsPlacedKey}
 use Rattle.ps_tableau.proofs.Members.{first_in, in_more, in_none, later_in}
 use Rattle.ps_tableau.specs.declared.sets.Parts.{Parts}
-use Rattle.ps_tableau.specs.Inner.SetSteps.{ArePartsOf, IsGreatest, IsNone, IsWithin, MakesSet}
+use Rattle.ps_tableau.specs.Inner.SetSteps.{ArePartsOf, ExtendsSets, IsGreatest, IsNone, IsWithin, MakesSet}
 use Rattle.ps_tableau.specs.Sets.{AreSets, KeepsSets, IsSet, indices_in, set_at, set_of, all_sets}
 
 abbrev IsOver : ℕ → ℕ × ℕ → Type 0
@@ -55,6 +57,12 @@ extends_trans first second = record {
   held = λ set h. second.held set (first.held set h);
   same = λ set h. second.same set (first.held set h) ∙ first.same set h;
 }
+
+-- a call that fails
+pub fails_sets : {E : Type 0} (Q : E → Type 0) {old new : List (ℕ × ℕ)} (r : Result ℕ E) {P : ℕ → Type 0} →
+    KeepsSets old new → AreSets new → IsErrAnd r Q → ExtendsSets old new r P
+fails_sets Q (Ok x) keeps sound err = absurd err
+fails_sets Q (Err e) keeps sound err = record { extends = keeps; sets = sound; set = tt }
 
 -- ## A set and its pair
 

@@ -81,7 +81,6 @@ pub record HaveWays (b : Board) (ways : List (Vec Edge Global)) : Type 0 where
 
 -- a board with the covers of each of its formulas that is needed
 pub record IsRight (b : Board) (known : List (Vec Edge Global)) : Type 0 where
-  pub board : IsBoard b
   pub ways : HaveWays b known
   pub count : length known ≡ length b.formulas
   pub initial : IsState b b.initial

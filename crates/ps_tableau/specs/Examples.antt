@@ -12,5 +12,5 @@ abbrev pub end_now : Cover
 end_now = record { guard = λ letter. is_in 1 letter; next = []; postponed = [] }
 
 -- the second way, which fails to say that the until is postponed
-abbrev pub unmarked : Cover
-unmarked = record { guard = λ letter. is_in 0 letter; next = p_until_q ∷ []; postponed = [] }
+abbrev pub not_postponing : Cover
+not_postponing = record { guard = λ letter. is_in 0 letter; next = p_until_q ∷ []; postponed = [] }

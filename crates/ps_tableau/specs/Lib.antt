@@ -4,5 +4,6 @@ pub mod Runs
 pub mod Examples
 pub mod Sets
 pub mod Needs
+pub mod BoardData
 pub mod Boards
 pub mod Inner

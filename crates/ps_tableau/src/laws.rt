@@ -4,7 +4,7 @@ ghost use Rattle.std.specs.Prelude.{ℕ, ◌<◌, Bool, false, true, List, [], �
 ghost use Rattle.ps_formula.specs.NormalForms.{NormalFormula, after, both, either, keeps, literal, reaches, truth};
 ghost use Rattle.ps_formula.specs.Satisfaction.{IsDecidedWord};
 ghost use Rattle.ps_tableau.specs.Covers.{AreCoversOf, Cover, SatisfiesAll};
-ghost use Rattle.ps_tableau.specs.Examples.{end_now, p_until_q, unmarked};
+ghost use Rattle.ps_tableau.specs.Examples.{end_now, p_until_q, not_postponing};
 ghost use Rattle.ps_tableau.specs.Operators.{AreProducts, ArePruned, free_cover, literal_cover, next_cover};
 ghost use Rattle.ps_tableau.specs.Operators.{postponing_cover};
 ghost use Rattle.ps_tableau.specs.Runs.{HasFairRun, HasRound, IsFair, IsFairRun, IsPartialTableau, IsTableau};
@@ -32,7 +32,7 @@ pub fn fair_run_has_round()
 
 /// Covers of `p U q` that do not postpone it, or that lack the second way, are wrong.
 pub fn wrong_covers_are_none()
-    ensures postponing { ¬ AreCoversOf (p_until_q ∷ []) (end_now ∷ unmarked ∷ []) }
+    ensures postponing { ¬ AreCoversOf (p_until_q ∷ []) (end_now ∷ not_postponing ∷ []) }
     ensures second_way { ¬ AreCoversOf (p_until_q ∷ []) (end_now ∷ []) }
 {}
 

@@ -46,6 +46,7 @@ mod pruning;
 mod reduction;
 mod set;
 mod sets;
+mod single;
 mod sketches;
 mod states;
 mod tableau;

@@ -1,9 +1,9 @@
 //! A table of sets.
 
 ghost use Rattle.std.specs.Prelude.{◌≡◌, ◌↔◌, ◌∷◌, ℕ, [], Contains, IfOk, IsTrue, MatchOption};
-ghost use Rattle.ps_tableau.specs.Inner.SetSteps.{AreMerged, ArePartsOf, AreSetsWith, IsGreatest, IsNone, IsUnion};
-ghost use Rattle.ps_tableau.specs.Inner.SetSteps.{IsWithin, MakesSet};
-ghost use Rattle.ps_tableau.specs.Sets.{AreSets, KeepsSets, IsSet, indices_in};
+ghost use Rattle.ps_tableau.specs.Inner.SetSteps.{AreBothSets, AreMerged, ArePartsOf, AreSetsWith, ExtendsSets};
+ghost use Rattle.ps_tableau.specs.Inner.SetSteps.{IsGreatest, IsNone, IsUnion, IsWithin, MakesSet};
+ghost use Rattle.ps_tableau.specs.Sets.{AreSets, IsSet, indices_in};
 
 use crate::set::Set;
 use crate::words::Words;
@@ -70,8 +70,7 @@ impl Sets {
     /// The parts of a set, unless it is empty.
     pub(crate) fn parts(&self, set: Set) -> Option<Parts>
         requires { IsSet self.now set }
-        ensures parts { MatchOption result (set ≡ 0) (ArePartsOf self.now set) }
-        ensures sets { AreSets self.now }
+        ensures { MatchOption result (set ≡ 0) (ArePartsOf self.now set) }
     {
         let pairs = self.pairs.as_slice();
         if set == Set::EMPTY {
@@ -87,12 +86,11 @@ impl Sets {
     /// The set with one more formula, the greatest.
     pub(crate) fn with(&mut self, index: u32, rest: Set) -> Result<Set, AllocError>
         requires { IsSet self.old rest }
-        ensures extends { KeepsSets self.old self.new }
-        ensures sets { AreSets self.new }
-        ensures set { IfOk result (MakesSet self.new (λ is. is ≡ index ∷ indices_in self.old rest)) }
+        ensures { ExtendsSets self.old self.new result
+            (MakesSet self.new (λ is. is ≡ index ∷ indices_in self.old rest)) }
     {
         let place = self.pairs.place_of((index, rest))?;
-        let _ = self.pairs.len();
+        self.pairs.keys_are_few();
         self.words.add(place, index, rest)?;
         Ok(Set {
             number: place as u32 + 1,
@@ -100,22 +98,18 @@ impl Sets {
     }
 
     pub(crate) fn union(&mut self, a: Set, b: Set) -> Result<Set, AllocError>
-        requires a { IsSet self.old a }
-        requires b { IsSet self.old b }
-        ensures extends { KeepsSets self.old self.new }
-        ensures sets { AreSets self.new }
-        ensures set { IfOk result (IsUnion self.old a b self.new) }
+        requires { AreBothSets self.old a b }
+        ensures { ExtendsSets self.old self.new result (IsUnion self.old a b self.new) }
     {
+        self.sets_are_sound();
         let merged = self.merged(a, b)?;
         self.with_all(&merged.taken, merged.rest)
     }
 
     /// Two sets, taken apart until one is empty.
     fn merged(&self, a: Set, b: Set) -> Result<Merged, AllocError>
-        requires a { IsSet self.now a }
-        requires b { IsSet self.now b }
-        ensures merged { IfOk result (AreMerged self.now a b) }
-        ensures sets { AreSets self.now }
+        requires { AreBothSets self.now a b }
+        ensures { IfOk result (AreMerged self.now a b) }
     {
         let mut first = a;
         let mut second = b;
@@ -131,8 +125,7 @@ impl Sets {
 
     /// Their greatest formula, unless one is empty.
     fn greatest(&self, a: Set, b: Set) -> Option<Greatest>
-        requires a { IsSet self.now a }
-        requires b { IsSet self.now b }
+        requires { AreBothSets self.now a b }
         ensures { MatchOption result (IsNone a b) (IsGreatest self.now a b) }
     {
         let left = self.parts(a)?;
@@ -149,11 +142,9 @@ impl Sets {
     /// A set with more formulas, each greater than those after it and those of the set.
     pub(crate) fn with_all(&mut self, more: &[u32], set: Set) -> Result<Set, AllocError>
         requires { IsSet self.old set }
-        ensures extends { KeepsSets self.old self.new }
-        ensures sets { AreSets self.new }
-        ensures set { IfOk result (AreSetsWith self.old more.now set self.new) }
+        ensures { ExtendsSets self.old self.new result (AreSetsWith self.old more.now set self.new) }
     {
-        let _ = &self.pairs;
+        self.sets_are_sound();
         let mut set = set;
         for place in (0..more.len()).rev() {
             set = self.with(more[place], set)?;
@@ -163,26 +154,31 @@ impl Sets {
 
     /// A word with a bit for each formula of a set; formulas may share a bit.
     pub(crate) fn word(&self, set: Set) -> u64 {
-        let _ = &self.pairs;
         self.words.of(set)
     }
 
-    pub(crate) fn is_marked(&self, set: Set) -> bool {
-        let _ = &self.pairs;
-        self.words.is_marked(set)
+    /// Whether a set is known to be reduced.
+    pub(crate) fn is_reduced(&self, set: Set) -> bool {
+        self.words.is_reduced(set)
     }
 
-    pub(crate) fn mark(&mut self, set: Set)
+    /// A set is reduced: it need not be reduced again.
+    pub(crate) fn note_reduced(&mut self, set: Set)
         ensures { self.new ≡ self.old }
     {
+        self.words.note_reduced(set);
+    }
+
+    /// Each set is made from an earlier one: the prover learns it here.
+    fn sets_are_sound(&self)
+        ensures { AreSets self.now }
+    {
         let _ = &self.pairs;
-        self.words.mark(set);
     }
 
     /// Whether each formula of a set is in another.
     pub(crate) fn is_within(&self, a: Set, b: Set) -> bool
-        requires a { IsSet self.now a }
-        requires b { IsSet self.now b }
+        requires { AreBothSets self.now a b }
         ensures { IsTrue result → IsWithin self.now a b }
     {
         if self.word(a) & !self.word(b) != 0 {

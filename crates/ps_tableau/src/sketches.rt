@@ -153,17 +153,15 @@ impl Sketches {
     }
 }
 
-impl Board {
-    /// The sketch of a cover.
-    pub(crate) fn sketch(&self, edge: Edge) -> Sketch
-        requires { IsNode self.now.guards edge.guard }
-    {
-        let mut steps = STEPS;
-        Sketch {
-            next: self.sets.word(edge.next),
-            postponed: self.sets.word(edge.postponed),
-            literals: literals_of(&self.guards, edge.guard, &mut steps),
-        }
+/// The sketch of a cover.
+pub(crate) fn sketch_of(board: &Board, edge: Edge) -> Sketch
+    requires { IsNode board.now.guards edge.guard }
+{
+    let mut steps = STEPS;
+    Sketch {
+        next: board.sets().word(edge.next),
+        postponed: board.sets().word(edge.postponed),
+        literals: literals_of(board.guards(), edge.guard, &mut steps),
     }
 }
 

@@ -1,132 +1,100 @@
 //! The covers of a state.
 
-ghost use Rattle.std.specs.Prelude.{◌≡◌, ◌<◌, ◌∷◌, ℕ, [], All, IfOk, List, length};
+ghost use Rattle.std.specs.Prelude.{◌<◌, ◌∷◌, ℕ, [], All, List, length};
 ghost use Rattle.ps_formula.specs.NormalForms.{NormalFormula, normal_formula_at};
-ghost use Rattle.ps_tableau.specs.Boards.{AreKnown, Grows, HasCovers, IsBoard, IsEdgeOf, IsRight, IsState};
-ghost use Rattle.ps_tableau.specs.Boards.{formulas_in};
+ghost use Rattle.ps_tableau.specs.Boards.{AreKnown, HasCovers, IsEdgeOf, IsRight, IsState, covers_of, formulas_in};
+ghost use Rattle.ps_tableau.specs.Covers.{AreCoversOf};
+ghost use Rattle.ps_tableau.specs.Inner.Calls.{GivesEdges, GivesKnown};
 ghost use Rattle.ps_tableau.specs.Inner.Joins.{IsPlaceOf};
 ghost use Rattle.ps_tableau.specs.Needs.{IsNeeded};
 
 use crate::board::Board;
 use crate::edge::Edge;
+use crate::joins::{appended, products};
 use crate::known::Known;
-use crate::needs::{needs_of, untils_of};
+use crate::operators::ways_at;
+use crate::reduction::reduced;
 use crate::set::Set;
-use crate::sets::Sets;
-use ps_diagram::Store;
-use ps_formula::NormalFormulas;
-use std::alloc::{AllocError, Global};
+use crate::single;
+use std::alloc::AllocError;
 
-impl Board {
-    /// A board for a formula of a table.
-    pub(crate) fn new(
-        alloc: Global,
-        formulas: NormalFormulas,
-        root: u32,
-    ) -> Result<Self, AllocError>
-        requires { root < length formulas }
-        ensures board { IfOk result IsBoard }
-        ensures formulas { IfOk result (λ board. board.formulas ≡ formulas) }
-        ensures initial { IfOk result (λ board. IsState board board.initial) }
-        ensures formula { IfOk result (λ board.
-            formulas_in board board.initial ≡ normal_formula_at formulas root ∷ []) }
-    {
-        let needed = needs_of(alloc, formulas.as_slice(), root)?;
-        let untils = untils_of(alloc, formulas.as_slice(), &needed)?;
-        let mut sets = Sets::new(alloc);
-        let initial = sets.with(root, Set::EMPTY)?;
-        Ok(Board {
-            alloc,
-            formulas,
-            needed,
-            untils,
-            initial,
-            sets,
-            guards: Store::new(alloc, 64),
-        })
+/// The edges from a state. The covers of its sets of least formulas are kept.
+pub(crate) fn edges_from(
+    board: &mut Board,
+    ways: &[Vec<Edge>],
+    known: &mut Known,
+    state: Set,
+) -> Result<Vec<Edge>, AllocError>
+    requires right { IsRight board.old ways.now }
+    requires known { AreKnown board.old known.old }
+    requires state { IsState board.old state }
+    ensures { GivesKnown board.old board.new known.new result (λ edges.
+        HasCovers board.new (formulas_in board.old state) edges.items) }
+{
+    board.parts_fit();
+    let formulas = board.members(state)?;
+    let mut last = place_of_none(board, known)?;
+    for place in (0..formulas.len()).rev() {
+        last = place_with(board, ways, known, formulas[place], last)?;
     }
+    appended(board.allocator(), &known.covers[last], &[])
+}
 
-    /// The edges from a state. The covers of its sets of least formulas are kept.
-    pub(crate) fn edges(
-        &mut self,
-        ways: &[Vec<Edge>],
-        known: &mut Known,
-        state: Set,
-    ) -> Result<Vec<Edge>, AllocError>
-        requires right { IsRight self.old ways.now }
-        requires known { AreKnown self.old known.old }
-        requires state { IsState self.old state }
-        ensures grows { Grows self.old self.new }
-        ensures known { AreKnown self.new known.new }
-        ensures edges { IfOk result (λ edges. HasCovers self.new (formulas_in self.old state) edges.items) }
-    {
-        let formulas = self.sets.members(state)?;
-        let mut last = self.place_of_none(known)?;
-        for place in (0..formulas.len()).rev() {
-            last = self.place_with(ways, known, formulas[place], last)?;
-        }
-        self.appended(&known.covers[last], &[])
+/// The place of the empty set.
+fn place_of_none(board: &mut Board, known: &mut Known) -> Result<usize, AllocError>
+    requires { AreKnown board.old known.old }
+    ensures { GivesKnown board.old board.new known.new result (IsPlaceOf board.new known.new []) }
+{
+    board.parts_fit();
+    if let Some(place) = known.sets.find(Set::EMPTY) {
+        return Ok(place);
     }
+    let free = single::free(board)?;
+    let covers = appended(board.allocator(), &[free], &[])?;
+    known.add(Set::EMPTY, covers)
+}
 
-    /// The place of the empty set.
-    fn place_of_none(&mut self, known: &mut Known) -> Result<usize, AllocError>
-        requires board { IsBoard self.old }
-        requires known { AreKnown self.old known.old }
-        ensures grows { Grows self.old self.new }
-        ensures known { AreKnown self.new known.new }
-        ensures place { IfOk result (IsPlaceOf self.new known.new []) }
-    {
-        if let Some(place) = known.sets.find(Set::EMPTY) {
-            return Ok(place);
-        }
-        let free = self.free()?;
-        let covers = self.appended(&[free], &[])?;
-        known.add(Set::EMPTY, covers)
+/// The place of the set with the formulas of another and one more, the greatest, by the place of the other.
+fn place_with(
+    board: &mut Board,
+    ways: &[Vec<Edge>],
+    known: &mut Known,
+    index: u32,
+    others: usize,
+) -> Result<usize, AllocError>
+    requires right { IsRight board.old ways.now }
+    requires known { AreKnown board.old known.old }
+    requires needed { IsNeeded board.old.needed.items index }
+    requires others { others < length known.old.sets }
+    ensures { GivesKnown board.old board.new known.new result (λ place. (rest : List ℕ) →
+        IsPlaceOf board.old known.old rest others → IsPlaceOf board.new known.new (index ∷ rest) place) }
+{
+    board.parts_fit();
+    let rest = known.sets.as_slice()[others];
+    let set = board.set_with(index, rest)?;
+    if let Some(place) = known.sets.find(set) {
+        return Ok(place);
     }
+    let covers = joined_with(board, ways, index, &known.covers[others])?;
+    known.add(set, covers)
+}
 
-    /// The place of the set with the formulas of another and one more, the greatest, by the place of the other.
-    fn place_with(
-        &mut self,
-        ways: &[Vec<Edge>],
-        known: &mut Known,
-        index: u32,
-        others: usize,
-    ) -> Result<usize, AllocError>
-        requires right { IsRight self.old ways.now }
-        requires known { AreKnown self.old known.old }
-        requires needed { IsNeeded self.old.needed.items index }
-        requires others { others < length known.old.sets }
-        ensures grows { Grows self.old self.new }
-        ensures known { AreKnown self.new known.new }
-        ensures place { (rest : List ℕ) → IsPlaceOf self.old known.old rest others →
-            IfOk result (IsPlaceOf self.new known.new (index ∷ rest)) }
-    {
-        let rest = known.sets.as_slice()[others];
-        let set = self.sets.with(index, rest)?;
-        if let Some(place) = known.sets.find(set) {
-            return Ok(place);
-        }
-        let covers = self.joined_with(ways, index, &known.covers[others])?;
-        known.add(set, covers)
-    }
-
-    /// The covers of a formula and others, by those of the others.
-    fn joined_with(
-        &mut self,
-        ways: &[Vec<Edge>],
-        index: u32,
-        edges: &[Edge],
-    ) -> Result<Vec<Edge>, AllocError>
-        requires right { IsRight self.old ways.now }
-        requires edges { All (IsEdgeOf self.old) edges.now }
-        requires needed { IsNeeded self.old.needed.items index }
-        ensures grows { Grows self.old self.new }
-        ensures covers { (others : List NormalFormula) → HasCovers self.old others edges.now →
-            IfOk result (λ covers. HasCovers self.new (normal_formula_at self.old.formulas index ∷ others)
-            covers.items) }
-    {
-        let first = self.ways_at(ways, index);
-        let products = self.products(first, edges)?;
-        self.reduced(&products)
-    }
+/// The covers of a formula and others, by those of the others.
+fn joined_with(
+    board: &mut Board,
+    ways: &[Vec<Edge>],
+    index: u32,
+    edges: &[Edge],
+) -> Result<Vec<Edge>, AllocError>
+    requires right { IsRight board.old ways.now }
+    requires edges { All (IsEdgeOf board.old) edges.now }
+    requires needed { IsNeeded board.old.needed.items index }
+    ensures { GivesEdges board.old board.new result (λ covers. (others : List NormalFormula) →
+        AreCoversOf others (covers_of board.old edges.now) →
+        AreCoversOf (normal_formula_at board.old.formulas index ∷ others) covers) }
+{
+    board.parts_fit();
+    let first = ways_at(board, ways, index);
+    let products = products(board, first, edges)?;
+    reduced(board, &products)
 }

@@ -9,7 +9,9 @@ ghost use Rattle.ps_tableau.specs.Boards.{IsTableauOf, formulas_in};
 use crate::board::Board;
 use crate::edge::Edge;
 use crate::known::Known;
+use crate::operators::all_ways;
 use crate::set::Set;
+use crate::states::edges_from;
 use ps_diagram::Store;
 use ps_formula::Formulas;
 use std::alloc::{AllocError, Global};
@@ -55,7 +57,7 @@ impl Tableau {
             normal.formula
         };
         let mut board = Board::new(alloc, normal.table, root)?;
-        let ways = board.all_ways()?;
+        let ways = all_ways(&mut board)?;
         Ok(Tableau {
             board,
             ways,
@@ -68,24 +70,22 @@ impl Tableau {
         ensures value { result ≡ self.now.initial }
         ensures board { IsBoard self.now }
     {
-        let _ = &self.ways;
-        self.board.initial
+        self.board.parts_fit();
+        self.board.initial()
     }
 
     /// The untils that may be postponed, as indices of formulas.
     pub fn untils(&self) -> &[u32]
         ensures { result.now ≡ self.now.untils.items }
     {
-        let _ = &self.ways;
-        &self.board.untils
+        self.board.untils()
     }
 
     /// The diagrams of guards.
     pub fn guards(&self) -> &Store
         ensures { result.now ≡ self.now.guards }
     {
-        let _ = &self.ways;
-        &self.board.guards
+        self.board.guards()
     }
 
     /// The edges from a state. Fails if out of memory.
@@ -94,7 +94,7 @@ impl Tableau {
         ensures grows { Grows self.old self.new }
         ensures edges { IfOk result (λ edges. AreEdgesOf self.new state edges.items) }
     {
-        self.board.edges(&self.ways, &mut self.known, state)
+        edges_from(&mut self.board, &self.ways, &mut self.known, state)
     }
 
     /// Whether an edge postpones an until, given by the index of its formula.
@@ -104,7 +104,7 @@ impl Tableau {
         ensures { IsTrue result ↔ Contains (formulas_in self.now edge.postponed)
             (normal_formula_at self.now.formulas until) }
     {
-        let _ = &self.ways;
-        self.board.sets.contains(edge.postponed, until)
+        self.board.parts_fit();
+        self.board.sets().contains(edge.postponed, until)
     }
 }

@@ -4,13 +4,13 @@ use crate::set::Set;
 use ps_keys::KeyList;
 use std::alloc::{AllocError, Global};
 
-/// A word and a mark for each set that is not empty.
+/// A word for each set that is not empty, and whether it is known to be reduced.
 #[derive(Debug, Drop)]
 pub(crate) struct Words {
     /// For each set, a word with a bit for each of its formulas; formulas may share a bit.
     each: Vec<u64>,
-    /// Whether each set is marked.
-    marks: Vec<bool>,
+    /// Whether each set is known to be reduced.
+    reduced: Vec<bool>,
     /// The formulas of sets, in the order in which they were met, so that the first ones have bits of their own.
     met: KeyList<u64>,
 }
@@ -20,7 +20,7 @@ impl Words {
     pub(crate) fn new(alloc: Global) -> Self {
         Words {
             each: Vec::new(alloc),
-            marks: Vec::new(alloc),
+            reduced: Vec::new(alloc),
             met: KeyList::new(alloc),
         }
     }
@@ -34,7 +34,7 @@ impl Words {
         let bit = self.met.place_of(index as u64)? % 64;
         let word = self.of(rest) | 1 << bit;
         self.each.push(word)?;
-        self.marks.push(false)?;
+        self.reduced.push(false)?;
         Ok(())
     }
 
@@ -46,19 +46,19 @@ impl Words {
         }
     }
 
-    /// Whether a set is marked. The empty set is.
-    pub(crate) fn is_marked(&self, set: Set) -> bool {
+    /// Whether a set is known to be reduced. The empty set is.
+    pub(crate) fn is_reduced(&self, set: Set) -> bool {
         match place_of(set) {
-            Some(place) => self.marks.get(place).copied().unwrap_or(false),
+            Some(place) => self.reduced.get(place).copied().unwrap_or(false),
             None => true,
         }
     }
 
-    pub(crate) fn mark(&mut self, set: Set) {
+    pub(crate) fn note_reduced(&mut self, set: Set) {
         if let Some(place) = place_of(set)
-            && place < self.marks.len()
+            && place < self.reduced.len()
         {
-            self.marks[place] = true;
+            self.reduced[place] = true;
         }
     }
 }

@@ -4,9 +4,12 @@ use Rattle.std.proofs.Common.{refl, subst}
 use Rattle.std.specs.List.{Contains}
 use Rattle.std.specs.Prelude.{IsTrue, is_some}
 use Rattle.ps_diagram.specs.Leaves.{chosen}
+use Rattle.ps_formula.specs.NormalForms.{NormalFormula, normal_formula_at}
 use Rattle.ps_tableau.proofs.Members.{first_in, in_more, in_none, later_in}
+use Rattle.ps_tableau.specs.Boards.{IsSetOf, formulas_in}
 use Rattle.ps_tableau.specs.Inner.SetSteps.{IsUnion}
 use Rattle.ps_tableau.specs.Sets.{KeepsSets, IsSet, indices_in}
+use Rattle.ps_tableau.specs.declared.board.Board.{Board}
 
 -- ## Elements of mapped lists
 
@@ -71,6 +74,20 @@ pub union_all : {P : ℕ → Type 0} {old new : List (ℕ × ℕ)} {a b set : �
     ((k : ℕ) → Contains (indices_in old a) k → P k) → ((k : ℕ) → Contains (indices_in old b) k → P k) → (k : ℕ) →
     Contains (indices_in new set) k → P k
 union_all union first second k there = elim ((union.each k).0 there) [ inl l ↦ first k l | inr r ↦ second k r ]
+
+-- the union of two sets of a board that grows
+pub set_union : {P Q : ℕ → Type 0} {old new : Board} {a b set : ℕ} → IsUnion old.sets a b new.sets set →
+    ((k : ℕ) → P k → Q k) → IsSetOf P old a → IsSetOf P old b → IsSetOf Q new set
+set_union union more first second = record {
+  held = union.held;
+  each = λ k there. more k (union_all union first.each second.each k there);
+}
+
+pub formulas_union : (old new : Board) {a b set : ℕ} → new.formulas ≡ old.formulas →
+    IsUnion old.sets a b new.sets set → (f : NormalFormula) →
+    Contains (formulas_in new set) f ↔ (Contains (formulas_in old a) f ⊎ Contains (formulas_in old b) f)
+formulas_union old new {a} {b} {set} same union f =
+    rw same (map_union (normal_formula_at old.formulas) _ _ (indices_in new.sets set) union.each f)
 
 -- ## Guards
 

@@ -5,12 +5,15 @@ use Rattle.std.proofs.Math.Numerals.{add-one}
 use Rattle.std.proofs.lemmas.Option.{slice_get-get_or, slice_get_within}
 use Rattle.std.specs.Global.{Global}
 use Rattle.std.specs.List.{slice_get}
+use Rattle.std.specs.Prelude.{Err, Ok, Result}
+use Rattle.std.specs.Result.{IsErrAnd}
 use Rattle.ps_formula.proofs.Tables.{get_pushed, old_or_pushed}
 use Rattle.ps_formula.specs.NormalForms.{NormalFormula, normal_formula_at}
 use Rattle.ps_keys.specs.Keys.{IsPlacedKey}
 use Rattle.ps_tableau.proofs.BoardLemmas.{formulas_kept, makes_kept}
 use Rattle.ps_tableau.specs.Boards.{AreKnown, Grows, HasCovers, formulas_in}
 use Rattle.ps_tableau.specs.Covers.{AreCoversOf}
+use Rattle.ps_tableau.specs.Inner.Calls.{GivesKnown}
 use Rattle.ps_tableau.specs.Inner.Joins.{IsPlaceOf}
 use Rattle.ps_tableau.specs.Sets.{IsSet}
 use Rattle.ps_tableau.specs.declared.board.Board.{Board}
@@ -88,6 +91,12 @@ known_more {b} {old} {new} set covers is sets more inside has = record {
         ]
       ];
 }
+
+-- a call that fails
+pub fails_known : {X E : Type 0} (Q : E → Type 0) {a b : Board} {known : Known} (r : Result X E) {P : X → Type 0} →
+    Grows a b → AreKnown b known → IsErrAnd r Q → GivesKnown a b known r P
+fails_known Q (Ok x) grows is err = absurd err
+fails_known Q (Err e) grows is err = record { grows = grows; known = is; made = tt }
 
 -- ## Places
 

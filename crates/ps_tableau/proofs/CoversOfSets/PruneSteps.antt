@@ -117,7 +117,8 @@ same_at edge {list} {united} {place} {other} same is at =
 
 -- one more cover is added as it is, and one is united with that at a place
 pub united_end : {b : Board} {edge : Edge} (united : List Edge) {more : List Edge} → All (IsEdgeOf b) united →
-    IsEdgeOf b edge → more ≡ united ++ edge ∷ [] → MakesEdges b (ArePruned (covers_of b united ++ cover_of b edge ∷ [])) more
+    IsEdgeOf b edge → more ≡ united ++ edge ∷ [] →
+    MakesEdges b (ArePruned (covers_of b united ++ cover_of b edge ∷ [])) more
 united_end {b} {edge} united {more} held here is = record {
   held = subst (λ (es : List Edge). All (IsEdgeOf b) es) (sym is) (All-push (IsEdgeOf b) united edge held here);
   right = subst (λ (cs : List Cover). ArePruned (covers_of b united ++ cover_of b edge ∷ []) cs)

@@ -9,7 +9,7 @@ use Rattle.std.specs.Prelude.{IsTrue}
 use Rattle.ps_formula.proofs.NormalTrees.{normal_formula_at-node}
 use Rattle.ps_formula.specs.declared.normal_node.NormalNode.{NormalNode}
 use Rattle.ps_formula.specs.declared.normal_node.NormalNode.TheVariants.{Release, Until}
-use Rattle.ps_formula.specs.NormalForms.{NormalFormula, normal_formula_at}
+use Rattle.ps_formula.specs.NormalForms.{IsNormalTable, NormalFormula, normal_formula_at}
 use Rattle.ps_tableau.proofs.BoardLemmas.{cover_kept, covers_kept}
 use Rattle.ps_tableau.proofs.CoversOfSets.Brought.{brought_more}
 use Rattle.ps_tableau.proofs.CoversOfSets.JoinLemmas.{from_map, in_map}
@@ -29,48 +29,47 @@ use Rattle.ps_tableau.specs.declared.edge.Edge.{Edge}
 
 -- ## Single steps
 
-pub step_down : (b : Board) (P : NormalFormula → Type 0) (k f g : ℕ) → IsBoard b →
-    slice_get b.formulas k ≡ Some (Release f g) → Brings P (normal_formula_at b.formulas k) →
-    Brings P (normal_formula_at b.formulas g)
-step_down b P k f g board at brings = of_kept (subst (λ (h : NormalFormula). Brings P h)
-    (normal_formula_at-node b.formulas k (Release f g) board.table.earlier at) brings)
+pub step_down : (nodes : List NormalNode) (P : NormalFormula → Type 0) (k f g : ℕ) → IsNormalTable nodes →
+    slice_get nodes k ≡ Some (Release f g) → Brings P (normal_formula_at nodes k) → Brings P (normal_formula_at nodes g)
+step_down nodes P k f g table at brings = of_kept (subst (λ (h : NormalFormula). Brings P h)
+    (normal_formula_at-node nodes k (Release f g) table.earlier at) brings)
 
-pub step_up : (b : Board) (P : NormalFormula → Type 0) (k f g : ℕ) → IsBoard b →
-    slice_get b.formulas k ≡ Some (Until f g) → Brings P (normal_formula_at b.formulas g) →
-    Brings P (normal_formula_at b.formulas k)
-step_up b P k f g board at brings = subst (λ (h : NormalFormula). Brings P h)
-    (sym (normal_formula_at-node b.formulas k (Until f g) board.table.earlier at)) (of_end brings)
+pub step_up : (nodes : List NormalNode) (P : NormalFormula → Type 0) (k f g : ℕ) → IsNormalTable nodes →
+    slice_get nodes k ≡ Some (Until f g) → Brings P (normal_formula_at nodes g) → Brings P (normal_formula_at nodes k)
+step_up nodes P k f g table at brings = subst (λ (h : NormalFormula). Brings P h)
+    (sym (normal_formula_at-node nodes k (Until f g) table.earlier at)) (of_end brings)
 
 -- ## Lists of formulas
 
-pub from_one : (b : Board) (known : List ℕ) (k : ℕ) (f : NormalFormula) → Contains known k →
-    Brings (IsFormulaAt b k) f →
-    Brings (IsOneOf b known) f
-from_one b known k f there brings =
-    brought_more (IsFormulaAt b k) (IsOneOf b known) (λ g is. of_known (k, there, is)) brings
+pub from_one : (nodes : List NormalNode) (known : List ℕ) (k : ℕ) (f : NormalFormula) → Contains known k →
+    Brings (IsFormulaAt nodes k) f →
+    Brings (IsOneOf nodes known) f
+from_one nodes known k f there brings =
+    brought_more (IsFormulaAt nodes k) (IsOneOf nodes known) (λ g is. of_known (k, there, is)) brings
 
-pub kept_brings : (b : Board) (kept rest : List ℕ) (f : NormalFormula) → Brings (IsOneOf b kept) f →
-    Brings (IsOneOfBoth b kept rest) f
-kept_brings b kept rest f brings =
-    brought_more (IsOneOf b kept) (IsOneOfBoth b kept rest) (λ g is. of_known (is.0, inl is.1, is.2)) brings
+pub kept_brings : (nodes : List NormalNode) (kept rest : List ℕ) (f : NormalFormula) → Brings (IsOneOf nodes kept) f →
+    Brings (IsOneOfBoth nodes kept rest) f
+kept_brings nodes kept rest f brings =
+    brought_more (IsOneOf nodes kept) (IsOneOfBoth nodes kept rest) (λ g is. of_known (is.0, inl is.1, is.2)) brings
 
-pub rest_brings : (b : Board) (kept rest : List ℕ) (f : NormalFormula) → Brings (IsOneOf b rest) f →
-    Brings (IsOneOfBoth b kept rest) f
-rest_brings b kept rest f brings =
-    brought_more (IsOneOf b rest) (IsOneOfBoth b kept rest) (λ g is. of_known (is.0, inr is.1, is.2)) brings
+pub rest_brings : (nodes : List NormalNode) (kept rest : List ℕ) (f : NormalFormula) → Brings (IsOneOf nodes rest) f →
+    Brings (IsOneOfBoth nodes kept rest) f
+rest_brings nodes kept rest f brings =
+    brought_more (IsOneOf nodes rest) (IsOneOfBoth nodes kept rest) (λ g is. of_known (is.0, inr is.1, is.2)) brings
 
 -- one more formula is kept, or brought
-pub brings_more : (b : Board) (kept new members : List ℕ) (place x : ℕ) (f : NormalFormula) → place < length members →
-    x ≡ get_or members place x → KeepsOrBrings b kept (drop (place + 1) members) x new →
-    Brings (IsOneOfBoth b kept (drop place members)) f → Brings (IsOneOfBoth b new (drop (place + 1) members)) f
-brings_more b kept new members place x f within is step brings =
+pub brings_more : (nodes : List NormalNode) (kept new members : List ℕ) (place x : ℕ) (f : NormalFormula) →
+    place < length members →
+    x ≡ get_or members place x → KeepsOrBrings nodes kept (drop (place + 1) members) x new →
+    Brings (IsOneOfBoth nodes kept (drop place members)) f → Brings (IsOneOfBoth nodes new (drop (place + 1) members)) f
+brings_more nodes kept new members place x f within is step brings =
     let rest = drop (place + 1) members in
-    brought_more (IsOneOfBoth b kept (drop place members)) (IsOneOfBoth b new rest) (λ g one. elim one.1 [
+    brought_more (IsOneOfBoth nodes kept (drop place members)) (IsOneOfBoth nodes new rest) (λ g one. elim one.1 [
       | inl old ↦ of_known (one.0, inl (step.kept one.0 old), one.2)
       | inr more ↦ elim ((more_cases x members place one.0 within).0 more) [
         | inl here ↦
-            let same : normal_formula_at b.formulas x ≡ g = ap (normal_formula_at b.formulas) (is ∙ here) ∙ one.2 in
-            subst (λ (h : NormalFormula). Brings (IsOneOfBoth b new rest) h) same step.brings
+            let same : normal_formula_at nodes x ≡ g = ap (normal_formula_at nodes) (is ∙ here) ∙ one.2 in
+            subst (λ (h : NormalFormula). Brings (IsOneOfBoth nodes new rest) h) same step.brings
         | inr later ↦ of_known (one.0, inr later, one.2)
       ]
     ]) brings
@@ -97,7 +96,7 @@ pub reduced_by : {old new : Board} {set result : ℕ} (kept members : List ℕ) 
     new.needed.items ≡ old.needed.items → IsState old set →
     ((k : ℕ) → Contains kept k → Contains (indices_in old.sets set) k) →
     ((k : ℕ) → Contains (indices_in old.sets set) k →
-    Brings (IsOneOfBoth old kept (drop (length members) members)) (normal_formula_at old.formulas k)) →
+    Brings (IsOneOfBoth old.formulas kept (drop (length members) members)) (normal_formula_at old.formulas k)) →
     AreSetsWith old.sets kept 0 new.sets result → IsReduced old set new result
 reduced_by {old} {new} {set} {result} kept members formulas needed state fewer brings made =
     let is_fewer : (k : ℕ) → Contains (indices_in new.sets result) k → Contains (indices_in old.sets set) k = λ k there.
@@ -107,7 +106,7 @@ reduced_by {old} {new} {set} {result} kept members formulas needed state fewer b
       fewer = is_fewer;
       brings = λ f there.
           let k = from_map (normal_formula_at old.formulas) (indices_in old.sets set) f there in
-          let brought = brought_more (IsOneOfBoth old kept (drop (length members) members))
+          let brought = brought_more (IsOneOfBoth old.formulas kept (drop (length members) members))
           (Contains (formulas_in new result)) (λ g is. elim is.1 [
             | inl here ↦
                 let inside = in_map (normal_formula_at new.formulas) (indices_in new.sets result) is.0

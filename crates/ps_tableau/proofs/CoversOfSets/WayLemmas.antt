@@ -3,10 +3,9 @@ use Rattle.std.proofs.Common.{◌≡◌, ◌∙◌, ℕ, zero, suc, ◌<◌, ◌
 use Rattle.std.proofs.Common.{ap, arith}
 use Rattle.std.proofs.Common.{get_or, length, subst, sym, Vec}
 use Rattle.std.proofs.lemmas.Option.{slice_get-get_or}
-use Rattle.std.proofs.lemmas.Result.{IfOk-weaker}
 use Rattle.std.proofs.lemmas.Bool.{false≢true}
 use Rattle.std.specs.Global.{Global}
-use Rattle.std.specs.Prelude.{IfOk, Result}
+use Rattle.std.specs.Prelude.{Result}
 use Rattle.std.specs.declared.alloc.AllocError.{AllocError}
 use Rattle.std.specs.List.{Contains, slice_get}
 use Rattle.ps_formula.proofs.NormalTrees.{normal_formula_at-node}
@@ -24,6 +23,7 @@ use Rattle.ps_tableau.proofs.CoversOfSets.NeedLemmas.{over_more}
 use Rattle.ps_tableau.proofs.Members.{first_in, in_one, later_in}
 use Rattle.ps_tableau.specs.Boards.{Grows, HasCovers, HaveWays, IsBoard, IsRight, IsSetOf, IsState, IsTableauOf}
 use Rattle.ps_tableau.specs.Boards.{formulas_in}
+use Rattle.ps_tableau.specs.Inner.Calls.{GivesCovers}
 use Rattle.ps_tableau.specs.Inner.SetSteps.{ArePartsOf}
 use Rattle.ps_tableau.specs.Needs.{IsNeeded, NeedsOperands}
 use Rattle.ps_tableau.specs.Sets.{KeepsSets, IsSet, indices_in}
@@ -54,7 +54,6 @@ ways_kept {old} {new} {ways} grows have = record {
 
 pub right_kept : {old new : Board} {ways : List (Vec Edge Global)} → Grows old new → IsRight old ways → IsRight new ways
 right_kept {old} {new} {ways} grows is = record {
-  board = board_kept grows is.board;
   ways = ways_kept grows is.ways;
   count = is.count ∙ ap length (sym grows.formulas);
   initial = subst (λ s. IsState new s) (sym grows.initial)
@@ -170,11 +169,9 @@ pub formula_node : (nodes : List NormalNode) (k : ℕ) (node other : NormalNode)
 formula_node nodes k node other table at is =
     normal_formula_at-node nodes k other table.earlier (at ∙ ap (λ (n : NormalNode). Some n) is)
 
-pub covers_by : (b : Board) {f g : NormalFormula} (r : Result (Vec Edge Global) AllocError) → g ≡ f →
-    IfOk r (λ out. HasCovers b (f ∷ []) out.items) → IfOk r (λ out. HasCovers b (g ∷ []) out.items)
-covers_by b {f} {g} r is = IfOk-weaker r (λ out. HasCovers b (f ∷ []) out.items)
-    (λ out. HasCovers b (g ∷ []) out.items)
-    (λ out made. subst (λ (h : NormalFormula). HasCovers b (h ∷ []) out.items) (sym is) made)
+pub covers_by : {old new : Board} {f g : NormalFormula} (r : Result (Vec Edge Global) AllocError) → g ≡ f →
+    GivesCovers old new r (f ∷ []) → GivesCovers old new r (g ∷ [])
+covers_by {old} {new} r is gives = subst (λ (h : NormalFormula). GivesCovers old new r (h ∷ [])) (sym is) gives
 
 pub operands_known : {b : Board} {index count : ℕ} {node other : NormalNode} → IsBoard b →
     slice_get b.formulas index ≡ Some node → count ≡ index → node ≡ other → IsNormalOver count other

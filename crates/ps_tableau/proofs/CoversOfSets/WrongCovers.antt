@@ -8,13 +8,14 @@ use Rattle.ps_formula.specs.NormalForms.{NormalFormula, plain}
 use Rattle.ps_formula.specs.Satisfaction.{Satisfies}
 use Rattle.ps_formula.proofs.LassoTruths.{lasso_is_decided}
 use Rattle.ps_tableau.specs.Covers.{AreCoversOf, Cover, SatisfiesAll}
-use Rattle.ps_tableau.specs.Examples.{end_now, p_until_q, unmarked}
+use Rattle.ps_tableau.specs.Examples.{end_now, p_until_q, not_postponing}
 use Rattle.ps_tableau.proofs.Members.{first_in, in_none, in_one, later_in}
 
 -- at the letter of p alone, the until must be postponed
-pub unmarked_is_not_enough : ¬ AreCoversOf (p_until_q ∷ []) (end_now ∷ unmarked ∷ [])
-unmarked_is_not_enough covers =
-    let enough = covers.enough unmarked (later_in end_now (unmarked ∷ []) unmarked (first_in unmarked [])) in
+pub not_postponing_is_not_enough : ¬ AreCoversOf (p_until_q ∷ []) (end_now ∷ not_postponing ∷ [])
+not_postponing_is_not_enough covers =
+    let enough = covers.enough not_postponing
+    (later_in end_now (not_postponing ∷ []) not_postponing (first_in not_postponing [])) in
     elim (enough.each p_until_q (first_in p_until_q []) 1 refl) [
       | inl end ↦ false≢true end
       | inr later ↦ in_none p_until_q later.2

@@ -1,13 +1,30 @@
 -- Covers that are joined. (For private functions.)
 use Rattle.std.specs.Prelude.{◌≡◌, ◌↔◌, ◌⊎◌, ℕ, All, Contains, IsTrue, List, [], ◌∷◌, ◌++◌, Some, slice_get}
+use Rattle.std.specs.Prelude.{Vec, length}
+use Rattle.std.specs.Global.{Global}
 use Rattle.ps_formula.specs.NormalForms.{NormalFormula}
-use Rattle.ps_tableau.specs.Boards.{IsEdgeOf, cover_of, covers_of}
+use Rattle.ps_tableau.specs.Boards.{HaveWays, IsEdgeOf, cover_of, covers_of}
 use Rattle.ps_tableau.specs.Covers.{Cover}
 use Rattle.ps_tableau.specs.Operators.{AreProducts, ArePruned}
 use Rattle.ps_tableau.specs.declared.board.Board.{Board}
 use Rattle.ps_tableau.specs.declared.edge.Edge.{Edge}
 use Rattle.ps_tableau.specs.declared.known.Known.{Known}
 use Rattle.ps_tableau.specs.Sets.{indices_in}
+
+-- two edges
+pub record AreBothEdges (b : Board) (d e : Edge) : Type 0 where
+  pub first : IsEdgeOf b d
+  pub second : IsEdgeOf b e
+
+-- two lists of edges
+pub record HasBothLists (b : Board) (ds es : List Edge) : Type 0 where
+  pub first : All (IsEdgeOf b) ds
+  pub second : All (IsEdgeOf b) es
+
+-- the covers of each formula before an index that is needed
+pub record HaveWaysBelow (b : Board) (index : ℕ) (known : List (Vec Edge Global)) : Type 0 where
+  pub ways : HaveWays b known
+  pub count : length known ≡ index
 
 -- an edge that is a given cover
 pub record MakesEdge (b : Board) (c : Cover) (e : Edge) : Type 0 where

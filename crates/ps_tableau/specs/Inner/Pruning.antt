@@ -24,6 +24,16 @@ pub record Makes (b : Board) (P : Cover → Type 0) (e : Edge) : Type 0 where
   pub held : IsEdgeOf b e
   pub right : P (cover_of b e)
 
+-- an edge is left of one beside others, which stay
+abbrev pub LeavesBeside : (old new : Board) → (others : List Edge) → (edge left : Edge) → Type 0
+LeavesBeside old new others edge left = Makes new (λ c.
+    ArePruned (covers_of old others ++ cover_of old edge ∷ []) (covers_of old others ++ c ∷ [])) left
+
+-- an edge is left of one beside another, which stays
+abbrev pub LeavesOf : (old new : Board) → (edge other left : Edge) → Type 0
+LeavesOf old new edge other left = Makes new (λ c.
+    ArePruned (cover_of old edge ∷ cover_of old other ∷ []) (c ∷ cover_of old other ∷ [])) left
+
 -- edges are added that are an edge pruned
 pub record AddsEdge (old new : Board) (edge : Edge) (kept more : List Edge) : Type 0 where
   pub added : List Edge

@@ -1,9 +1,20 @@
 -- Sets that are made, taken apart and joined. (For private functions.)
-use Rattle.std.specs.Prelude.{◌≡◌, ◌↔◌, ◌⊎◌, ℕ, ◌+◌, ◌<◌, ◌≤◌, List, ◌∷◌, Contains}
+use Rattle.std.specs.Prelude.{◌≡◌, ◌↔◌, ◌⊎◌, ℕ, ◌+◌, ◌<◌, ◌≤◌, IfOk, List, ◌∷◌, Contains, Result}
 use Rattle.ps_tableau.specs.declared.sets.Greatest.{Greatest}
 use Rattle.ps_tableau.specs.declared.sets.Merged.{Merged}
 use Rattle.ps_tableau.specs.declared.sets.Parts.{Parts}
-use Rattle.ps_tableau.specs.Sets.{IsSet, indices_in}
+use Rattle.ps_tableau.specs.Sets.{AreSets, IsSet, KeepsSets, indices_in}
+
+-- Each old set stays as it is, also if the call fails. The set that the call gives has a property.
+pub record ExtendsSets {E : Type 0} (old new : List (ℕ × ℕ)) (result : Result ℕ E) (P : ℕ → Type 0) : Type 0 where
+  pub extends : KeepsSets old new
+  pub sets : AreSets new
+  pub set : IfOk result P
+
+-- two sets of the table
+pub record AreBothSets (pairs : List (ℕ × ℕ)) (a b : ℕ) : Type 0 where
+  pub first : IsSet pairs a
+  pub second : IsSet pairs b
 
 -- a set whose formulas have a property
 pub record MakesSet (pairs : List (ℕ × ℕ)) (P : List ℕ → Type 0) (set : ℕ) : Type 0 where

@@ -4,7 +4,7 @@ use Rattle.ps_tableau.proofs.sets.Sets.contains.Goals as goal
 
 pub loop-parts-preserved : goal.loop-parts-preserved
 loop-parts-preserved c =
-    let parts = c.in-Some.ensures.parts in
+    let parts = c.in-Some.ensures in
     let here = parts_cases parts c.args.index in
     record {
       held = parts.held;

@@ -5,8 +5,8 @@ use Rattle.ps_tableau.proofs.sets.Sets.greatest.Goals.{then-i-j, else-i-j, then-
 
 pub returns : goal.returns
 returns c =
-    greatest_of c.max.result c.if-i-j.result c.if-j-i.result c.requires.a c.requires.b c.in_ok-left.ensures.parts
-    c.in_ok-right.ensures.parts c.max.ensures
+    greatest_of c.max.result c.if-i-j.result c.if-j-i.result c.requires.first c.requires.second c.in_ok-left.ensures
+    c.in_ok-right.ensures c.max.ensures
     (elim c.if-i-j.branch [
       | then-i-j w ↦ inl (w.if-i-j.true, w.result-is)
       | else-i-j w ↦ inr (w.if-i-j.false, w.result-is)

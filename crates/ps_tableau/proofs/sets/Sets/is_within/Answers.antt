@@ -3,8 +3,8 @@ use Rattle.ps_tableau.proofs.sets.Sets.is_within.Goals as goal
 
 pub loop-first-preserved-then-left-right : goal.loop-first-preserved-then-left-right
 loop-first-preserved-then-left-right c =
-    let first = c.in-Some.ensures.parts in
-    let second = c.in-Some-parts.ensures.parts in
+    let first = c.in-Some.ensures in
+    let second = c.in-Some-parts.ensures in
     record {
       first = first.held;
       second = second.held;
@@ -13,7 +13,7 @@ loop-first-preserved-then-left-right c =
 
 pub loop-first-preserved : goal.loop-first-preserved
 loop-first-preserved c =
-    let second = c.in-Some-parts.ensures.parts in
+    let second = c.in-Some-parts.ensures in
     record {
       first = c.loop-first.invariant.first;
       second = second.held;

@@ -4,7 +4,7 @@ use Rattle.ps_tableau.proofs.sets.Sets.members.Goals as goal
 
 pub loop-parts-preserved : goal.loop-parts-preserved
 loop-parts-preserved c =
-    let parts = c.in-Some.ensures.parts in
+    let parts = c.in-Some.ensures in
     let had = c.loop-parts.members.items in
     record {
       held = parts.held;
@@ -18,5 +18,5 @@ returns c =
     let had = c.loop-parts.members.items in
     sym (append-nil had)
     ∙ subst (λ s. had ++ indices_in c.args.self.now s ≡ indices_in c.args.self.now c.args.set)
-    c.in_default.ensures.parts
+    c.in_default.ensures
     c.loop-parts.invariant.split

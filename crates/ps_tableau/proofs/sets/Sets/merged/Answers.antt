@@ -13,8 +13,8 @@ loop-greatest-preserved c =
           (pushed_cases c.loop-greatest.taken.items c.in-Some.greatest.index k));
     }
 
-pub returns-clause-merged : goal.returns-clause-merged
-returns-clause-merged c = record {
+pub returns : goal.returns
+returns c = record {
   held = elim c.if-eq.branch [
     | then-eq w ↦ rw w.rest-is c.loop-greatest.invariant.second
     | else-eq w ↦ rw w.rest-is c.loop-greatest.invariant.first

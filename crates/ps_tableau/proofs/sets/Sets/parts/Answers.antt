@@ -4,11 +4,11 @@ use Rattle.std.specs.List.{slice_get}
 use Rattle.ps_tableau.proofs.SetLemmas.{is_empty, not_empty, parts_of}
 use Rattle.ps_tableau.proofs.sets.Sets.parts.Goals as goal
 
-pub returns-then-eq-clause-parts : goal.returns-then-eq-clause-parts
-returns-then-eq-clause-parts c = is_empty c.args.set (sym c.eq.ensures ∙ c.if-eq.true)
+pub returns-then-eq : goal.returns-then-eq
+returns-then-eq c = is_empty c.args.set (sym c.eq.ensures ∙ c.if-eq.true)
 
-pub returns-clause-parts : goal.returns-clause-parts
-returns-clause-parts c =
+pub returns : goal.returns
+returns c =
     let pairs = c.args.self.now in
     let set = c.args.set in
     let same : c.set.inside.number ≡ set = c.set.view_is in

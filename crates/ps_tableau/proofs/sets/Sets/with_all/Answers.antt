@@ -1,11 +1,11 @@
 use Rattle.std.proofs.Common.{◌≡◌, ◌+◌, ◌-◌, ◌<◌, arith, length}
-use Rattle.ps_tableau.proofs.SetLemmas.{extends_refl, extends_trans, none_more, one_more}
+use Rattle.ps_tableau.proofs.SetLemmas.{extends_refl, extends_trans, fails_sets, none_more, one_more}
 use Rattle.ps_tableau.proofs.sets.Sets.with_all.Goals as goal
 
 pub loop-place-init : goal.loop-place-init
 loop-place-init c = record {
   extends = extends_refl c.args.self.now;
-  sets = rw c.self.view_is at c.self.invariant;
+  sets = c.sets_are_sound.ensures;
   held = c.requires;
   each = λ k. none_more c.args.more.now k;
 }
@@ -24,7 +24,13 @@ loop-place-preserved c =
       each = λ k. one_more 0 more _ _ place k within made.right (rw next (c.loop-place.invariant.each k));
     }
 
-pub returns-clause-set : goal.returns-clause-set
-returns-clause-set c =
+pub returns-in_err-set : goal.returns-in_err-set
+returns-in_err-set c =
+    fails_sets _ c.from_residual.result (extends_trans c.loop-place.invariant.extends c.with.ensures.extends)
+    c.with.ensures.sets c.from_residual.ensures.1
+
+pub returns : goal.returns
+returns c =
+    let v = c.loop-place.invariant in
     let done : c.loop-place.place ≡ 0 = omega arith in
-    record { held = c.loop-place.invariant.held; each = rw done at c.loop-place.invariant.each }
+    record { extends = v.extends; sets = v.sets; set = record { held = v.held; each = rw done at v.each } }
