@@ -1,0 +1,4 @@
+pub mod FaultNames
+pub mod LeastCertificates
+pub mod Solvers
+pub mod Solving
