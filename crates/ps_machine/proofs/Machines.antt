@@ -5,10 +5,11 @@ pub mod MemorySteps
 pub mod KeptMemories
 pub mod Listing
 pub mod Assembling
-pub mod WholeMachines
+pub mod BitLetters
+pub mod OwnPropositions
+pub mod WholeBitMachines
 pub mod MachineLemmas
 pub mod Extracted
 pub mod PartsThere
 pub mod MachineThere
-pub mod CertificateThere
 pub mod Diagrams

@@ -1,6 +1,7 @@
 -- Definitions that only private contracts use; no public clause refers to them.
 
 pub mod Assembling
+pub mod BitAssembling
 pub mod ByLetters
 pub mod Certificates
 pub mod Drawing

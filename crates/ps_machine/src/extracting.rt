@@ -10,6 +10,8 @@ ghost use Rattle.ps_hoa.specs.Memory.{bytes_of};
 ghost use Rattle.ps_hoa.specs.Sound.{AreNames};
 ghost use Rattle.ps_machine.specs.Inner.Assembling.{HasRoles};
 ghost use Rattle.ps_machine.specs.Behaviours.{LassosWon};
+ghost use Rattle.ps_machine.specs.BitMachines.{bit_behaviour, nodes_of};
+ghost use Rattle.ps_machine.specs.BitParts.{AreBitPartsOf, own_propositions};
 ghost use Rattle.ps_machine.specs.Boards.{IsGameOf};
 ghost use Rattle.ps_machine.specs.BuiltBoards.{board_of};
 ghost use Rattle.ps_machine.specs.Dividing.{HasClasses};
@@ -18,10 +20,10 @@ ghost use Rattle.ps_machine.specs.Inner.Drawing.{AreMemories, AreUsed};
 ghost use Rattle.ps_machine.specs.Extracting.{HasPropositions, IsMachineOf};
 ghost use Rattle.ps_machine.specs.Keys.{mover_of};
 ghost use Rattle.ps_machine.specs.Machines.{behaviour};
-ghost use Rattle.ps_machine.specs.Parts.{ArePartsOf};
 ghost use Rattle.ps_machine.specs.Inner.Planning.{AreDividedBy, AreDrawnBy, AreKnownBy, AreRowsBy, IsPlanned, board_by};
 ghost use Rattle.ps_machine.specs.declared.key.Key.{Key};
 
+use crate::bit_machine::{BitMachine, BitParts};
 use crate::divided::Divided;
 use crate::drawing::{Drawing, Plan};
 use crate::game::AutomatonGame;
@@ -102,27 +104,29 @@ pub fn machine_of_certificate(
     machine_by(alloc, &plan, game.divided.as_ref())
 }
 
-/// Makes the machine of a player from its diagrams and rows, with the automaton's propositions. Fails if out of memory.
-pub fn machine_of_diagrams(
+/// Makes the machine of a player from its diagrams, one for each bit of its output letters, with the automaton's
+/// propositions. Fails if out of memory.
+pub fn machine_of_bits(
     alloc: Global,
     automaton: &Automaton,
     order: Order,
     player: Player,
     moves_first: bool,
-    diagrams: MachineParts,
-) -> Result<Machine, AllocError>
+    parts: BitParts,
+) -> Result<BitMachine, AllocError>
     requires player { player < 2 }
-    requires parts { ArePartsOf moves_first (board_of order automaton.now) diagrams }
+    requires parts { AreBitPartsOf moves_first (board_of order automaton.now) parts }
     ensures player { IfOk result (λ m. m.player ≡ player) }
     ensures first { IfOk result (λ m. m.is_first ≡ moves_first) }
-    ensures store { IfOk result (λ m. m.store ≡ diagrams.store) }
-    ensures nodes { IfOk result (λ m. m.nodes ≡ diagrams.nodes.items) }
-    ensures rows { IfOk result (λ m. m.rows ≡ diagrams.rows.keys) }
+    ensures store { IfOk result (λ m. m.store ≡ parts.store) }
+    ensures nodes { IfOk result (λ m. m.nodes ≡ parts.nodes.items) }
+    ensures bits { IfOk result (λ m. m.bits ≡ map nodes_of parts.bits.items) }
+    ensures outputs { IfOk result (λ m. m.outputs ≡ own_propositions moves_first (board_of order automaton.now)) }
     ensures propositions { IfOk result (λ m. HasPropositions automaton.now.names (board_of order automaton.now)
-        (behaviour m)) }
+        (bit_behaviour m)) }
 {
     let propositions = roles(alloc, automaton, order, moves_first)?;
-    Ok(Machine::new(player, moves_first, propositions, diagrams))
+    Ok(BitMachine::new(player, moves_first, propositions, parts))
 }
 
 /// The memory states of the winner of vertex 0, for the vertices that its moves can reach.

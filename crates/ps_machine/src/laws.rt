@@ -15,7 +15,6 @@ ghost use Rattle.ps_machine.specs.BuiltBoards.{board_of};
 ghost use Rattle.ps_machine.specs.Extracting.{HasPropositions, IsMachineOf};
 ghost use Rattle.ps_machine.specs.FileGames.{IsGameOfFile, board_of_file};
 ghost use Rattle.ps_machine.specs.Keys.{mover_of};
-ghost use Rattle.ps_machine.specs.Solving.{AnswersLeast};
 ghost use Rattle.ps_machine.specs.declared.key.Key.{Key};
 ghost use Rattle.ps_machine.specs.declared.key.Order.{Order};
 
@@ -95,14 +94,3 @@ pub fn one_machine_of_file()
         IsMachineOf (board_of_file order file second.auto) (mover_of order) second.keys game.game certificate o →
         BehavesAs m o }
 {}
-
-/// Each game has a certificate that psyn's own solver may return: it fits and is valid, and its counts are the least
-/// for its moves. A call may still run out of memory.
-pub fn each_game_has_a_certificate()
-    ensures { (game : NamedGameData) → IsGame game.game →
-        (certificate : CertificateData) × AnswersLeast game (Ok certificate) }
-{
-    ps_zielonka::each_game_is_divided();
-    ps_referee::solution_is_judged();
-    ps_referee::one_verdict();
-}

@@ -31,7 +31,7 @@ pub(crate) struct Propositions {
 
 /// The diagrams of a machine, and its rows.
 #[derive(Drop)]
-pub struct MachineParts {
+pub(crate) struct MachineParts {
     /// The store of the diagrams.
     pub store: Store,
     /// The diagram of each memory state.

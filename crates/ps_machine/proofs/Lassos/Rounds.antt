@@ -12,7 +12,7 @@ use Rattle.ps_machine.specs.Keys.{owner_of_key, priority_of_key}
 use Rattle.ps_machine.specs.Numbering.{StandsAt, IsGameByKeys}
 use Rattle.ps_machine.specs.Boards.{Board, IsSecondLetter, SameStep, IsClassLetter, IsMove, LeadsTo}
 use Rattle.ps_machine.specs.Extracting.{GoesTo, StepsFirst, StepsSecond}
-use Rattle.ps_machine.specs.Solving.{winner_at_start}
+use Rattle.ps_solver.specs.Solving.{winner_at_start}
 use Rattle.ps_machine.specs.declared.key.Key.{Key}
 use Rattle.ps_machine.specs.declared.key.Key.TheVariants.{First, Second}
 use Rattle.ps_machine.proofs.AutomatonGames.GameKeys.Standing.{same_some, zip_vertex}

@@ -19,7 +19,7 @@ use Rattle.ps_machine.specs.Boards.{Board}
 use Rattle.ps_machine.specs.Behaviours.{Behaviour, IsInput, Makes}
 use Rattle.ps_machine.specs.Extracting.{IsRepresentative, StandsFor, Shares, GoesTo, IsPlayed, IsOtherLetter}
 use Rattle.ps_machine.specs.Extracting.{IsMachineOf}
-use Rattle.ps_machine.specs.Solving.{winner_at_start}
+use Rattle.ps_solver.specs.Solving.{winner_at_start}
 use Rattle.ps_machine.specs.declared.key.Key.{Key}
 use Rattle.ps_machine.specs.declared.key.Key.TheVariants.{First}
 use Rattle.ps_machine.proofs.Machines.UsedVertices.{used_first}

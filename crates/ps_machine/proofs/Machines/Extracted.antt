@@ -11,7 +11,7 @@ use Rattle.ps_machine.specs.Boards.{Board, IsGameOf}
 use Rattle.ps_machine.specs.BuiltBoards.{board_of}
 use Rattle.ps_machine.specs.Inner.Drawing.{AreMemories, AreUsed, IsPlan}
 use Rattle.ps_machine.specs.Extracting.{HasPropositions, IsMachineOf}
-use Rattle.ps_machine.specs.Solving.{winner_at_start}
+use Rattle.ps_solver.specs.Solving.{winner_at_start}
 use Rattle.ps_machine.specs.Keys.{mover_of}
 use Rattle.ps_machine.specs.Machines.{MachineData, IsWholeMachine, behaviour}
 use Rattle.ps_machine.specs.declared.key.Key.{Key}

@@ -22,7 +22,7 @@ among_last : (p : ℕ) (list : List ℕ) → is_among p (list ++ p ∷ []) ≡ t
 among_last p [] = ap (λ (b : Bool). cond b true false) (eq-eqb p p refl)
 among_last p (m ∷ list) = cc (among_last p list, always (nat_eq p m))
 
-get_among : (list : List ℕ) (k d : ℕ) → k < length list → is_among (get_or list k d) list ≡ true
+pub get_among : (list : List ℕ) (k d : ℕ) → k < length list → is_among (get_or list k d) list ≡ true
 get_among [] k d within = absurd (omega arith)
 get_among (m ∷ list) zero d within = ap (λ (b : Bool). cond b true (is_among m list)) (eq-eqb m m refl)
 get_among (m ∷ list) (suc k) d within = search (rules, nat_eq, always, get_among list k d (omega arith))

@@ -16,7 +16,7 @@ use Rattle.ps_machine.specs.Boards.{Board, IsFirstLetter, IsSecondLetter, SameSt
 use Rattle.ps_machine.specs.Inner.Drawing.{AreMemories, AreUsed, IsOwn, IsRowAt}
 use Rattle.ps_machine.specs.Extracting.{HasPropositions, IsMachineOf, IsOtherLetter, IsStep, IsUsed, is_others}
 use Rattle.ps_machine.specs.Numbering.{StandsAt}
-use Rattle.ps_machine.specs.Solving.{winner_at_start}
+use Rattle.ps_solver.specs.Solving.{winner_at_start}
 use Rattle.ps_machine.specs.declared.key.Key.{Key}
 use Rattle.ps_machine.specs.declared.key.Key.TheVariants.{First}
 use Rattle.ps_machine.specs.declared.machine.Row.{Row}

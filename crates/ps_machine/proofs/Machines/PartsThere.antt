@@ -13,7 +13,7 @@ use Rattle.ps_machine.specs.Inner.Assembling.{AreListedBelow}
 use Rattle.ps_machine.specs.Inner.Drawing.{Adds, AreMemories, AreUsed, GoesOn, Stays, Grows, anchor_of}
 use Rattle.ps_machine.specs.Extracting.{IsUsed}
 use Rattle.ps_machine.specs.Numbering.{StandsAt}
-use Rattle.ps_machine.specs.Solving.{winner_at_start}
+use Rattle.ps_solver.specs.Solving.{winner_at_start}
 use Rattle.ps_machine.specs.declared.key.Key.{Key}
 use Rattle.ps_machine.specs.declared.key.Key.TheVariants.{First, Second}
 use Rattle.ps_machine.proofs.Machines.Diagrams.DrawingLemmas.{not_both}

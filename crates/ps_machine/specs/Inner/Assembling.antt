@@ -3,7 +3,6 @@
 -- - `AreDrawn .. t rows nodes n`: the first n memory states have their diagrams, and each row has a letter of the
 --   machine's player and an existing memory state
 -- - `AreListedBelow n is list`: the list has the numbers less than n that pass the test `is`, ascending
--- - `IsComposed board m`: m has propositions, diagrams and rows that belong together
 -- - `IsAssembled .. m`: the propositions of machine m satisfy `HasRoles`, and its diagrams satisfy `AreDrawn`
 -- - `machine_of player is_first propositions diagrams`: the player's machine with these propositions and diagrams
 -- - `HasRoles is_first board inputs outputs`: `inputs` are the other player's propositions, which the machine reads;
@@ -19,7 +18,6 @@ use Rattle.ps_machine.specs.Boards.{Board}
 use Rattle.ps_machine.specs.Inner.Drawing.{IsDrawn, IsRow}
 use Rattle.ps_machine.specs.Extracting.{is_others}
 use Rattle.ps_machine.specs.Machines.{MachineData}
-use Rattle.ps_machine.specs.Parts.{IsDiagramOf, IsOwnLetter}
 use Rattle.ps_machine.specs.declared.key.Key.{Key}
 use Rattle.ps_machine.specs.declared.machine.MachineParts.{MachineParts}
 use Rattle.ps_machine.specs.declared.machine.Propositions.{Propositions}
@@ -57,21 +55,8 @@ machine_of player is_first propositions diagrams =
       rows = diagrams.rows.keys;
     }
 
--- a machine that reads the other player's propositions, outputs those of its own player, and has a diagram for each
--- memory state
-pub record IsComposed (board : Board) (m : MachineData) : Type 0 where
-  pub few_names : length m.names ≤ 64
-  pub are_names : AreNames m.names
-  pub as_many : length m.names ≡ board.propositions
-  pub letters : m.store.propositions ≡ length m.names
-  pub player : m.player < 2
-  pub some : 0 < length m.nodes
-  pub roles : HasRoles m.is_first board m.inputs m.outputs
-  pub rows : All (λ row. (row.memory < length m.nodes) × IsOwnLetter m.is_first board row.letter) m.rows
-  pub each : (memory : ℕ) → memory < length m.nodes →
-      IsDiagramOf m.is_first board m.store m.rows (slice_index m.nodes memory)
-
--- the same, where the diagrams are those of a certificate, as `AreDrawn` states
+-- a machine that reads the other player's propositions, outputs those of its own player, and has the certificate's
+-- diagrams, as `AreDrawn` states
 pub record IsAssembled (board : Board) (keys : List Key) (kept : List ℕ) (certificate : CertificateData)
     (m : MachineData) : Type 0 where
   pub few_names : length m.names ≤ 64

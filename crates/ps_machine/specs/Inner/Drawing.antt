@@ -26,7 +26,7 @@ use Rattle.ps_automaton.specs.Automata.{AutomatonData}
 use Rattle.ps_machine.specs.Boards.{Board, IsFirstLetter, IsSecondLetter, IsGameOf}
 use Rattle.ps_machine.specs.BuiltBoards.{board_of}
 use Rattle.ps_machine.specs.Extracting.{IsUsed, GoesTo, StandsFor, IsPlayed, IsOtherLetter, is_others}
-use Rattle.ps_machine.specs.Solving.{winner_at_start}
+use Rattle.ps_solver.specs.Solving.{winner_at_start}
 use Rattle.ps_machine.specs.Keys.{mover_of}
 use Rattle.ps_machine.specs.Numbering.{StandsAt}
 use Rattle.ps_machine.specs.declared.key.Key.{Key}

@@ -23,7 +23,7 @@ use Rattle.ps_machine.specs.Boards.{IsListOf, Board, IsClassLetter, IsMove, Lead
 use Rattle.ps_machine.specs.BuiltBoards.{board_of}
 use Rattle.ps_machine.specs.Inner.Drawing.{AreMemories, IsPlan, IsDrawn, KeepsRows, Leads, anchor_of}
 use Rattle.ps_machine.specs.Extracting.{IsUsed, GoesTo, Shares, StandsFor}
-use Rattle.ps_machine.specs.Solving.{winner_at_start}
+use Rattle.ps_solver.specs.Solving.{winner_at_start}
 use Rattle.ps_machine.specs.Keys.{mover_of}
 use Rattle.ps_machine.specs.Numbering.{StandsAt}
 use Rattle.ps_machine.specs.declared.key.Key.{Key}

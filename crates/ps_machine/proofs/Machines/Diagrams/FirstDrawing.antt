@@ -20,7 +20,7 @@ use Rattle.ps_machine.specs.BuiltBoards.{board_of}
 use Rattle.ps_machine.specs.Inner.Drawing.{IsPlan, IsRow, KeepsRows, IsDrawn, Leads, LeadsToRow}
 use Rattle.ps_machine.specs.Inner.Placing.{IsEntered, IsPlaced, PlaysClass}
 use Rattle.ps_machine.specs.Extracting.{IsUsed, StandsFor}
-use Rattle.ps_machine.specs.Solving.{winner_at_start}
+use Rattle.ps_solver.specs.Solving.{winner_at_start}
 use Rattle.ps_machine.specs.Keys.{mover_of}
 use Rattle.ps_machine.specs.Inner.Moving.{step_key}
 use Rattle.ps_machine.specs.Numbering.{StandsAt}

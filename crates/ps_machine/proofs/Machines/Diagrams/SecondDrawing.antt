@@ -29,7 +29,7 @@ use Rattle.ps_machine.specs.Inner.Drawing.{CanEnter, IsReplyRow, IsDrawn, IsRepl
 use Rattle.ps_machine.specs.Inner.Drawing.{LeadsToRow}
 use Rattle.ps_machine.specs.Inner.Drawing.{NamesAnswer}
 use Rattle.ps_machine.specs.Extracting.{IsUsed, GoesTo, StandsFor}
-use Rattle.ps_machine.specs.Solving.{winner_at_start}
+use Rattle.ps_solver.specs.Solving.{winner_at_start}
 use Rattle.ps_machine.specs.Keys.{mover_of}
 use Rattle.ps_machine.specs.Dividing.{IsFit}
 use Rattle.ps_machine.specs.Inner.Moving.{IsRest, step_key}
