@@ -1,7 +1,7 @@
 -- Lemmas about constant literals, literals of inputs, nodes that lead to no leaf, and codes that fit in 64 bits.
 use Rattle.std.proofs.Common.{◌≡◌, ℕ, zero, suc, ◌+◌, ◌-◌, ◌*◌, ◌/◌, ◌%◌, ◌^◌, ◌<◌, ◌≤◌, Bool, false}
 use Rattle.std.proofs.Common.{cond, nat_eq, List, [], ◌∷◌, length, get_or, Some, refl, sym, ap, subst, arith}
-use Rattle.std.proofs.Common.{inl, inr, if◌then◌else◌}
+use Rattle.std.proofs.Common.{inl, inr, if◌then◌else◌, None, ◌∙◌}
 use Rattle.std.proofs.lemmas.Bool.{eqb-true, cases_eq, cases_lt}
 use Rattle.std.proofs.lemmas.List.{get_or_past}
 use Rattle.std.proofs.lemmas.Option.{slice_get_within}
@@ -11,9 +11,12 @@ use Rattle.std.proofs.lemmas.Nat.Bits.{bit_at_above}
 use Rattle.ps_label.specs.Truth.{is_in}
 use Rattle.ps_hoa.specs.Files.{is_among}
 use Rattle.ps_machine.specs.Machines.{MachineData, row_at_leaf}
-use Rattle.ps_aiger.specs.declared.functions.Wanted.{Wanted}
+use Rattle.ps_aiger.specs.declared.stored.Stored.{Stored}
+use Rattle.ps_aiger.specs.declared.stored.Stored.TheVariants.{Bits, Rows}
+use Rattle.ps_aiger.specs.declared.stored.Wanted.{Wanted}
+use Rattle.ps_aiger.specs.declared.stored.Wanted.TheVariants.{Next, Output}
 use Rattle.ps_circuit.specs.Building.{Drafted, IsHeld, bit}
-use Rattle.ps_aiger.specs.Inner.Functions.{IsInputLiteral, wanted_bit}
+use Rattle.ps_aiger.specs.Inner.Functions.{IsInputLiteral, bit_at, bit_of_leaf, bit_of_row}
 use Rattle.ps_circuit.proofs.GatesAndLinks.GateLemmas.{bool_cases}
 
 pub not_among : (q : ℕ) (ps : List ℕ) → ((k : ℕ) → k < length ps → get_or ps k 0 ≡ q → ⊥) → is_among q ps ≡ false
@@ -29,11 +32,20 @@ not_among q (p ∷ ps) h = elim (cases_eq q p) [
 no_bits : (p : ℕ) → is_in p 0 ≡ false
 no_bits p = ap (λ n. nat_eq n 1) (bit_at_above 0 0 p (omega arith) (omega arith))
 
-pub no_row : (m : MachineData) → row_at_leaf m (length m.rows) ≡ record { memory = 0; letter = 0 }
+no_row : (m : MachineData) → row_at_leaf m (length m.rows) ≡ record { memory = 0; letter = 0 }
 no_row m = get_or_past m.rows (length m.rows) _ (omega arith)
 
-pub nothing_wanted : (w : Wanted) → wanted_bit w (record { memory = 0; letter = 0 }) ≡ false
+nothing_wanted : (w : Wanted) → bit_of_row w (record { memory = 0; letter = 0 }) ≡ false
 nothing_wanted w = grind (arith, no_bits)
+
+nothing_of_leaf : (w : Wanted) → bit_of_leaf w None ≡ false
+nothing_of_leaf (Next j) = no_bits j
+nothing_of_leaf (Output place p) = refl
+
+-- where a diagram has no leaf, each bit is 0
+pub nothing_at : (m : Stored) (w : Wanted) → bit_at m w None ≡ false
+nothing_at (Rows m) w = ap (bit_of_row w) (no_row m.now) ∙ nothing_wanted w
+nothing_at (Bits m) w = nothing_of_leaf w
 
 pub constant_bit : (v : ℕ → Bool) (b : Bool) → v 0 ≡ false → bit v (if b then 1 else 0) ≡ b
 constant_bit v b e = grind arith

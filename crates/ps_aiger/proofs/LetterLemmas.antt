@@ -1,42 +1,24 @@
 -- Lemmas about letters over given propositions, and about the bits of numbers.
 use Rattle.std.proofs.Common.{rules, ◌≡◌, ◌∙◌, ℕ, zero, suc, ◌+◌, ◌-◌, ◌*◌, ◌/◌, ◌%◌, ◌^◌, ◌<◌, ◌≤◌, Bool, true, false}
-use Rattle.std.proofs.Common.{cond, nat_eq, List, [], ◌∷◌, length, get_or, slice_get, Some, refl, sym, ap, arith, inl}
-use Rattle.std.proofs.Common.{inr, AllPairs}
+use Rattle.std.proofs.Common.{cond, nat_eq, List, [], ◌∷◌, length, get_or, refl, ap, arith, inl}
+use Rattle.std.proofs.Common.{inr}
 use Rattle.std.specs.Int.{bit_at}
 use Rattle.std.proofs.Math.Nat.{add-mul, pow-suc}
 use Rattle.std.proofs.lemmas.Bool.{eqb-true, eq-eqb, cases_eq, cases_lt}
 use Rattle.std.proofs.lemmas.Nat.{pow-add}
 use Rattle.std.proofs.lemmas.Nat.Bits.{bit_at_cat_low, bit_at_cat_high, bit_at_above}
 use Rattle.ps_label.specs.Truth.{is_in}
-use Rattle.ps_hoa.specs.Files.{is_among}
 use Rattle.ps_diagram.specs.Letters.{letter_of}
 use Rattle.ps_diagram.proofs.Letters.{letter_lt, letter_is, top_bit, lower_bit}
 use Rattle.ps_aiger.specs.Encoded.{letter_over, number_of_bits}
-use Rattle.std.proofs.lemmas.Option.{slice_get_within, get_or_from_slice_get}
-use Rattle.ps_circuit.proofs.GatesAndLinks.GateLemmas.{bool_cases, true_is_not_false}
+pub use Rattle.ps_machine.specs.BitMachines.{bit_for}
+use Rattle.ps_machine.proofs.Machines.BitLetters.{AreFrom, from-tail}
+use Rattle.ps_circuit.proofs.GatesAndLinks.GateLemmas.{bool_cases}
 
 pub no_test : (a b : ℕ) → (a ≡ b → ⊥) → nat_eq a b ≡ false
 no_test a b ne = elim (bool_cases (nat_eq a b)) [ inl e ↦ absurd (ne (eqb-true a b e)) | inr e ↦ e ]
 
 -- ## Letters
-
--- the bit of the proposition q in a letter that has the given bits at the propositions `ps`, and is false at all other
--- propositions
-abbrev pub bit_for : List ℕ → List Bool → ℕ → Bool
-bit_for [] bits q = false
-bit_for (p ∷ ps) [] q = false
-bit_for (p ∷ ps) (b ∷ bits) q = cond (nat_eq p q) b (bit_for ps bits q)
-
--- ascending numbers, each at least m
-pub record AreFrom (m : ℕ) (ps : List ℕ) : Type 0 where
-  pub from : (k : ℕ) → k < length ps → m ≤ get_or ps k 0
-  pub rise : AllPairs (λ p q. p < q) ps
-
-from-tail : (m p : ℕ) (ps : List ℕ) → AreFrom m (p ∷ ps) → AreFrom (p + 1) ps
-from-tail m p ps a = record {
-  from = λ k lt. (let h : p < get_or ps k 0 = a.rise 0 (suc k) 0 (omega arith) (omega arith) in omega arith);
-  rise = λ i j d lt within. a.rise (suc i) (suc j) d (omega arith) (omega arith);
-}
 
 power : (p m : ℕ) → m ≤ p → 2 ^ p ≡ 2 ^ (p - m) * 2 ^ m
 power p m le = ap (λ n. 2 ^ n) (let e : p ≡ p - m + m = omega arith in e) ∙ pow-add 2 (p - m) m
@@ -116,33 +98,6 @@ letter_bit m (p ∷ ps) (b ∷ bits) q a =
     let later : AreFrom (p + 1) ps = from-tail m p ps a in
     let rest = multiple (p + 1) ps bits later in
     search (rules, letter_bit_more, letter_bit (p + 1) ps bits q later)
-
-pub bit_for-at : (m : ℕ) (ps : List ℕ) (bits : List Bool) (k p : ℕ) → AreFrom m ps → slice_get ps k ≡ Some p →
-    k < length bits → bit_for ps bits p ≡ get_or bits k false
-bit_for-at m [] bits k p a at lt = absurd (none_here k at)
-  where
-    none_here : (k : ℕ) → slice_get [] k ≡ Some p → ⊥
-    none_here k e = cc
-bit_for-at m (x ∷ ps) [] k p a at lt = absurd (omega arith)
-bit_for-at m (x ∷ ps) (b ∷ bits) zero p a at lt = ap (λ t. cond t b (bit_for ps bits p)) (eq-eqb x p (some_is x p at))
-  where
-    some_is : (c d : ℕ) → Some c ≡ Some d → c ≡ d
-    some_is c d e = cc
-bit_for-at m (x ∷ ps) (b ∷ bits) (suc k) p a at lt = ap (λ t. cond t b (bit_for ps bits p)) (no_test x p other)
-    ∙ bit_for-at (x + 1) ps bits k p (from-tail m x ps a) at (omega arith)
-  where
-    other : x ≡ p → ⊥
-    other e = (let within = slice_get_within ps k p at in let is = get_or_from_slice_get ps k p 0 at in
-        let h = (from-tail m x ps a).from k within in absurd (omega arith))
-
-pub bit_for-none : (ps : List ℕ) (bits : List Bool) (q : ℕ) → is_among q ps ≡ false → bit_for ps bits q ≡ false
-bit_for-none [] bits q h = refl
-bit_for-none (p ∷ ps) [] q h = refl
-bit_for-none (p ∷ ps) (b ∷ bits) q h = elim (cases_eq q p) [
-  | inl e ↦ absurd (true_is_not_false (sym (ap (λ t. cond t true (is_among q ps)) (eq-eqb q p e)) ∙ h))
-  | inr ne ↦ ap (λ t. cond t b (bit_for ps bits q)) (no_test p q (λ e. ne (sym e)))
-      ∙ bit_for-none ps bits q (sym (ap (λ t. cond t true (is_among q ps)) (no_test q p ne)) ∙ h)
-]
 
 -- a strictly ascending list of numbers from m to n - 1 has at most n - m entries
 pub few_rise : (m n : ℕ) (ps : List ℕ) → AreFrom m ps → ((k : ℕ) → k < length ps → get_or ps k 0 < n) → m ≤ n →

@@ -4,6 +4,7 @@ pub mod LetterLemmas
 pub mod OverLemmas
 pub mod EncodeLemmas
 pub mod WiredLemmas
+pub mod StoredSteps
 mod OneCircuit
 mod SameWires
 pub mod WireLemmas

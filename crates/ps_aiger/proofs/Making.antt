@@ -18,10 +18,10 @@ use Rattle.ps_circuit.specs.Gates.{Made, MakesGates, mux_of}
 use Rattle.ps_diagram.specs.Table.{Table}
 use Rattle.ps_diagram.specs.Views.{SeesTest}
 use Rattle.ps_machine.specs.Behaviours.{IsMachine}
-use Rattle.ps_machine.specs.Machines.{MachineData, behaviour}
-use Rattle.ps_aiger.specs.declared.functions.Wanted.{Wanted}
-use Rattle.ps_aiger.specs.Inner.Functions.{AreInputLiterals, IsInputLiteral, MakesLiteral}
-use Rattle.ps_aiger.specs.Inner.Functions.{node_made}
+use Rattle.ps_aiger.specs.declared.stored.Stored.{Stored}
+use Rattle.ps_aiger.specs.declared.stored.Wanted.{Wanted}
+use Rattle.ps_aiger.specs.Inner.Functions.{AreInputLiterals, IsInputLiteral, MakesLiteral, behaviour_of}
+use Rattle.ps_aiger.specs.Inner.Functions.{node_made, store_of}
 use Rattle.ps_circuit.proofs.GatesAndLinks.GateLemmas.{extends-refl, extends-trans, passed_on}
 use Rattle.ps_aiger.proofs.OverLemmas.{choice_made, made-test}
 use Rattle.ps_aiger.proofs.WiredLemmas.{choice-made}
@@ -36,7 +36,8 @@ fails x was is above = record {
   too_large = λ e. above (passed_on was is e);
 }
 
-pub gives : {d : Drafted} {literal : ℕ} {all : Made} → IsHeld d literal → all ≡ record { draft = d; literal = literal } →
+pub gives : {d : Drafted} {literal : ℕ} {all : Made} → IsHeld d literal →
+    all ≡ record { draft = d; literal = literal } →
     MakesLiteral d d (Ok literal) all
 gives {d} held made = record { extends = extends-refl d; held = held; made = made; too_large = search rules }
 
@@ -56,20 +57,21 @@ pub by-choice : {old new : Drafted} {result : Result ℕ EncodeFault} {all : Mad
 by-choice m = record { extends = m.extends; held = m.held; made = m.made; too_large = m.above }
 
 -- the entry of a tested proposition, in the table of the inputs' literals
-pub entry_of : (m : MachineData) (node p low high : ℕ) {s : Table} {literals : List (Option ℕ)} → s ≡ m.store →
+pub entry_of : (m : Stored) (node p low high : ℕ) {s : Table} {literals : List (Option ℕ)} → s ≡ store_of m →
     SeesTest s node p low high → AreInputLiterals m literals → (d : Option ℕ) {found : Option ℕ} →
-    get_or literals p d ≡ found → IsInputLiteral m.inputs p found
-entry_of m node p low high store sees are d is = subst (IsInputLiteral m.inputs p) is
+    get_or literals p d ≡ found → IsInputLiteral (behaviour_of m).inputs p found
+entry_of m node p low high store sees are d is = subst (IsInputLiteral (behaviour_of m).inputs p) is
     (are.each p d (subst (λ (t : Table). p < t.propositions) store sees.named))
 
 -- the literal of a node that tests an input is the choice, by this input, between the literals of the node's two
 -- children
-module _ (m : MachineData) (w : Wanted) (node p low high : ℕ) (d : Drafted) (machine : IsMachine (behaviour m))
-    {s : Table} (store : s ≡ m.store) (sees : SeesTest s node p low high) {literals : List (Option ℕ)}
+module _ (m : Stored) (w : Wanted) (node p low high : ℕ) (d : Drafted) (machine : IsMachine (behaviour_of m))
+    {s : Table} (store : s ≡ store_of m) (sees : SeesTest s node p low high) {literals : List (Option ℕ)}
     (are : AreInputLiterals m literals) (e : Option ℕ) {input : ℕ} (is : get_or literals p e ≡ Some input) where
   pub test-split : node_made m w node d ≡ choice_made m w input high low d
   test-split =
-      let reads : IsInputLiteral m.inputs p (Some input) = entry_of m node p low high store sees are e is in
+      let reads : IsInputLiteral (behaviour_of m).inputs p (Some input) =
+      entry_of m node p low high store sees are e is in
       subst (λ x. node_made m w node d ≡ choice_made m w x high low d) (sym reads.2)
       (made-test m w node p low high reads.0 d machine (subst (λ t. SeesTest t node p low high) store sees) reads.1)
 

@@ -2,9 +2,8 @@
 -- diagram's nodes are those built for the function of the diagram.
 use Rattle.std.proofs.Common.{rules}
 use Rattle.std.proofs.Common.{◌≡◌, ◌∙◌, ℕ, zero, suc, ◌+◌, ◌*◌, ◌<◌, Bool, true, false, cond, if◌then◌else◌, List, []}
-use Rattle.std.proofs.Common.{◌∷◌, length, get_or, slice_get, Option, Some, None, refl, sym, ap, subst, arith, inl, inr}
+use Rattle.std.proofs.Common.{◌∷◌, length, get_or, slice_get, Some, None, refl, sym, ap, subst, arith, inl, inr}
 use Rattle.std.specs.List.{range_with_len}
-use Rattle.std.specs.Option.{unwrap_or}
 use Rattle.std.proofs.lemmas.Bool.{cases_eq, cases_lt, eq-eqb}
 use Rattle.std.proofs.lemmas.List.FromFn.{length-range_with_len, get_or-range_with_len}
 use Rattle.std.proofs.lemmas.Option.{slice_get_within, get_or_from_slice_get}
@@ -13,15 +12,17 @@ use Rattle.ps_hoa.specs.Files.{is_among}
 use Rattle.ps_diagram.specs.Table.{leaf_of}
 use Rattle.ps_diagram.specs.Views.{SeesTest, HeedsBehind}
 use Rattle.ps_machine.specs.Behaviours.{IsMachine}
-use Rattle.ps_machine.specs.Machines.{MachineData, behaviour, row_at_leaf}
-use Rattle.ps_aiger.specs.declared.functions.Wanted.{Wanted}
+use Rattle.ps_aiger.specs.declared.stored.Stored.{Stored}
+use Rattle.ps_aiger.specs.declared.stored.Wanted.{Wanted}
 use Rattle.ps_circuit.specs.Building.{Drafted, Extends}
 use Rattle.ps_aiger.specs.Encoded.{letter_over}
-use Rattle.ps_aiger.specs.Inner.Functions.{wanted_bit, row_by, node_made}
+use Rattle.ps_aiger.specs.Inner.Functions.{behaviour_of, bit_at, node_made, store_of}
 use Rattle.ps_circuit.specs.Gates.{Made, mux_of}
 use Rattle.ps_aiger.specs.Wires.{over_variables}
-use Rattle.ps_aiger.proofs.LetterLemmas.{AreFrom, bit_for, letter_bit, bit_for-at, bit_for-none, no_test}
-use Rattle.ps_aiger.proofs.FunctionLemmas.{by_cond, no_row, nothing_wanted}
+use Rattle.ps_machine.specs.BitMachines.{bit_for}
+use Rattle.ps_machine.proofs.Machines.BitLetters.{AreFrom, bit_for-at, bit_for-none, from_least}
+use Rattle.ps_aiger.proofs.LetterLemmas.{letter_bit, no_test}
+use Rattle.ps_aiger.proofs.FunctionLemmas.{by_cond, nothing_at}
 use Rattle.ps_circuit.proofs.GatesAndLinks.GateLemmas.{extends-refl, extends-trans}
 use Rattle.ps_circuit.proofs.GatesAndLinks.MadeLemmas.{IsThere, mux-extends, mux-again, mux-same}
 
@@ -140,41 +141,41 @@ over-test (suc k) (v ∷ vs) f h l d lt test hb lb =
 
 -- ## Nodes
 
-pub inputs-extends : (m : MachineData) (w : Wanted) (node : ℕ) (d : Drafted) → Extends d (node_made m w node d).draft
+pub inputs-extends : (m : Stored) (w : Wanted) (node : ℕ) (d : Drafted) → Extends d (node_made m w node d).draft
 unfolding node_made
-inputs-extends m w node d = over-extends (range_with_len 1 (length m.inputs)) _ d
+inputs-extends m w node d = over-extends (range_with_len 1 (length (behaviour_of m).inputs)) _ d
 
-pub inputs-again : (m : MachineData) (w : Wanted) (node : ℕ) (d e : Drafted) → Extends (node_made m w node d).draft e →
+pub inputs-again : (m : Stored) (w : Wanted) (node : ℕ) (d e : Drafted) → Extends (node_made m w node d).draft e →
     IsThere (node_made m w node d) (node_made m w node) e
 unfolding node_made
-inputs-again m w node d e x = over-again (range_with_len 1 (length m.inputs)) _ d e x
+inputs-again m w node d e x = over-again (range_with_len 1 (length (behaviour_of m).inputs)) _ d e x
 
--- a diagram's leaf is the index of a row in the machine's table; this is the bit w of that row, or of the default row
--- (memory state 0, letter 0) if there is no leaf
-abbrev bit_at : MachineData → Wanted → Option ℕ → Bool
-bit_at m w leaf = wanted_bit w (row_at_leaf m (unwrap_or leaf (length m.rows)))
-
-pub made-nothing : (m : MachineData) (w : Wanted) (node : ℕ) (d : Drafted) →
-    ((letter : ℕ) → leaf_of m.store node letter ≡ None) → node_made m w node d ≡ record { draft = d; literal = 0 }
+pub made-nothing : (m : Stored) (w : Wanted) (node : ℕ) (d : Drafted) →
+    ((letter : ℕ) → leaf_of (store_of m) node letter ≡ None) → node_made m w node d ≡ record { draft = d; literal = 0 }
 unfolding node_made
-made-nothing m w node d h = over-constant false (range_with_len 1 (length m.inputs)) _ d
-    (λ bits e. ap (bit_at m w) (h (letter_over m.inputs bits)) ∙ ap (wanted_bit w) (no_row m) ∙ nothing_wanted w)
+made-nothing m w node d h = over-constant false (range_with_len 1 (length (behaviour_of m).inputs)) _ d
+    (λ bits e. ap (bit_at m w) (h (letter_over (behaviour_of m).inputs bits)) ∙ nothing_at m w)
 
-pub made-leaf : (m : MachineData) (w : Wanted) (node leaf literal : ℕ) (d : Drafted) →
-    ((letter : ℕ) → leaf_of m.store node letter ≡ Some leaf) →
-    literal ≡ (if wanted_bit w (row_at_leaf m leaf) then 1 else 0)
+pub made-leaf : (m : Stored) (w : Wanted) (node leaf literal : ℕ) (d : Drafted) →
+    ((letter : ℕ) → leaf_of (store_of m) node letter ≡ Some leaf) →
+    literal ≡ (if bit_at m w (Some leaf) then 1 else 0)
     → node_made m w node d ≡ record { draft = d; literal = literal }
 unfolding node_made
 made-leaf m w node leaf literal d h e = grind (arith, over-constant)
 
-rising : (m : MachineData) → IsMachine (behaviour m) → AreFrom 0 m.inputs
-rising m machine = record { from = λ k lt. omega arith; rise = machine.inputs_rise }
+rising : (m : Stored) → IsMachine (behaviour_of m) → AreFrom 0 (behaviour_of m).inputs
+rising m machine = from_least (behaviour_of m).inputs machine.inputs_rise
 
-pub made-low : (m : MachineData) (w : Wanted) (node p low high : ℕ) (d : Drafted) → IsMachine (behaviour m) →
-    SeesTest m.store node p low high → is_among p m.inputs ≡ false → node_made m w node d ≡ node_made m w low d
+pub made-low : (m : Stored) (w : Wanted) (node p low high : ℕ) (d : Drafted) → IsMachine (behaviour_of m) →
+    SeesTest (store_of m) node p low high → is_among p (behaviour_of m).inputs ≡ false →
+    node_made m w node d ≡ node_made m w low d
 unfolding node_made
-made-low m w node p low high d machine sees none = over-same (range_with_len 1 (length m.inputs)) _ _ d
-    (λ bits e. grind (arith, letter_bit 0 m.inputs bits p (rising m machine), bit_for-none m.inputs bits p none))
+made-low m w node p low high d machine sees none = over-same (range_with_len 1 (length (behaviour_of m).inputs)) _ _ d
+    (λ bits e. grind (
+      arith,
+      letter_bit 0 (behaviour_of m).inputs bits p (rising m machine),
+      bit_for-none (behaviour_of m).inputs bits p none,
+    ))
 
 -- in the letter with given bits at the propositions `ps`, the bit of the proposition q depends only on the bit given
 -- for q
@@ -193,40 +194,46 @@ settled (p ∷ ps) (x ∷ a) (y ∷ b) q ea eb h = elim (cases_eq p q) [
 
 -- let p be the proposition of the input with the index `place`; if a diagram node depends only on propositions after p,
 -- its row depends only on inputs after this input
-node_behind : (m : MachineData) (w : Wanted) (node p place : ℕ) → IsMachine (behaviour m) →
-    slice_get m.inputs place ≡ Some p → HeedsBehind m.store node p → (n : ℕ) → n ≡ length m.inputs →
-    IsBehind n place (λ bits. wanted_bit w (row_by m node (letter_over m.inputs bits)))
+node_behind : (m : Stored) (w : Wanted) (node p place : ℕ) → IsMachine (behaviour_of m) →
+    slice_get (behaviour_of m).inputs place ≡ Some p → HeedsBehind (store_of m) node p → (n : ℕ) →
+    n ≡ length (behaviour_of m).inputs →
+    IsBehind n place (λ bits. bit_at m w (leaf_of (store_of m) node (letter_over (behaviour_of m).inputs bits)))
 node_behind m w node p place machine at heeds n is a b ea eb same = ap (bit_at m w)
-    (heeds (letter_over m.inputs a) (letter_over m.inputs b) (λ q lt. letter_bit 0 m.inputs a q (rising m machine)
-    ∙ settled m.inputs a b q (grind arith) (eb ∙ is) (λ j within e. grind (arith, later q j lt within e))
-    ∙ sym (letter_bit 0 m.inputs b q (rising m machine))))
+    (heeds (letter_over (behaviour_of m).inputs a) (letter_over (behaviour_of m).inputs b)
+    (λ q lt. letter_bit 0 (behaviour_of m).inputs a q (rising m machine)
+    ∙ settled (behaviour_of m).inputs a b q (grind arith) (eb ∙ is) (λ j within e. grind (arith, later q j lt within e))
+    ∙ sym (letter_bit 0 (behaviour_of m).inputs b q (rising m machine))))
   where
-    own : get_or m.inputs place 0 ≡ p
-    own = get_or_from_slice_get m.inputs place p 0 at
+    own : get_or (behaviour_of m).inputs place 0 ≡ p
+    own = get_or_from_slice_get (behaviour_of m).inputs place p 0 at
 
-    later : (q j : ℕ) → p < q → j < length m.inputs → get_or m.inputs j 0 ≡ q → place < j
+    later : (q j : ℕ) → p < q → j < length (behaviour_of m).inputs → get_or (behaviour_of m).inputs j 0 ≡ q → place < j
     later q j lt within e = grind (arith, cases_lt, cases_eq, own, slice_get_within)
 
-abbrev pub choice_made : MachineData → Wanted → ℕ → ℕ → ℕ → Drafted → Made
+abbrev pub choice_made : Stored → Wanted → ℕ → ℕ → ℕ → Drafted → Made
 choice_made m w s high low d = choose s (node_made m w high d) (node_made m w low (node_made m w high d).draft)
 
-pub made-test : (m : MachineData) (w : Wanted) (node p low high place : ℕ) (d : Drafted) → IsMachine (behaviour m) →
-    SeesTest m.store node p low high → slice_get m.inputs place ≡ Some p →
+pub made-test : (m : Stored) (w : Wanted) (node p low high place : ℕ) (d : Drafted) → IsMachine (behaviour_of m) →
+    SeesTest (store_of m) node p low high → slice_get (behaviour_of m).inputs place ≡ Some p →
     node_made m w node d ≡ choice_made m w (2 * (place + 1)) high low d
 unfolding node_made
 made-test m w node p low high place d machine sees at =
-    let vs = range_with_len 1 (length m.inputs) in
-    let many : length vs ≡ length m.inputs = length-range_with_len 1 (length m.inputs) in
-    let within : place < length m.inputs = slice_get_within m.inputs place p at in
+    let vs = range_with_len 1 (length (behaviour_of m).inputs) in
+    let many : length vs ≡ length (behaviour_of m).inputs = length-range_with_len 1 (length (behaviour_of m).inputs) in
+    let within : place < length (behaviour_of m).inputs = slice_get_within (behaviour_of m).inputs place p at in
     let s : 2 * get_or vs place 0 ≡ 2 * (place + 1) =
-    omega (arith, get_or-range_with_len 1 (length m.inputs) place 0 within) in
-    let fh : List Bool → Bool = λ bits. wanted_bit w (row_by m high (letter_over m.inputs bits)) in
-    let fl : List Bool → Bool = λ bits. wanted_bit w (row_by m low (letter_over m.inputs bits)) in
-    over-test place vs (λ bits. wanted_bit w (row_by m node (letter_over m.inputs bits))) fh fl d
-    (subst (λ n. place < n) (sym many) within) (λ bits e. (let x = letter_over m.inputs bits in
-    let isin : is_in p x ≡ get_or bits place false = letter_bit 0 m.inputs bits p (rising m machine)
-    ∙ bit_for-at 0 m.inputs bits place p (rising m machine) at (subst (λ n. place < n) (sym (e ∙ many)) within) in
-    ap (bit_at m w) (sees.leaf x ∙ ap (λ b. cond b (leaf_of m.store high x) (leaf_of m.store low x)) isin)
-    ∙ sym (by_cond (bit_at m w) (get_or bits place false) (leaf_of m.store high x) (leaf_of m.store low x))))
+    omega (arith, get_or-range_with_len 1 (length (behaviour_of m).inputs) place 0 within) in
+    let fh : List Bool → Bool =
+    λ bits. bit_at m w (leaf_of (store_of m) high (letter_over (behaviour_of m).inputs bits)) in
+    let fl : List Bool → Bool =
+    λ bits. bit_at m w (leaf_of (store_of m) low (letter_over (behaviour_of m).inputs bits)) in
+    over-test place vs (λ bits. bit_at m w (leaf_of (store_of m) node (letter_over (behaviour_of m).inputs bits))) fh fl
+    d
+    (subst (λ n. place < n) (sym many) within) (λ bits e. (let x = letter_over (behaviour_of m).inputs bits in
+    let isin : is_in p x ≡ get_or bits place false = letter_bit 0 (behaviour_of m).inputs bits p (rising m machine)
+    ∙ bit_for-at 0 (behaviour_of m).inputs bits place p (rising m machine) at
+    (subst (λ n. place < n) (sym (e ∙ many)) within) in
+    ap (bit_at m w) (sees.leaf x ∙ ap (λ b. cond b (leaf_of (store_of m) high x) (leaf_of (store_of m) low x)) isin)
+    ∙ sym (by_cond (bit_at m w) (get_or bits place false) (leaf_of (store_of m) high x) (leaf_of (store_of m) low x))))
     (node_behind m w high p place machine at sees.high_behind (length vs) many)
     (node_behind m w low p place machine at sees.low_behind (length vs) many) ∙ ap (λ t. choice_over vs t fh fl d) s

@@ -4,6 +4,7 @@ ghost use Rattle.std.specs.Prelude.{◌≡◌, ℕ, ◌+◌, ◌*◌, ◌^◌, �
 ghost use Rattle.std.specs.Prelude.{map, replicate, slice_get};
 ghost use Rattle.std.specs.List.{range_with_len};
 ghost use Rattle.ps_machine.specs.Behaviours.{IsMachine};
+ghost use Rattle.ps_machine.specs.BitMachines.{bit_behaviour};
 ghost use Rattle.ps_machine.specs.Machines.{behaviour};
 ghost use Rattle.ps_circuit.specs.Drafts.{data_of, name_bytes};
 ghost use Rattle.ps_aiger.specs.Encoded.{Encodes, IsTidy, symbols_of};
@@ -11,13 +12,14 @@ ghost use Rattle.ps_aiger.specs.Timing.{SeesNoInput};
 ghost use Rattle.ps_circuit.specs.Building.{IsSoundDraft};
 ghost use Rattle.ps_aiger.specs.Inner.Built.{AreLatches, IsBuilt, IsCircuitOf};
 ghost use Rattle.ps_aiger.specs.Wires.{AreGates, IsOutOfLiterals, IsWired, next_wires, output_wires};
-ghost use Rattle.ps_aiger.specs.Inner.Functions.{MakesLiterals, bits_wired};
-ghost use Rattle.ps_aiger.specs.declared.functions.Wanted.TheVariants.{Next, Output};
+ghost use Rattle.ps_aiger.specs.Inner.Functions.{AreOutputs, IsWanted, MakesLiterals, behaviour_of, bits_wired};
+ghost use Rattle.ps_aiger.specs.declared.stored.Wanted.TheVariants.{Next};
 
-use crate::functions::{Plan, Wanted, input_literals, literal_of};
+use crate::functions::{Plan, input_literals, literal_of};
 use crate::node_literals::NodeLiterals;
+use crate::stored::{Stored, Wanted};
 use ps_circuit::{Builder, Circuit, EncodeFault, Gate, Latch, Literal, Parts, Sides};
-use ps_machine::Machine;
+use ps_machine::{BitMachine, Machine};
 use std::alloc::{AllocError, Global};
 
 /// The circuit of a machine, from memory state 0 on: each of its steps is one of the machine. Inputs and outputs have
@@ -28,6 +30,25 @@ pub fn encode(alloc: Global, machine: &Machine) -> Result<Circuit, EncodeFault>
     ensures sees_no_input { IfOk result (λ circuit. IsTrue machine.now.is_first → SeesNoInput circuit) }
     ensures wired { IfOk result (λ circuit. IsWired (behaviour machine.now) circuit) }
     ensures too_large { result ≡ Err EncodeFault.CircuitTooLarge → IsOutOfLiterals (behaviour machine.now) }
+{
+    encode_stored(alloc, &Stored::Rows(machine))
+}
+
+/// The circuit of a machine with diagrams of the bits of its output letters. Fails as `encode` does.
+pub fn encode_bits(alloc: Global, machine: &BitMachine) -> Result<Circuit, EncodeFault>
+    ensures encodes { IfOk result (λ circuit. Encodes (bit_behaviour machine.now) circuit) }
+    ensures tidy { IfOk result (λ circuit. IsTidy circuit) }
+    ensures sees_no_input { IfOk result (λ circuit. IsTrue machine.now.is_first → SeesNoInput circuit) }
+    ensures wired { IfOk result (λ circuit. IsWired (bit_behaviour machine.now) circuit) }
+    ensures too_large { result ≡ Err EncodeFault.CircuitTooLarge → IsOutOfLiterals (bit_behaviour machine.now) }
+{
+    encode_stored(alloc, &Stored::Bits(machine))
+}
+
+/// The circuit of a machine in either form.
+fn encode_stored(alloc: Global, machine: &Stored<'_>) -> Result<Circuit, EncodeFault>
+    ensures made { IfOk result (λ circuit. IsCircuitOf (behaviour_of machine.now) circuit) }
+    ensures too_large { result ≡ Err EncodeFault.CircuitTooLarge → IsOutOfLiterals (behaviour_of machine.now) }
 {
     let latches = latches_for(machine.memories());
     let mut builder = Builder::new(alloc, machine.inputs().len() as u32 + latches);
@@ -41,13 +62,13 @@ pub fn encode(alloc: Global, machine: &Machine) -> Result<Circuit, EncodeFault>
 fn next_literals(
     alloc: Global,
     builder: &mut Builder,
-    machine: &Machine,
+    machine: &Stored<'_>,
     latches: u32,
 ) -> Result<Vec<Literal>, EncodeFault>
     requires few { latches ≤ 64 }
-    requires given { builder.old.given ≡ length machine.now.inputs + latches }
+    requires given { builder.old.given ≡ length (behaviour_of machine.now).inputs + latches }
     requires empty { builder.old.gates ≡ [] }
-    ensures { MakesLiterals builder.old builder.new result (next_wires (behaviour machine.now) latches) }
+    ensures { MakesLiterals builder.old builder.new result (next_wires (behaviour_of machine.now) latches) }
 {
     let next_bits = next_bits(alloc, latches)?;
     literals_of(alloc, builder, machine, latches, &next_bits)
@@ -57,12 +78,12 @@ fn next_literals(
 fn output_literals(
     alloc: Global,
     builder: &mut Builder,
-    machine: &Machine,
+    machine: &Stored<'_>,
     latches: u32,
 ) -> Result<Vec<Literal>, EncodeFault>
     requires few { latches ≤ 64 }
-    requires behind { builder.old ≡ (next_wires (behaviour machine.now) latches).draft }
-    ensures { MakesLiterals builder.old builder.new result (output_wires (behaviour machine.now) latches) }
+    requires behind { builder.old ≡ (next_wires (behaviour_of machine.now) latches).draft }
+    ensures { MakesLiterals builder.old builder.new result (output_wires (behaviour_of machine.now) latches) }
 {
     let output_bits = output_bits(alloc, machine)?;
     literals_of(alloc, builder, machine, latches, &output_bits)
@@ -72,18 +93,18 @@ fn output_literals(
 fn circuit_of(
     alloc: Global,
     builder: &Builder,
-    machine: &Machine,
+    machine: &Stored<'_>,
     latches: u32,
     next: &[Literal],
     outputs: Vec<Literal>,
 ) -> Result<Circuit, AllocError>
-    requires given { builder.now.given ≡ length machine.now.inputs + latches }
-    requires enough { length machine.now.nodes ≤ 2 ^ latches }
-    requires least { (n : ℕ) → length machine.now.nodes ≤ 2 ^ n → latches ≤ n }
-    requires next_wired { next.now ≡ (next_wires (behaviour machine.now) latches).literals }
-    requires output_wired { output_wires (behaviour machine.now) latches ≡ record
+    requires given { builder.now.given ≡ length (behaviour_of machine.now).inputs + latches }
+    requires enough { (behaviour_of machine.now).memories ≤ 2 ^ latches }
+    requires least { (n : ℕ) → (behaviour_of machine.now).memories ≤ 2 ^ n → latches ≤ n }
+    requires next_wired { next.now ≡ (next_wires (behaviour_of machine.now) latches).literals }
+    requires output_wired { output_wires (behaviour_of machine.now) latches ≡ record
         { draft = builder.now; literals = outputs.items } }
-    ensures { IfOk result (IsCircuitOf (behaviour machine.now)) }
+    ensures { IfOk result (IsCircuitOf (behaviour_of machine.now)) }
 {
     let parts = parts_of(alloc, builder, machine, next, outputs)?;
     Circuit::in_order(alloc, parts)
@@ -116,26 +137,30 @@ fn next_bits(alloc: Global, latches: u32) -> Result<Vec<Wanted>, AllocError>
 }
 
 /// The propositions that the machine sets.
-fn output_bits(alloc: Global, machine: &Machine) -> Result<Vec<Wanted>, AllocError>
-    ensures { IfOk result (λ bits. bits.items ≡ map Output machine.now.outputs) }
+fn output_bits(alloc: Global, machine: &Stored<'_>) -> Result<Vec<Wanted>, AllocError>
+    ensures { IfOk result (λ bits. AreOutputs (behaviour_of machine.now).outputs bits.items) }
 {
-    machine
-        .outputs()
-        .iter()
-        .map(|proposition| Wanted::Output(*proposition))
-        .collect(alloc)
+    let mut bits = Vec::new(alloc);
+    for (place, proposition) in machine.outputs().iter().enumerate() {
+        bits.push(Wanted::Output {
+            place,
+            proposition: *proposition,
+        })?;
+    }
+    Ok(bits)
 }
 
 /// The literals of bits of the machine's step, one after another.
 fn literals_of(
     alloc: Global,
     builder: &mut Builder,
-    machine: &Machine,
+    machine: &Stored<'_>,
     latches: u32,
     wanted: &[Wanted],
 ) -> Result<Vec<Literal>, EncodeFault>
     requires few { latches ≤ 64 }
-    requires given { builder.old.given ≡ length machine.now.inputs + latches }
+    requires given { builder.old.given ≡ length (behaviour_of machine.now).inputs + latches }
+    requires wanted { All (IsWanted (behaviour_of machine.now).outputs) wanted.now }
     ensures { MakesLiterals builder.old builder.new result (bits_wired machine.now latches wanted.now builder.old) }
 {
     let inputs = input_literals(alloc, machine)?;
@@ -143,7 +168,7 @@ fn literals_of(
     let mut literals = Vec::new(alloc);
     for bit in wanted {
         let plan = Plan {
-            machine,
+            machine: &*machine,
             inputs: &inputs,
             wanted: *bit,
         };
@@ -156,14 +181,14 @@ fn literals_of(
 fn parts_of(
     alloc: Global,
     builder: &Builder,
-    machine: &Machine,
+    machine: &Stored<'_>,
     next: &[Literal],
     outputs: Vec<Literal>,
 ) -> Result<Parts, AllocError>
-    requires given { builder.now.given ≡ length machine.now.inputs + length next.now }
-    ensures machine { IsMachine (behaviour machine.now) }
+    requires given { builder.now.given ≡ length (behaviour_of machine.now).inputs + length next.now }
+    ensures machine { IsMachine (behaviour_of machine.now) }
     ensures sound { IsSoundDraft builder.now }
-    ensures built { IfOk result (λ parts. IsBuilt (behaviour machine.now) builder.now next.now outputs.items
+    ensures built { IfOk result (λ parts. IsBuilt (behaviour_of machine.now) builder.now next.now outputs.items
         (data_of parts)) }
 {
     let inputs = machine.inputs();
@@ -225,11 +250,12 @@ fn gates_of(alloc: Global, builder: &Builder) -> Result<Vec<Gate>, AllocError>
 
 fn symbols(
     alloc: Global,
-    machine: &Machine,
+    machine: &Stored<'_>,
     propositions: &[u32],
 ) -> Result<Vec<Option<Vec<u8>>>, AllocError>
-    requires { All (λ p. p < length machine.now.names) propositions.now }
-    ensures { IfOk result (λ names. map name_bytes names.items ≡ symbols_of machine.now.names propositions.now) }
+    requires { All (λ p. p < length (behaviour_of machine.now).names) propositions.now }
+    ensures { IfOk result
+        (λ names. map name_bytes names.items ≡ symbols_of (behaviour_of machine.now).names propositions.now) }
 {
     let mut names = Vec::new(alloc);
     for proposition in propositions {

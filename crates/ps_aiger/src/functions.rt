@@ -1,33 +1,21 @@
 //! The bits of a machine's step as literals.
 
 ghost use Rattle.std.specs.Prelude.{◌≡◌, ◌+◌, ◌^◌, ◌<◌, ◌≤◌, IfOk, IfSome, IfNone, false, length, slice_get};
-ghost use Rattle.std.specs.Prelude.{slice_index, if◌then◌else◌};
 ghost use Rattle.ps_hoa.specs.Files.{is_among};
-ghost use Rattle.ps_label.specs.Truth.{is_in};
 ghost use Rattle.ps_diagram.specs.Table.{IsNode};
-ghost use Rattle.ps_machine.specs.Machines.{row_at_leaf};
-ghost use Rattle.ps_aiger.specs.Inner.Functions.{AreInputLiterals, IsInputLiteral, KnowsMade, MakesLiteral};
-ghost use Rattle.ps_aiger.specs.Inner.Functions.{code_wanted, literal_at, node_made, wanted_bit};
+ghost use Rattle.ps_aiger.specs.Inner.Functions.{AreInputLiterals, IsInputLiteral, IsWanted, KnowsMade, MakesLiteral};
+ghost use Rattle.ps_aiger.specs.Inner.Functions.{behaviour_of, code_wanted, literal_at, node_made, store_of};
 
 use crate::node_literals::NodeLiterals;
+use crate::stored::{Stored, Wanted};
 use ps_circuit::{Builder, EncodeFault, Literal};
 use ps_diagram::{Node, View};
-use ps_machine::{Machine, Row};
 use std::alloc::{AllocError, Global};
-
-/// A bit of a row of the machine's table.
-#[derive(Debug, Clone, Copy, PartialEq, Eq)]
-pub(crate) enum Wanted {
-    /// This bit of the next memory state's number.
-    Next(u32),
-    /// This proposition in the output letter.
-    Output(u32),
-}
 
 /// What a bit is built from.
 #[derive(Drop)]
 pub(crate) struct Plan<'a> {
-    pub machine: &'a Machine,
+    pub machine: &'a Stored<'a>,
     /// For each proposition, the literal of its input, if it is read.
     pub inputs: &'a [Option<Literal>],
     pub wanted: Wanted,
@@ -36,7 +24,7 @@ pub(crate) struct Plan<'a> {
 /// These literals; input k is variable k + 1.
 pub(crate) fn input_literals(
     alloc: Global,
-    machine: &Machine,
+    machine: &Stored<'_>,
 ) -> Result<Vec<Option<Literal>>, AllocError>
     ensures { IfOk result (λ literals. AreInputLiterals machine.now literals.items) }
 {
@@ -67,8 +55,9 @@ pub(crate) fn literal_of(
     latches: u32,
 ) -> Result<Literal, EncodeFault>
     requires few { latches ≤ 64 }
-    requires given { builder.old.given ≡ length plan.now.machine.now.inputs + latches }
+    requires given { builder.old.given ≡ length (behaviour_of plan.now.machine.now).inputs + latches }
     requires inputs { AreInputLiterals plan.now.machine.now plan.now.inputs.now }
+    requires wanted { IsWanted (behaviour_of plan.now.machine.now).outputs plan.now.wanted }
     ensures { MakesLiteral builder.old builder.new result (code_wanted plan.now.machine.now plan.now.wanted latches 0
         builder.old) }
 {
@@ -86,8 +75,9 @@ fn over_latches(
     code: usize,
 ) -> Result<Literal, EncodeFault>
     requires fits { code + 2 ^ latches ≤ 2 ^ 64 }
-    requires given { length plan.now.machine.now.inputs + latches ≤ builder.old.given }
+    requires given { length (behaviour_of plan.now.machine.now).inputs + latches ≤ builder.old.given }
     requires inputs { AreInputLiterals plan.now.machine.now plan.now.inputs.now }
+    requires wanted { IsWanted (behaviour_of plan.now.machine.now).outputs plan.now.wanted }
     requires known_made { KnowsMade plan.now.machine.now plan.now.wanted builder.old (literal_at known.old) }
     ensures makes { MakesLiteral builder.old builder.new result (code_wanted plan.now.machine.now plan.now.wanted
         latches code builder.old) }
@@ -95,10 +85,10 @@ fn over_latches(
         (literal_at known.new)) }
 {
     if code >= plan.machine.memories() {
-        return over_inputs(builder, plan, known, plan.machine.node(0));
+        return over_inputs(builder, plan, known, plan.machine.node(0, plan.wanted));
     }
     if latches == 0 {
-        return over_inputs(builder, plan, known, plan.machine.node(code));
+        return over_inputs(builder, plan, known, plan.machine.node(code, plan.wanted));
     }
     let latch = latches - 1;
     let where_true = over_latches(builder, plan, known, latch, code + (1 << latch))?;
@@ -114,8 +104,8 @@ fn over_inputs(
     known: &mut NodeLiterals,
     node: Node,
 ) -> Result<Literal, EncodeFault>
-    requires held { IsNode plan.now.machine.now.store node }
-    requires given { length plan.now.machine.now.inputs ≤ builder.old.given }
+    requires held { IsNode (store_of plan.now.machine.now) node }
+    requires given { length (behaviour_of plan.now.machine.now).inputs ≤ builder.old.given }
     requires inputs { AreInputLiterals plan.now.machine.now plan.now.inputs.now }
     requires known_made { KnowsMade plan.now.machine.now plan.now.wanted builder.old (literal_at known.old) }
     ensures makes { MakesLiteral builder.old builder.new result (node_made plan.now.machine.now plan.now.wanted node
@@ -125,7 +115,7 @@ fn over_inputs(
 {
     match plan.machine.store().view(node) {
         View::Nothing => Ok(Literal::FALSE),
-        View::Leaf(leaf) => Ok(constant(plan.machine, plan.wanted, leaf)),
+        View::Leaf(leaf) => Ok(Literal::constant(plan.machine.bit(plan.wanted, leaf))),
         View::Test {
             proposition,
             low,
@@ -144,31 +134,6 @@ fn over_inputs(
             Ok(literal)
         }
     }
-}
-
-/// The bit of the row at a diagram's leaf, as a constant.
-fn constant(machine: &Machine, wanted: Wanted, leaf: u64) -> Literal
-    ensures { result ≡ (if wanted_bit wanted (row_at_leaf machine.now leaf) then 1 else 0) }
-{
-    match machine.rows().get(leaf as usize) {
-        Some(row) => Literal::constant(bit_of_row(wanted, *row)),
-        None => Literal::FALSE,
-    }
-}
-
-fn bit_of_row(wanted: Wanted, row: Row) -> bool
-    ensures { result ≡ wanted_bit wanted row }
-{
-    match wanted {
-        Wanted::Next(bit) => has_bit(row.memory as u64, bit),
-        Wanted::Output(proposition) => has_bit(row.letter, proposition),
-    }
-}
-
-fn has_bit(number: u64, place: u32) -> bool
-    ensures { result ≡ is_in place number }
-{
-    place < 64 && number >> place & 1 == 1
 }
 
 fn place_among(list: &[u32], proposition: u32) -> Option<usize>

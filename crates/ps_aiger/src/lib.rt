@@ -3,13 +3,14 @@
 //! | Call | What it gives |
 //! |---|---|
 //! | `encode(machine)` | the circuit of a machine, with the names of the propositions as symbols |
+//! | `encode_bits(machine)` | the same of a machine with diagrams of the bits of its output letters |
 //! | `one_circuit` | a law: machines with the same behaviour have at most one circuit |
 //! | `circuit_has_literals` | a law: a machine whose gates need too many variables has none |
 //! | `circuit_is_there` | a law: every other machine has one |
 //!
 //! The latches, no more than needed, hold the number of a memory state in binary, and the circuit's step is the
 //! machine's from this state; a code of no memory state stands for memory state 0. If the machine moves first, the
-//! outputs do not depend on the inputs. `encode` fails only if out of memory, or if the circuit needs more than
+//! outputs do not depend on the inputs. Both fail only if out of memory, or if the circuit needs more than
 //! 2147483647 variables.
 //!
 //! Outputs and next values are built from the machine's decision diagrams, in which each node becomes a choice by the
@@ -21,8 +22,9 @@ mod encoding;
 mod functions;
 mod laws;
 mod node_literals;
+mod stored;
 
-pub use encoding::encode;
+pub use encoding::{encode, encode_bits};
 pub use laws::{circuit_has_literals, circuit_is_there, one_circuit};
 pub use ps_circuit::{
     AigCause, AigFault, Builder, Circuit, EncodeFault, Gate, Latch, Literal, Parts, Sides,

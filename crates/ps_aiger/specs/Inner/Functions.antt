@@ -1,9 +1,11 @@
 -- The bits of a machine's step as functions of latches and inputs, and how their literals are built. (For private
 -- functions.)
--- - `Wanted, wanted_bit w row`: one bit of a row of the machine's table: a bit of the next memory state's number, or a
---   bit of the output letter
+-- - `behaviour_of m, store_of m`: what a machine does, in either of the forms in which it is stored, and its store
+-- - `Wanted, bit_at m w leaf`: one bit of a machine's step, at a leaf of the diagram for this bit: a bit of the next
+--   memory state's number, or a bit of the output letter
+-- - `node_in m w memory`: the diagram for the bit w in a memory state
 -- - `node_made m w node d`: a literal, and the gates of d with the literal's gates added; the literal's value is the
---   bit w of the machine's row to which the diagram node leads
+--   bit w at the leaf to which the diagram node leads
 -- - `IsLiteralOf m w d node literal, KnowsMade m w d known`: d already has the gates of one diagram node's literal
 --   (`IsLiteralOf`), or of all literals in the table `known` (`KnowsMade`)
 -- - `AreInputLiterals m literals`: the list has, for each proposition, the literal of the input that reads it
@@ -13,18 +15,21 @@
 -- - `MakesLiteral, MakesLiterals old new result all`: a call extends the gates `old` of the builder to `new`; if the
 --   call succeeds, `new` has exactly the gates in `all`, and `result` is the literal (or the list of literals) in `all`
 use Rattle.std.specs.Prelude.{◌≡◌, ℕ, ◌+◌, ◌*◌, ◌<◌, Bool, false, Err, IfOk, List, MatchOption, length, map, None}
-use Rattle.std.specs.Prelude.{Option, Result, Some, Vec, slice_get, slice_index_or}
+use Rattle.std.specs.Prelude.{Option, Result, Some, Vec, is_some, slice_get, slice_index, slice_index_or}
 use Rattle.std.specs.Global.{Global}
 use Rattle.std.specs.List.{range_with_len}
 use Rattle.std.specs.Option.{unwrap_or}
 use Rattle.ps_hoa.specs.Files.{is_among}
 use Rattle.ps_label.specs.Truth.{is_in}
-use Rattle.ps_diagram.specs.Table.{leaf_of}
+use Rattle.ps_diagram.specs.Table.{Table, leaf_of}
 use Rattle.ps_machine.specs.declared.machine.Row.{Row}
 use Rattle.ps_machine.specs.Behaviours.{Behaviour}
-use Rattle.ps_machine.specs.Machines.{MachineData, behaviour, row_at_leaf}
-use Rattle.ps_aiger.specs.declared.functions.Wanted.{Wanted}
-use Rattle.ps_aiger.specs.declared.functions.Wanted.TheVariants.{Next, Output}
+use Rattle.ps_machine.specs.BitMachines.{BitMachineData, IsWholeBitMachine, bit_behaviour, bits_in}
+use Rattle.ps_machine.specs.Machines.{IsWholeMachine, behaviour, row_at_leaf}
+use Rattle.ps_aiger.specs.declared.stored.Stored.{Stored}
+use Rattle.ps_aiger.specs.declared.stored.Stored.TheVariants.{Bits, Rows}
+use Rattle.ps_aiger.specs.declared.stored.Wanted.{Wanted}
+use Rattle.ps_aiger.specs.declared.stored.Wanted.TheVariants.{Next, Output}
 use Rattle.ps_aiger.specs.Encoded.{letter_over}
 use Rattle.ps_aiger.specs.Wires.{StepBit, Wired, code_made, over_variables, wired}
 use Rattle.ps_circuit.specs.declared.encode_fault.EncodeFault.{EncodeFault}
@@ -32,28 +37,67 @@ use Rattle.ps_circuit.specs.declared.encode_fault.EncodeFault.TheVariants.{Circu
 use Rattle.ps_circuit.specs.Building.{Drafted, Extends, HasTooMany, IsHeld}
 use Rattle.ps_circuit.specs.Gates.{Made}
 
-abbrev pub wanted_bit : Wanted → Row → Bool
-wanted_bit (Next j) row = is_in j row.memory
-wanted_bit (Output p) row = is_in p row.letter
+-- ## Machines in either form
 
--- the row of the machine to which a node of the diagram leads at an input letter
-abbrev pub row_by : MachineData → ℕ → ℕ → Row
-row_by m node x = row_at_leaf m (unwrap_or (leaf_of m.store node x) (length m.rows))
+abbrev pub behaviour_of : Stored → Behaviour
+behaviour_of (Rows m) = behaviour m.now
+behaviour_of (Bits m) = bit_behaviour m.now
+
+abbrev pub store_of : Stored → Table
+store_of (Rows m) = m.now.store
+store_of (Bits m) = m.now.store
+
+abbrev pub IsWhole : Stored → Type 0
+IsWhole (Rows m) = IsWholeMachine m.now
+IsWhole (Bits m) = IsWholeBitMachine m.now
+
+-- the bit of a row, which has a letter to output and a next memory state
+abbrev pub bit_of_row : Wanted → Row → Bool
+bit_of_row (Next j) row = is_in j row.memory
+bit_of_row (Output place p) row = is_in p row.letter
+
+abbrev pub bit_of_leaf : Wanted → Option ℕ → Bool
+bit_of_leaf (Next j) leaf = is_in j (unwrap_or leaf 0)
+bit_of_leaf (Output place p) leaf = is_some leaf
+
+abbrev pub bit_at : Stored → Wanted → Option ℕ → Bool
+bit_at (Rows m) w leaf = bit_of_row w (row_at_leaf m.now (unwrap_or leaf (length m.now.rows)))
+bit_at (Bits m) w leaf = bit_of_leaf w leaf
+
+abbrev pub node_of_bit : BitMachineData → Wanted → ℕ → ℕ
+node_of_bit m (Next j) memory = slice_index m.nodes memory
+node_of_bit m (Output place p) memory = slice_index (bits_in m memory) place
+
+abbrev pub node_in : Stored → Wanted → ℕ → ℕ
+node_in (Rows m) w memory = slice_index m.now.nodes memory
+node_in (Bits m) w memory = node_of_bit m.now w memory
+
+-- an output has its own place
+abbrev pub IsWanted : List ℕ → Wanted → Type 0
+IsWanted outputs (Next j) = Unit {0}
+IsWanted outputs (Output place p) = slice_get outputs place ≡ Some p
+
+-- all outputs, in their order
+pub record AreOutputs (outputs : List ℕ) (ws : List Wanted) : Type 0 where
+  pub many : length ws ≡ length outputs
+  pub each : (k : ℕ) → k < length outputs → slice_get ws k ≡ Some (Output k (slice_index outputs k))
+
+-- ## Literals
 
 -- a literal, and the gates of d with the literal's gates added; at each input letter, the literal's value is the bit w
--- of the machine's row to which the diagram node leads
-unfoldable pub node_made : MachineData → Wanted → ℕ → Drafted → Made
+-- at the leaf to which the diagram node leads
+unfoldable pub node_made : Stored → Wanted → ℕ → Drafted → Made
 node_made m w node d =
-    over_variables (range_with_len 1 (length m.inputs)) (λ bits.
-    wanted_bit w (row_by m node (letter_over m.inputs bits))) d
+    over_variables (range_with_len 1 (length (behaviour_of m).inputs)) (λ bits.
+    bit_at m w (leaf_of (store_of m) node (letter_over (behaviour_of m).inputs bits))) d
 
 -- `literal` is the literal of the bit w for the node, and all of its gates exist in d: building it again would add no
 -- gate
-pub record IsLiteralOf (m : MachineData) (w : Wanted) (d : Drafted) (node literal : ℕ) : Type 0 where
+pub record IsLiteralOf (m : Stored) (w : Wanted) (d : Drafted) (node literal : ℕ) : Type 0 where
   pub held : IsHeld d literal
   pub made : node_made m w node d ≡ record { draft = d; literal = literal }
 
-abbrev pub KnowsMade : MachineData → Wanted → Drafted → (ℕ → Option ℕ) → Type 0
+abbrev pub KnowsMade : Stored → Wanted → Drafted → (ℕ → Option ℕ) → Type 0
 KnowsMade m w d known = (node literal : ℕ) → known node ≡ Some literal → IsLiteralOf m w d node literal
 
 -- the literal that a table has for a node
@@ -66,20 +110,20 @@ IsInputLiteral inputs p found = MatchOption found (is_among p inputs ≡ false)
     (λ literal. (place : ℕ) × (slice_get inputs place ≡ Some p) × (literal ≡ 2 * (place + 1)))
 
 -- the list has, for each proposition, the literal of the input that reads it
-pub record AreInputLiterals (m : MachineData) (literals : List (Option ℕ)) : Type 0 where
-  pub many : length literals ≡ m.store.propositions
-  pub each : (p : ℕ) (d : Option ℕ) → p < m.store.propositions →
-      IsInputLiteral m.inputs p (slice_index_or literals p d)
+pub record AreInputLiterals (m : Stored) (literals : List (Option ℕ)) : Type 0 where
+  pub many : length literals ≡ (store_of m).propositions
+  pub each : (p : ℕ) (d : Option ℕ) → p < (store_of m).propositions →
+      IsInputLiteral (behaviour_of m).inputs p (slice_index_or literals p d)
 
 -- the bit w of the machine's step, as a function of the memory state and the input letter
 abbrev pub bit_wanted : Behaviour → Wanted → StepBit
-bit_wanted b w memory x = wanted_bit w (record { memory = b.next memory x; letter = b.plays memory x })
+bit_wanted b w memory x = bit_of_row w (record { memory = b.next memory x; letter = b.plays memory x })
 
-abbrev pub code_wanted : MachineData → Wanted → ℕ → ℕ → Drafted → Made
-code_wanted m w latches code d = code_made (behaviour m) (bit_wanted (behaviour m) w) latches code d
+abbrev pub code_wanted : Stored → Wanted → ℕ → ℕ → Drafted → Made
+code_wanted m w latches code d = code_made (behaviour_of m) (bit_wanted (behaviour_of m) w) latches code d
 
-abbrev pub bits_wired : MachineData → ℕ → List Wanted → Drafted → Wired
-bits_wired m latches ws d = wired (behaviour m) latches (map (bit_wanted (behaviour m)) ws) d
+abbrev pub bits_wired : Stored → ℕ → List Wanted → Drafted → Wired
+bits_wired m latches ws d = wired (behaviour_of m) latches (map (bit_wanted (behaviour_of m)) ws) d
 
 -- the existing gates remain; the function returns the literal in `all`, or fails, because the gates in `all` need too
 -- many variables or memory ran out

@@ -2,7 +2,7 @@ use Rattle.std.proofs.Common.{arith, subst, sym}
 use Rattle.std.proofs.lemmas.Result.{IfOk-weaker}
 use Rattle.ps_circuit.specs.Circuits.{IsCircuit}
 use Rattle.ps_circuit.specs.Drafts.{data_of}
-use Rattle.ps_machine.specs.Machines.{behaviour}
+use Rattle.ps_aiger.specs.Inner.Functions.{behaviour_of}
 use Rattle.ps_aiger.specs.Inner.Built.{IsCircuitOf}
 use Rattle.ps_aiger.proofs.CircuitSteps.{sees}
 use Rattle.ps_aiger.proofs.CircuitThere.{IsWhole, draft, encodes, is_tidy, ordered, whole, wired}
@@ -12,18 +12,18 @@ use Rattle.ps_aiger.proofs.encoding.circuit_of.Goals.{In_ok-parts}
 
 pub parts_of-requires : goal.parts_of-requires
 parts_of-requires c =
-    let b = behaviour c.args.machine.now in
+    let b = behaviour_of c.args.machine.now in
     grind (arith, next_many b c.args.latches)
 
 -- the gates and literals of the returned circuit are those that the definition `output_wires` builds for the machine
-all : (c : In_ok-parts) → IsWhole (behaviour c.args.machine.now) c.args.latches (data_of c.in_ok-parts.parts)
-all c = whole (behaviour c.args.machine.now) c.args.latches c.args.builder.now c.args.next.now c.args.outputs.items
+all : (c : In_ok-parts) → IsWhole (behaviour_of c.args.machine.now) c.args.latches (data_of c.in_ok-parts.parts)
+all c = whole (behaviour_of c.args.machine.now) c.args.latches c.args.builder.now c.args.next.now c.args.outputs.items
     (data_of c.in_ok-parts.parts) c.parts_of.ensures.sound c.requires.next_wired c.requires.output_wired
     c.in_ok-parts.ensures.built
 
 pub in_order-requires : goal.in_order-requires
 in_order-requires c =
-    let b = behaviour c.args.machine.now in
+    let b = behaviour_of c.args.machine.now in
     let x = data_of c.in_ok-parts.parts in
     let machine = c.parts_of.ensures.machine in
     record {
@@ -34,7 +34,7 @@ in_order-requires c =
 pub returns : goal.returns
 returns e =
     let c = (goal.at.returns e).In_ok-parts in
-    let b = behaviour c.args.machine.now in
+    let b = behaviour_of c.args.machine.now in
     let x = data_of c.in_ok-parts.parts in
     let machine = c.parts_of.ensures.machine in
     let r = c.requires in

@@ -1,5 +1,5 @@
 use Rattle.std.proofs.Common.{◌≡◌, ℕ, ◌<◌, length, Some, slice_get}
-use Rattle.ps_aiger.specs.declared.functions.Wanted.TheVariants.{Next}
+use Rattle.ps_aiger.specs.declared.stored.Wanted.TheVariants.{Next}
 use Rattle.ps_aiger.proofs.encoding.next_bits.Given as goal
 
 abbrev pub invariant-loop-bit : goal.invariant-loop-bit

@@ -1,7 +1,7 @@
-use Rattle.std.proofs.Common.{◌∙◌, ℕ, List, Option, arith, rules, subst, sym}
+use Rattle.std.proofs.Common.{◌∙◌, ℕ, Bool, List, Option, ap, arith, if◌then◌else◌, rules, subst, sym}
 use Rattle.ps_diagram.specs.Table.{Table}
 use Rattle.ps_diagram.specs.Views.{SeesTest}
-use Rattle.ps_aiger.specs.Inner.Functions.{KnowsMade, literal_at, node_made}
+use Rattle.ps_aiger.specs.Inner.Functions.{KnowsMade, behaviour_of, literal_at, node_made}
 use Rattle.ps_circuit.specs.Building.{IsHeld}
 use Rattle.ps_circuit.proofs.GatesAndLinks.GateLemmas.{extends-refl, extends-trans}
 use Rattle.ps_aiger.proofs.FunctionLemmas.{constant_held, held_input}
@@ -16,7 +16,7 @@ mux-requires t c =
     let given = c.over_inputs-in-Test-2.ensures.makes.extends.given ∙ c.over_inputs-in-Test.ensures.makes.extends.given
     in
     let chooses : IsHeld c.over_inputs-in-Test-2.new.builder c.in-Some.input =
-    held_input c.over_inputs-in-Test-2.new.builder m.inputs c.in-Test.proposition
+    held_input c.over_inputs-in-Test-2.new.builder (behaviour_of m).inputs c.in-Test.proposition
     c.in-Some.input (entry_of m c.args.node c.in-Test.proposition c.in-Test.low c.in-Test.high
     c.store.ensures.store c.in-Test.ensures c.requires.inputs _ c.in-Some.is) (rw given c.requires.given) in
     search (rules, chooses)
@@ -30,7 +30,8 @@ returns-in-Leaf-clause-makes t c =
     let w = c.args.plan.now.wanted in
     gives (rw c.constant.ensures (constant_held _ _))
     (made-leaf m w c.args.node c.in-Leaf.leaf c.constant.result c.args.builder.now
-    (search (rules, c.store.ensures.store, c.in-Leaf.ensures)) c.constant.ensures)
+    (search (rules, c.store.ensures.store, c.in-Leaf.ensures))
+    (c.constant.ensures ∙ ap (λ (b : Bool). if b then 1 else 0) c.bit.ensures))
 
 pub returns-in_default-clause-makes : goal.returns-in_default-clause-makes
 returns-in_default-clause-makes t c =
@@ -41,7 +42,7 @@ returns-in_default-clause-makes t c =
     let none = entry_of m c.args.node c.in-Test.proposition c.in-Test.low c.in-Test.high c.store.ensures.store
     c.in-Test.ensures c.requires.inputs _ c.in_default.is in
     as-made (made-low m w c.args.node c.in-Test.proposition c.in-Test.low c.in-Test.high
-    c.args.builder.now c.store.ensures.machine.is_machine sees none) (extends-refl _) c.over_inputs.ensures.makes
+    c.args.builder.now c.store.ensures.machine sees none) (extends-refl _) c.over_inputs.ensures.makes
 
 pub returns-in-Some-get-clause-makes : goal.returns-in-Some-get-clause-makes
 returns-in-Some-get-clause-makes t c =
@@ -53,7 +54,7 @@ returns-in_err-where_true-in-Test-clause-makes t c =
     let m = c.args.plan.now.machine.now in
     let w = c.args.plan.now.wanted in
     let whole = test-split m w c.args.node c.in-Test.proposition c.in-Test.low c.in-Test.high
-    c.args.builder.now c.store.ensures.machine.is_machine c.store.ensures.store c.in-Test.ensures c.requires.inputs _
+    c.args.builder.now c.store.ensures.machine c.store.ensures.store c.in-Test.ensures c.requires.inputs _
     c.in-Some.is in
     fails c.over_inputs-in-Test.ensures.makes.extends c.in_err-where_true-in-Test.was c.from_residual.ensures.1 (λ e.
     choice-above _ _ (node_made m w c.in-Test.low) _ whole
@@ -64,7 +65,7 @@ returns-in_err-where_false-in-Test-clause-makes t c =
     let m = c.args.plan.now.machine.now in
     let w = c.args.plan.now.wanted in
     let whole = test-split m w c.args.node c.in-Test.proposition c.in-Test.low c.in-Test.high
-    c.args.builder.now c.store.ensures.machine.is_machine c.store.ensures.store c.in-Test.ensures c.requires.inputs _
+    c.args.builder.now c.store.ensures.machine c.store.ensures.store c.in-Test.ensures c.requires.inputs _
     c.in-Some.is in
     let before = extends-trans _ _ _ c.over_inputs-in-Test.ensures.makes.extends
     c.over_inputs-in-Test-2.ensures.makes.extends in
@@ -78,7 +79,7 @@ returns-in_err-literal-in-Test-clause-makes t c =
     let m = c.args.plan.now.machine.now in
     let w = c.args.plan.now.wanted in
     let chosen = test-chosen m w c.args.node c.in-Test.proposition c.in-Test.low c.in-Test.high
-    c.args.builder.now c.store.ensures.machine.is_machine c.store.ensures.store c.in-Test.ensures c.requires.inputs _
+    c.args.builder.now c.store.ensures.machine c.store.ensures.store c.in-Test.ensures c.requires.inputs _
     c.in-Some.is c.in_ok-where_true-in-Test.ensures.makes.made
     c.in_ok-where_false-in-Test.ensures.makes.made in
     let before = extends-trans _ _ _ c.over_inputs-in-Test.ensures.makes.extends
@@ -91,7 +92,7 @@ returns-in_ok-literal-in-Test-clause-makes t c =
     let m = c.args.plan.now.machine.now in
     let w = c.args.plan.now.wanted in
     let chosen = test-chosen m w c.args.node c.in-Test.proposition c.in-Test.low c.in-Test.high
-    c.args.builder.now c.store.ensures.machine.is_machine c.store.ensures.store c.in-Test.ensures c.requires.inputs _
+    c.args.builder.now c.store.ensures.machine c.store.ensures.store c.in-Test.ensures c.requires.inputs _
     c.in-Some.is c.in_ok-where_true-in-Test.ensures.makes.made
     c.in_ok-where_false-in-Test.ensures.makes.made in
     let before = extends-trans _ _ _ c.over_inputs-in-Test.ensures.makes.extends
@@ -103,7 +104,7 @@ returns-in_ok-literal-in-Test-clause-known_made t c =
     let m = c.args.plan.now.machine.now in
     let w = c.args.plan.now.wanted in
     let chosen = test-chosen m w c.args.node c.in-Test.proposition c.in-Test.low c.in-Test.high
-    c.args.builder.now c.store.ensures.machine.is_machine c.store.ensures.store c.in-Test.ensures c.requires.inputs _
+    c.args.builder.now c.store.ensures.machine c.store.ensures.store c.in-Test.ensures c.requires.inputs _
     c.in-Some.is c.in_ok-where_true-in-Test.ensures.makes.made
     c.in_ok-where_false-in-Test.ensures.makes.made in
     let kept = made-kept m w c.over_inputs-in-Test-2.new.builder c.mux.new.self

@@ -1,6 +1,6 @@
 use Rattle.std.proofs.Common.{◌∙◌, ◌+◌, ◌-◌, ◌*◌, ap, arith, length, sym}
 use Rattle.ps_circuit.specs.Gates.{mux_of}
-use Rattle.ps_machine.specs.Machines.{behaviour}
+use Rattle.ps_aiger.specs.Inner.Functions.{behaviour_of}
 use Rattle.ps_aiger.specs.Inner.Functions.{bit_wanted, code_wanted, literal_at}
 use Rattle.ps_circuit.proofs.GatesAndLinks.GateLemmas.{extends-refl, extends-trans}
 use Rattle.ps_aiger.proofs.EncodeLemmas.{few_inputs}
@@ -24,23 +24,23 @@ overflow_shl-latch t c = few_latches c.args.latches c.args.code c.if-latches-eq0
 
 pub overflow_cast-variable : goal.overflow_cast-variable
 overflow_cast-variable t c =
-    grind (arith, few_inputs (behaviour c.args.plan.now.machine.now) c.inputs.ensures.machine.is_machine)
+    grind (arith, few_inputs (behaviour_of c.args.plan.now.machine.now) c.inputs.ensures.machine)
 
 pub overflow_add-variable : goal.overflow_add-variable
 overflow_add-variable t c =
-    grind (arith, few_inputs (behaviour c.args.plan.now.machine.now) c.inputs.ensures.machine.is_machine)
+    grind (arith, few_inputs (behaviour_of c.args.plan.now.machine.now) c.inputs.ensures.machine)
 
 pub overflow_add-variable-2 : goal.overflow_add-variable-2
 overflow_add-variable-2 t c = grind (
   arith,
-  few_inputs (behaviour c.args.plan.now.machine.now) c.inputs.ensures.machine.is_machine,
+  few_inputs (behaviour_of c.args.plan.now.machine.now) c.inputs.ensures.machine,
   few_latches c.args.latches c.args.code c.if-latches-eq0.false c.requires.fits,
 )
 
 pub positive-requires : goal.positive-requires
 positive-requires t c = grind (
   arith,
-  few_inputs (behaviour c.args.plan.now.machine.now) c.inputs.ensures.machine.is_machine,
+  few_inputs (behaviour_of c.args.plan.now.machine.now) c.inputs.ensures.machine,
   few_latches c.args.latches c.args.code c.if-latches-eq0.false c.requires.fits,
 )
 
@@ -48,7 +48,8 @@ pub over_latches-requires : goal.over_latches-requires
 over_latches-requires t c = grind (arith, upper_fits c.args.latches c.args.code c.if-latches-eq0.false c.requires.fits)
 
 pub over_latches-requires-2 : goal.over_latches-requires-2
-over_latches-requires-2 t c = grind (arith, lower_fits c.args.latches c.args.code c.if-latches-eq0.false c.requires.fits)
+over_latches-requires-2 t c =
+    grind (arith, lower_fits c.args.latches c.args.code c.if-latches-eq0.false c.requires.fits)
 
 pub returns-then-code-memories-clause-makes : goal.returns-then-code-memories-clause-makes
 returns-then-code-memories-clause-makes t c =
@@ -56,7 +57,8 @@ returns-then-code-memories-clause-makes t c =
     let w = c.args.plan.now.wanted in
     as-made
     (code-beyond m w c.args.latches c.args.code c.node.result
-    c.args.builder.now (omega (arith, c.if-code-memories.true, c.memories.ensures.memories)) c.node.ensures.node)
+    c.args.builder.now c.memories.ensures.whole c.requires.wanted
+    (omega (arith, c.if-code-memories.true, c.memories.ensures.memories)) c.node.ensures.node)
     (extends-refl _) c.over_inputs.ensures.makes
 
 pub returns-then-latches-eq0-clause-makes : goal.returns-then-latches-eq0-clause-makes
@@ -65,7 +67,7 @@ returns-then-latches-eq0-clause-makes t c =
     let w = c.args.plan.now.wanted in
     as-made
     (code-zero m w c.args.latches c.args.code c.node-then-latches-eq0.result
-    c.args.builder.now c.if-latches-eq0.true (grind arith)) (extends-refl _)
+    c.args.builder.now c.memories.ensures.whole c.requires.wanted c.if-latches-eq0.true (grind arith)) (extends-refl _)
     c.over_inputs-then-latches-eq0.ensures.makes
 
 pub returns-in_err-where_true-clause-makes : goal.returns-in_err-where_true-clause-makes
@@ -76,7 +78,7 @@ returns-in_err-where_true-clause-makes t c =
     let whole = code-halves m w c.args.latches c.args.code c.args.builder.now c.if-latches-eq0.false
     c.requires.fits in
     fails c.over_latches.ensures.makes.extends c.in_err-where_true.was c.from_residual.ensures.1 (λ e.
-    choice-above _ _ lower _ whole (code-extends (behaviour m) (bit_wanted (behaviour m) w) _ c.args.code)
+    choice-above _ _ lower _ whole (code-extends (behaviour_of m) (bit_wanted (behaviour_of m) w) _ c.args.code)
     (c.over_latches.ensures.makes.too_large e))
 
 pub returns-in_err-where_false-clause-makes : goal.returns-in_err-where_false-clause-makes

@@ -1,7 +1,7 @@
 use Rattle.std.proofs.Common.{◌≡◌, ◌<◌, ◌^◌, arith}
 use Rattle.std.specs.Int.{bit_at}
 use Rattle.std.proofs.lemmas.Nat.Bits.{bit_at_above}
-use Rattle.ps_aiger.proofs.functions.has_bit.Goals as goal
+use Rattle.ps_aiger.proofs.stored.has_bit.Goals as goal
 
 pub returns-else-place-lt64 : goal.returns-else-place-lt64
 returns-else-place-lt64 c =

@@ -1,19 +1,19 @@
 use Rattle.std.proofs.Common.{sym, ap, arith}
-use Rattle.ps_machine.specs.Machines.{behaviour}
+use Rattle.ps_aiger.specs.Inner.Functions.{behaviour_of}
 use Rattle.ps_aiger.specs.Wires.{Wired}
 use Rattle.ps_circuit.proofs.GatesAndLinks.GateLemmas.{passed}
 use Rattle.ps_aiger.proofs.EncodeLemmas.{few_inputs}
 use Rattle.ps_aiger.proofs.WiredLemmas.{above-outputs, out_of_literals}
-use Rattle.ps_aiger.proofs.encoding.encode.Goals as goal
+use Rattle.ps_aiger.proofs.encoding.encode_stored.Goals as goal
 
 pub overflow_cast-inputs : goal.overflow_cast-inputs
-overflow_cast-inputs c = grind (arith, few_inputs (behaviour c.args.machine.now) c.memories.ensures.machine.is_machine)
+overflow_cast-inputs c = grind (arith, few_inputs (behaviour_of c.args.machine.now) c.memories.ensures.machine)
 
 pub overflow_add-inputs : goal.overflow_add-inputs
-overflow_add-inputs c = grind (arith, few_inputs (behaviour c.args.machine.now) c.memories.ensures.machine.is_machine)
+overflow_add-inputs c = grind (arith, few_inputs (behaviour_of c.args.machine.now) c.memories.ensures.machine)
 
 pub new-builder-requires : goal.new-builder-requires
-new-builder-requires c = grind (arith, few_inputs (behaviour c.args.machine.now) c.memories.ensures.machine.is_machine)
+new-builder-requires c = grind (arith, few_inputs (behaviour_of c.args.machine.now) c.memories.ensures.machine)
 
 pub next_literals-requires-clause-given : goal.next_literals-requires-clause-given
 next_literals-requires-clause-given c = grind arith
