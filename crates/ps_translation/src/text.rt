@@ -50,13 +50,25 @@ pub(crate) fn text(
         letters: Letters::new(alloc),
         labels: Labels::new(alloc),
     };
-    writer.heading(&made.parity, title)?;
-    writer.propositions(propositions)?;
-    writer.body(alloc, world, made, propositions)?;
+    writer.whole(alloc, world, made, propositions, title)?;
     Ok(writer.into_text())
 }
 
 impl Writer {
+    /// Adds the text of an automaton.
+    fn whole(
+        &mut self,
+        alloc: Global,
+        world: &mut Progression,
+        made: &mut Made,
+        propositions: &[Proposition],
+        title: Option<&[u8]>,
+    ) -> Result<(), Stop> {
+        self.heading(&made.parity, title)?;
+        self.propositions(propositions)?;
+        self.body(alloc, world, made, propositions)
+    }
+
     /// The text.
     fn into_text(self) -> Vec<u8> {
         let Writer { text, .. } = self;

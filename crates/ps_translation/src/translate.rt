@@ -55,14 +55,30 @@ fn automaton(
         (Extent::Merged, false),
         (Extent::Merged, true),
     ] {
-        let mut world = Progression::new(alloc)?;
         let way = Way { is_negated, extent };
-        match written(alloc, &mut world, specification, title, way) {
-            Err(Stop::Limit) if world.is_normalised => {}
-            result => return result,
+        if let Some(text) = by_way(alloc, specification, title, way)? {
+            return Ok(text);
         }
     }
     Err(Stop::Limit)
+}
+
+/// The text of the automaton, made in one way; None if another way may be shorter.
+fn by_way(
+    alloc: Global,
+    specification: &Specification,
+    title: Option<&[u8]>,
+    way: Way,
+) -> Result<Option<Vec<u8>>, Stop> {
+    let mut world = Progression::new(alloc)?;
+    let result = written(alloc, &mut world, specification, title, way);
+    let is_normalised = world.is_normalised;
+    drop(world);
+    match result {
+        Ok(text) => Ok(Some(text)),
+        Err(Stop::Limit) if is_normalised => Ok(None),
+        Err(stop) => Err(stop),
+    }
 }
 
 /// The text of the automaton of a specification.
@@ -74,7 +90,9 @@ fn written(
     way: Way,
 ) -> Result<Vec<u8>, Stop> {
     let mut made = translation(alloc, world, specification, way)?;
-    text(alloc, world, &mut made, &specification.propositions, title)
+    let written = text(alloc, world, &mut made, &specification.propositions, title);
+    drop(made);
+    written
 }
 
 /// The automaton of a specification.
@@ -107,9 +125,21 @@ pub(crate) fn of_parts(
 ) -> Result<Made, Stop> {
     let safeties = safeties(&parts);
     let product = product_of(alloc, world, parts, condition)?;
-    let machine = descended(alloc, &mut world.diagrams, &product)?;
-    let parity = parity_of(alloc, &mut world.diagrams, &machine, safeties)?;
+    let parity = parity_of_product(alloc, &mut world.diagrams, &product, safeties)?;
     Ok(Made { parity, product })
+}
+
+/// The automaton with a parity condition of a product.
+fn parity_of_product(
+    alloc: Global,
+    diagrams: &mut Diagrams,
+    product: &Product,
+    safeties: u64,
+) -> Result<Parity, Stop> {
+    let machine = descended(alloc, diagrams, product)?;
+    let parity = parity_of(alloc, diagrams, &machine, safeties);
+    drop(machine);
+    parity
 }
 
 /// The automaton with a parity condition of an automaton with a condition on marks; both are as small as they get.
@@ -120,10 +150,26 @@ fn parity_of(
     safeties: u64,
 ) -> Result<Parity, Stop> {
     let machine = quotient(alloc, diagrams, machine)?;
-    let parity = with_parity(alloc, diagrams, &machine, safeties)?;
-    let machine = quotient(alloc, diagrams, &parity.machine)?;
+    let parity = small_parity(alloc, diagrams, &machine, safeties);
+    drop(machine);
+    parity
+}
+
+/// The automaton with a parity condition, as small as it gets.
+fn small_parity(
+    alloc: Global,
+    diagrams: &mut Diagrams,
+    machine: &Machine,
+    safeties: u64,
+) -> Result<Parity, Stop> {
+    let parity = with_parity(alloc, diagrams, machine, safeties)?;
     let most = parity.most;
-    Ok(Parity { machine, most })
+    let small = quotient(alloc, diagrams, &parity.machine);
+    drop(parity);
+    Ok(Parity {
+        machine: small?,
+        most,
+    })
 }
 
 /// The parts that are safeties, one bit for each.

@@ -35,20 +35,26 @@ pub(crate) fn largest_loops(
         let Some(edges) = pending.pop() else {
             return Ok(found);
         };
-        let sets = largest_sets(alloc, diagrams, wish, marks_of(&edges))?;
-        for set in &sets {
-            sort_loops(
-                alloc,
-                diagrams,
-                &edges,
-                *set,
-                wish,
-                &mut found,
-                &mut pending,
-            )?;
-        }
+        sort_all(alloc, diagrams, &edges, wish, &mut found, &mut pending)?;
     }
     Err(Stop::Limit)
+}
+
+/// Puts loops within some edges into one list if they are as wanted, and else into another; each loop that is as wanted
+/// is within one of them.
+fn sort_all(
+    alloc: Global,
+    diagrams: &mut Diagrams,
+    edges: &[Edge],
+    wish: &Wish,
+    found: &mut Vec<Vec<Edge>>,
+    pending: &mut Vec<Vec<Edge>>,
+) -> Result<(), Stop> {
+    let sets = largest_sets(alloc, diagrams, wish, marks_of(edges))?;
+    for set in &sets {
+        sort_loops(alloc, diagrams, edges, *set, wish, found, pending)?;
+    }
+    Ok(())
 }
 
 /// The same edges.

@@ -35,16 +35,22 @@ pub(crate) fn within_others(
         earlier: Vec::new(alloc),
         is_within: Vec::new(alloc),
     };
-    for (number, edges) in loops.iter().enumerate() {
-        nested.add(index(number)?, edges)?;
-    }
-    for (number, edges) in loops.iter().enumerate() {
-        nested.look(diagrams, loops, index(number)?, edges)?;
-    }
+    nested.look_at_all(diagrams, loops)?;
     Ok(nested.into_list())
 }
 
 impl Nested {
+    /// Notes which loops are within others.
+    fn look_at_all(&mut self, diagrams: &mut Diagrams, loops: &[Vec<Edge>]) -> Result<(), Stop> {
+        for (number, edges) in loops.iter().enumerate() {
+            self.add(index(number)?, edges)?;
+        }
+        for (number, edges) in loops.iter().enumerate() {
+            self.look(diagrams, loops, index(number)?, edges)?;
+        }
+        Ok(())
+    }
+
     /// Whether each loop is within another.
     fn into_list(self) -> Vec<bool> {
         let Nested { is_within, .. } = self;

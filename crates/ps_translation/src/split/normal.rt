@@ -174,19 +174,48 @@ fn innermost_release(forms: &Forms, form: Form) -> Option<Sides> {
 /// The last of the formulas inside a formula, which is this formula, with `f W g` in place of each `f U g` where g is
 /// true if a formula inside is.
 fn weakened(alloc: Global, forms: &mut Forms, below: &[Form], kept: Form) -> Result<Form, Stop> {
-    let mut true_there = KeyMap::new(alloc);
-    let mut weak = KeyMap::new(alloc);
-    true_there.put(kept as u64, TRUE)?;
-    weak.put(kept as u64, kept)?;
+    let mut true_there = replacing(alloc, kept, TRUE)?;
+    let made = weakened_beside(alloc, forms, below, kept, &mut true_there);
+    drop(true_there);
+    made
+}
+
+/// The same, with a table of what the formulas inside are if a formula is true.
+fn weakened_beside(
+    alloc: Global,
+    forms: &mut Forms,
+    below: &[Form],
+    kept: Form,
+    true_there: &mut KeyMap<u64, Form>,
+) -> Result<Form, Stop> {
+    let mut weak = replacing(alloc, kept, kept)?;
     for each in below {
         if *each != kept {
-            let made = rebuilt(forms, *each, &true_there)?;
-            true_there.put(*each as u64, made)?;
-            let made = rebuilt_weakly(forms, *each, &true_there, &weak)?;
-            weak.put(*each as u64, made)?;
+            weaken(forms, *each, true_there, &mut weak)?;
         }
     }
     Ok(at(&weak, last(below)))
+}
+
+/// Adds to both tables what replaces a formula.
+fn weaken(
+    forms: &mut Forms,
+    form: Form,
+    true_there: &mut KeyMap<u64, Form>,
+    weak: &mut KeyMap<u64, Form>,
+) -> Result<(), Stop> {
+    let made = rebuilt(forms, form, true_there)?;
+    true_there.put(form as u64, made)?;
+    let made = rebuilt_weakly(forms, form, true_there, weak)?;
+    weak.put(form as u64, made)?;
+    Ok(())
+}
+
+/// A table in which one formula is replaced by another.
+fn replacing(alloc: Global, old: Form, new: Form) -> Result<KeyMap<u64, Form>, Stop> {
+    let mut known = KeyMap::new(alloc);
+    known.put(old as u64, new)?;
+    Ok(known)
 }
 
 /// A formula, made from what replaces its operands, with `f W g` in place of `f U g` if g becomes true.
@@ -247,15 +276,20 @@ fn replaced(
     new: Form,
 ) -> Result<Form, Stop> {
     let below = forms.below(form)?;
-    let mut known = KeyMap::new(alloc);
-    known.put(old as u64, new)?;
+    let mut known = replacing(alloc, old, new)?;
     for each in &below {
         if *each != old {
-            let made = rebuilt(forms, *each, &known)?;
-            known.put(*each as u64, made)?;
+            replace(forms, *each, &mut known)?;
         }
     }
     known.get(form as u64).ok_or(Stop::Limit)
+}
+
+/// Adds to a table what replaces a formula, by what replaces its operands.
+fn replace(forms: &mut Forms, form: Form, known: &mut KeyMap<u64, Form>) -> Result<(), Stop> {
+    let made = rebuilt(forms, form, known)?;
+    known.put(form as u64, made)?;
+    Ok(())
 }
 
 /// A formula, made from what replaces its operands.
