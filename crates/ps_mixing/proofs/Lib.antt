@@ -17,3 +17,4 @@ pub mod MixedMachines
 pub mod MixedFileMachines
 pub mod MixedMachineParts
 pub mod MixedCircuits
+pub mod MixedTraces

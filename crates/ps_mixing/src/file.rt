@@ -3,14 +3,16 @@
 ghost use Rattle.std.specs.Prelude.{◌≡◌, ◌↔◌, ◌≤◌, true, IfOk, length, map};
 ghost use Rattle.std.specs.List.{All};
 ghost use Rattle.ps_hoa.specs.Memory.{bytes_of};
+ghost use Rattle.ps_hoa.specs.Sound.{IsSoundFile};
 ghost use Rattle.ps_hoa.specs.Views.{edge_data, row_data};
 ghost use Rattle.ps_mixing.specs.MixedFiles.{HasLabels, IsMixingOf, IsWithLabel, mixed_file, mixed_names};
+ghost use Rattle.ps_mixing.specs.MixedOrSame.{IsMixedFrom};
 ghost use Rattle.ps_mixing.specs.Inner.Renaming.{IsWithin, names_by};
 ghost use Rattle.ps_mixing.specs.Orders.{mixing_of, place_in};
 
 use crate::copies::condition_copied;
 use crate::label::aliases_renamed;
-use crate::order::{Order, entry};
+use crate::order::{Order, entry, even_order};
 use crate::rows::rows_mixed;
 use ps_hoa::{Edge, Guard, HoaFile, HoaParts, Row};
 use std::alloc::{AllocError, Global};
@@ -20,6 +22,18 @@ use std::alloc::{AllocError, Global};
 struct Propositions {
     names: Vec<Vec<u8>>,
     controllable: Vec<u32>,
+}
+
+/// The file with each player's propositions evenly spread among the other's. Fails if out of memory.
+pub fn evenly_mixed(alloc: Global, file: &HoaFile) -> Result<HoaFile, AllocError>
+    requires { HasLabels file.now }
+    ensures mixed { IfOk result (IsMixedFrom file.now) }
+    ensures sound { IsSoundFile file.now }
+{
+    let order = even_order(alloc, file.names().len() as u32, file.controllable())?;
+    let made = mixed(alloc, file, &order);
+    drop(order);
+    made
 }
 
 /// The file with its propositions moved as the order says. Fails if out of memory.

@@ -5,6 +5,7 @@
 //! |---|---|
 //! | `even_order` | a mixing in which each player's propositions are evenly spread among the others |
 //! | `mixed` | a file with its propositions mixed, if the file has labels |
+//! | `evenly_mixed` | the file mixed by `even_order` |
 //! | `has_labels` | whether a file states a label for each edge, or for its state |
 //!
 //! | Law | What it says |
@@ -12,6 +13,8 @@
 //! | `mixed_is_sound` | the mixed file of a sound file is sound |
 //! | `answer_of_mixed` | a file and its mixed file have automata, or have the same fault |
 //! | `lassos_of_mixed` | they accept the same lassos, if the propositions of the letters are moved |
+//! | `symbols_of_mixed`, `letters_of_mixed` | circuits have the same symbols by both; a trace's letters are moved |
+//! | `verdict_of_mixed` | circuits have the same verdicts by both |
 //! | `game_of_mixed` | they have the same games |
 //! | `machine_of_mixed` | a machine for the mixed file is one for the file, if the propositions of letters are moved |
 //! | `circuit_of_machine` | a machine's circuit is the circuit of the machine with its propositions moved |
@@ -24,9 +27,9 @@ mod laws;
 mod order;
 mod rows;
 
-pub use file::{has_labels, mixed};
+pub use file::{evenly_mixed, has_labels, mixed};
 pub use laws::{
-    answer_of_mixed, circuit_of_machine, game_of_mixed, lassos_of_mixed, machine_of_mixed,
-    mixed_is_sound,
+    answer_of_mixed, circuit_of_machine, game_of_mixed, lassos_of_mixed, letters_of_mixed,
+    machine_of_mixed, mixed_is_sound, symbols_of_mixed, verdict_of_mixed,
 };
 pub use order::{Order, even_order};

@@ -16,7 +16,7 @@ ghost use Rattle.ps_machine.specs.Boards.{IsGameOf};
 ghost use Rattle.ps_machine.specs.BuiltBoards.{board_of};
 ghost use Rattle.ps_machine.specs.Extracting.{HasPropositions, IsMachineOf};
 ghost use Rattle.ps_machine.specs.FileGames.{IsGameOfFile, board_of_file};
-ghost use Rattle.ps_machine.specs.Solving.{winner_at_start};
+ghost use Rattle.ps_solver.specs.Solving.{winner_at_start};
 ghost use Rattle.ps_machine.specs.Keys.{mover_of};
 ghost use Rattle.ps_machine.specs.declared.key.Key.{Key};
 ghost use Rattle.ps_machine.specs.declared.key.Order.{Order};
