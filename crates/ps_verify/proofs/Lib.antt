@@ -15,3 +15,4 @@ pub mod OneJudgement
 pub mod TurnedCycles
 pub mod PartJudgements
 pub mod SinkStems
+pub mod MixedJudgements

@@ -6,6 +6,8 @@ ghost use Rattle.ps_hoa.specs.Sound.{IsSoundFile};
 ghost use Rattle.ps_automaton.specs.Answers.{IsAdmitted};
 ghost use Rattle.ps_circuit.specs.Circuits.{CircuitData, IsCircuit};
 ghost use Rattle.ps_machine.specs.declared.key.Order.{Order};
+ghost use Rattle.ps_mixing.specs.MixedFiles.{IsMixingOf, mixed_file};
+ghost use Rattle.ps_mixing.specs.Mixings.{Mixing};
 ghost use Rattle.ps_simulate.specs.Lassos.{IsVerdictOf};
 ghost use Rattle.ps_simulate.specs.Stimuli.{StimulusData};
 ghost use Rattle.ps_simulate.specs.Symbols.{HasSymbols};
@@ -14,7 +16,8 @@ ghost use Rattle.ps_simulate.specs.declared.role.Role.{Role};
 ghost use Rattle.ps_simulate.specs.declared.role.Role.TheVariants.{Environment};
 ghost use Rattle.ps_traces.specs.Answers.{IsWitness, role_of};
 ghost use Rattle.ps_traces.specs.Shapes.{IsInTimeWhereReached};
-ghost use Rattle.ps_verify.specs.Judgements.{IsLosing, IsWinning};
+ghost use Rattle.ps_verify.specs.Judgements.{IsJudgement, IsLosing, IsWinning};
+ghost use Rattle.ps_verify.specs.declared.judgement.Judgement.{Judgement};
 
 use ps_automaton::automaton_is_there;
 use ps_simulate::circuit_has_one_values;
@@ -52,3 +55,10 @@ pub fn witness_wins()
 {
     in_time_where_reached();
 }
+
+/// A judgement on a circuit by the mixed file is a judgement by the file.
+pub fn judgement_of_mixed()
+    ensures { (file : FileData) (mixing : Mixing) → IsMixingOf file mixing → (order : Order) (role : Role)
+        (c : CircuitData) (judgement : Judgement) → IsJudgement order role (mixed_file mixing file) c judgement →
+        IsJudgement order role file c judgement }
+{}
