@@ -11,7 +11,7 @@ use Rattle.ps_game.specs.Games.{ParityGame, IsGame, vertex_count, owner_of}
 use Rattle.ps_game.specs.Regions.{has, move_at}
 use Rattle.ps_certificate.specs.Certificates.{CertificateData, Fits, IsValid, winner_of, choice_of}
 use Rattle.ps_certificate.specs.Regions.{BothHold}
-use Rattle.ps_machine.proofs.Machines.CertificateThere.{NoCycle, NoFlaw, SolutionJudged, holds_by}
+use Rattle.ps_solver.proofs.CertificateThere.{NoCycle, NoFlaw, SolutionJudged, holds_by}
 use Rattle.ps_referee.specs.Solutions.{IsCertificateOf, IsSolution, choice_by, moves_by, winner_by}
 use Rattle.ps_referee.proofs.Claims.{choice_is, winner_is}
 use Rattle.ps_referee.proofs.PlayersPart.{holds_same}

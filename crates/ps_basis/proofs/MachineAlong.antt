@@ -9,7 +9,7 @@ use Rattle.ps_machine.specs.Behaviours.{Behaviour}
 use Rattle.ps_machine.specs.Boards.{Board, IsGameOf}
 use Rattle.ps_machine.specs.Extracting.{IsUsed, IsUsedFirst, IsRepresentative, IsPlayed, IsStep, IsMachineOf}
 use Rattle.ps_machine.specs.Numbering.{StandsAt}
-use Rattle.ps_machine.specs.Solving.{winner_at_start}
+use Rattle.ps_solver.specs.Solving.{winner_at_start}
 use Rattle.ps_machine.specs.declared.key.Key.{Key}
 
 same_back : (game : ParityGame) (c d : CertificateData) → SaysTheSame game c d → SaysTheSame game d c

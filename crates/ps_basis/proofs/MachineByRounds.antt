@@ -17,7 +17,7 @@ use Rattle.ps_machine.specs.Boards.{IsGameOf, LeadsTo}
 use Rattle.ps_machine.specs.Extracting.{IsMachineOf, IsOtherLetter, IsPlayed, IsRepresentative, IsStep, IsUsed}
 use Rattle.ps_machine.specs.Extracting.{IsUsedFirst, Shares, StandsFor, StepsFirst}
 use Rattle.ps_machine.specs.Numbering.{StandsAt}
-use Rattle.ps_machine.specs.Solving.{winner_at_start}
+use Rattle.ps_solver.specs.Solving.{winner_at_start}
 use Rattle.ps_machine.specs.declared.key.Key.{Key}
 use Rattle.ps_machine.specs.declared.key.Key.TheVariants.{First, Second}
 use Rattle.ps_machine.proofs.Machines.Diagrams.DrawingLemmas.{used_won}

@@ -11,7 +11,7 @@ use Rattle.ps_game.specs.Games.{ParityGame}
 use Rattle.ps_certificate.specs.Certificates.{CertificateData, Fits, IsValid}
 use Rattle.ps_machine.specs.Boards.{Board, LeadsTo}
 use Rattle.ps_machine.specs.Numbering.{IsGameByKeys, StandsAt}
-use Rattle.ps_machine.specs.Solving.{winner_at_start}
+use Rattle.ps_solver.specs.Solving.{winner_at_start}
 use Rattle.ps_machine.specs.declared.key.Key.{Key}
 use Rattle.ps_machine.specs.declared.key.Key.TheVariants.{First, Second}
 use Rattle.ps_pruning.specs.Lifting.{Pruning, IsPruning, IsCovered, IsGuideBy, IsLift, HasEntryOf}

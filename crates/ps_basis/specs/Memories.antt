@@ -10,7 +10,7 @@ use Rattle.ps_machine.specs.Behaviours.{Behaviour}
 use Rattle.ps_machine.specs.Boards.{Board}
 use Rattle.ps_machine.specs.Extracting.{GoesTo, IsOtherLetter, Shares, StandsFor}
 use Rattle.ps_machine.specs.Numbering.{StandsAt}
-use Rattle.ps_machine.specs.Solving.{winner_at_start}
+use Rattle.ps_solver.specs.Solving.{winner_at_start}
 use Rattle.ps_machine.specs.declared.key.Key.{Key}
 use Rattle.ps_machine.specs.declared.key.Key.TheVariants.{First, Second}
 use Rattle.ps_basis.specs.ArenaMoves.{ComesTo, IsFirstRound, IsSecondRound, StepsBehind}

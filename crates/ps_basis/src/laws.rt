@@ -7,7 +7,7 @@ ghost use Rattle.ps_machine.specs.Behaviours.{Behaviour};
 ghost use Rattle.ps_machine.specs.Boards.{Board, IsClassLetter, IsFirstLetter, IsGameOf, IsListOf};
 ghost use Rattle.ps_machine.specs.Extracting.{IsMachineOf, IsUsed, StepsSecond};
 ghost use Rattle.ps_machine.specs.Numbering.{StandsAt};
-ghost use Rattle.ps_machine.specs.Solving.{winner_at_start};
+ghost use Rattle.ps_solver.specs.Solving.{winner_at_start};
 ghost use Rattle.ps_machine.specs.declared.key.Key.{Key};
 ghost use Rattle.ps_machine.specs.declared.key.Key.TheVariants.{First};
 ghost use Rattle.ps_certificate.specs.Certificates.{CertificateData, Fits, IsValid, winner_of};
