@@ -5,6 +5,7 @@ pub mod DrawnParts
 pub mod EnteredPlaces
 pub mod KeptPlaces
 pub mod MachineDrawn
+pub mod OwnBits
 pub mod PairedNodes
 pub mod Playing
 pub mod Reaches

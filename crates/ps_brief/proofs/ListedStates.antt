@@ -3,6 +3,7 @@
 pub mod EnteredKeys
 pub mod KeptListings
 pub mod KeptTargets
+pub mod LeastPlaces
 pub mod ListedKeys
 pub mod ListedPlaces
 pub mod MadeTargets

@@ -4,8 +4,8 @@ pub mod Arranging
 pub mod Covering
 pub mod Drafts
 pub mod Finding
+pub mod Parts
 pub mod Placing
 pub mod Playable
 pub mod Reaching
-pub mod Rows
 pub mod Visiting

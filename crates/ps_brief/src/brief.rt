@@ -3,7 +3,8 @@
 ghost use Rattle.std.specs.Prelude.{IfOk, IfSome};
 ghost use Rattle.ps_certificate.specs.Certificates.{Fits as FitsGame, IsValid};
 ghost use Rattle.ps_diagram.specs.Table.{Keeps};
-ghost use Rattle.ps_machine.specs.LeastCertificates.{IsLeastCertificate};
+ghost use Rattle.ps_machine.specs.BitMachines.{bit_behaviour};
+ghost use Rattle.ps_solver.specs.LeastCertificates.{IsLeastCertificate};
 ghost use Rattle.ps_brief.specs.ArenaGames.{AreBases};
 ghost use Rattle.ps_brief.specs.Briefs.{IsArenaOfBoard, IsBriefMachine};
 ghost use Rattle.ps_brief.specs.Drawing.{BeginsWith};
@@ -20,7 +21,7 @@ use ps_basis::least_counts_are_there;
 use ps_certificate::Certificate;
 use ps_diagram::Store;
 use ps_game::Game;
-use ps_machine::{Key, Machine, Order, least_certificate};
+use ps_machine::{BitMachine, Key, Order, least_certificate};
 use std::alloc::{AllocError, Global};
 
 /// A state whose basis comes to so many letters is better left to the game, whose vertices are then no more.
@@ -32,8 +33,8 @@ pub fn machine_without_game(
     alloc: Global,
     automaton: &Automaton,
     order: Order,
-) -> Result<Option<Machine>, AllocError>
-    ensures { IfOk result (λ found. IfSome found (IsBriefMachine order automaton.now)) }
+) -> Result<Option<BitMachine>, AllocError>
+    ensures { IfOk result (λ found. IfSome found (λ m. IsBriefMachine order automaton.now (bit_behaviour m))) }
 {
     let setting = Setting::new(automaton, order);
     let mut store = automaton.store().copy()?;
@@ -47,10 +48,11 @@ fn machine_by_listing(
     setting: &Setting<'_>,
     store: &mut Store,
     listing: &Listing,
-) -> Result<Option<Machine>, AllocError>
+) -> Result<Option<BitMachine>, AllocError>
     requires fits { Fits setting.now store.old }
     requires listing { IsListing setting.now store.old listing.now }
-    ensures { IfOk result (λ found. IfSome found (IsBriefMachine setting.now.order setting.now.automaton.now)) }
+    ensures { IfOk result (λ found. IfSome found (λ m. IsBriefMachine setting.now.order setting.now.automaton.now
+        (bit_behaviour m))) }
 {
     match bases_of(alloc, setting, store, listing, MOST_LETTERS)? {
         Some(bases) => Ok(Some(machine_by_bases(alloc, setting, store, listing, &bases)?)),
@@ -65,11 +67,12 @@ fn machine_by_bases(
     store: &mut Store,
     listing: &Listing,
     bases: &Bases,
-) -> Result<Machine, AllocError>
+) -> Result<BitMachine, AllocError>
     requires fits { Fits setting.now store.old }
     requires listing { IsListing setting.now store.old listing.now }
     requires bases { AreBases setting.now listing.now bases.now }
-    ensures { IfOk result (IsBriefMachine setting.now.order setting.now.automaton.now) }
+    ensures { IfOk result (λ m. IsBriefMachine setting.now.order setting.now.automaton.now
+        (bit_behaviour m)) }
 {
     let arena = arena_of(alloc, setting, store, listing, bases)?;
     let certificate = certificate_of(alloc, &arena.game)?;
@@ -103,7 +106,7 @@ pub fn brief_machine(
     arena: &Game,
     others: &[Key],
     certificate: &Certificate,
-) -> Result<Machine, AllocError>
+) -> Result<BitMachine, AllocError>
     requires fits { Fits setting.now store.old }
     requires listing { IsListing setting.now store.old listing.now }
     requires arena { IsArenaOfBoard setting.now others.now arena.now }
@@ -111,7 +114,8 @@ pub fn brief_machine(
     requires certificate_fits { FitsGame arena.now certificate.now }
     requires certificate_valid { IsValid arena.now certificate.now }
     ensures keeps { Keeps store.old store.new }
-    ensures machine { IfOk result (IsBriefMachine setting.now.order setting.now.automaton.now) }
+    ensures machine { IfOk result (λ m. IsBriefMachine setting.now.order setting.now.automaton.now
+        (bit_behaviour m)) }
 {
     least_counts_are_there();
     machine_of_arena(alloc, setting, store, listing, arena, others, certificate)

@@ -36,12 +36,21 @@ pub(crate) struct Plan<'a> {
 }
 
 /// The winner's moves at a state, for each letter of the other player.
-#[derive(Debug, Clone, Copy)]
+#[derive(Drop)]
 pub(crate) struct Draft {
     /// The automaton's step, as a leaf of its diagrams.
     pub steps: Node,
-    /// The winner's letter.
-    pub letters: Node,
+    /// For each proposition of the winner, ascending, a diagram with a leaf where it is true in the winner's letter.
+    pub bits: Vec<Node>,
+}
+
+/// The moves of a winner who moves second at a state.
+#[derive(Debug, Clone, Copy)]
+pub(crate) struct Moves {
+    /// For each letter of the other player, the automaton's step, as a leaf of its diagrams.
+    pub steps: Node,
+    /// The letters of both players that make this step.
+    pub making: Node,
 }
 
 impl Plan<'_> {
@@ -70,8 +79,8 @@ impl Plan<'_> {
         let letter = self.letter_at(vertex, step.state);
         let node = self.setting.automaton.node(step.state);
         let steps = store.behind(node, self.setting.first, letter)?;
-        let letters = store.leaf(letter)?;
-        Ok(Draft { steps, letters })
+        let bits = store.letter_bits(letter, self.setting.first)?;
+        Ok(Draft { steps, bits })
     }
 
     /// The letter that a winner who moves first chooses at a vertex.
@@ -118,41 +127,58 @@ impl Plan<'_> {
         ensures keeps { Keeps store.old store.new }
         ensures draft { IfOk result (IsDraft self.now store.new step.state step.priority) }
     {
+        let moves = self.moves_at(store, vertex, step)?;
+        let bits = store.least_bits(moves.making, self.setting.second)?;
+        Ok(Draft {
+            steps: moves.steps,
+            bits,
+        })
+    }
+
+    /// The steps of these moves, and the letters that make them.
+    fn moves_at(&self, store: &mut Store, vertex: usize, step: Step) -> Result<Moves, AllocError>
+        requires turn { self.now.moves_first ≡ false }
+        requires ready { IsReady self.now store.old }
+        requires reached { PlayReaches (play_of self.now) self.now.moves_first vertex step.state step.priority }
+        ensures keeps { Keeps store.old store.new }
+        ensures tried { IfOk result (λ moves. TriesMoves self.now store.new step.state
+            (successors_of self.now.arena.now vertex) (length (successors_of self.now.arena.now vertex)) moves) }
+    {
         let none = store.none()?;
-        let mut draft = Draft {
+        let mut moves = Moves {
             steps: none,
-            letters: none,
+            making: none,
         };
         for number in 0..self.arena.degree(vertex) {
             let next = self.arena.successor(vertex, number);
-            draft = self.with_move(store, step.state, next, draft)?;
+            moves = self.with_move(store, step.state, next, moves)?;
         }
-        Ok(draft)
+        Ok(moves)
     }
 
-    /// Adds the move at one of the arena's vertices to a draft, for letters at which it has no move.
+    /// Adds the move at one of the arena's vertices, for letters at which there is no move yet.
     fn with_move(
         &self,
         store: &mut Store,
         state: u32,
         vertex: usize,
-        draft: Draft,
-    ) -> Result<Draft, AllocError>
+        moves: Moves,
+    ) -> Result<Moves, AllocError>
         requires turn { self.now.moves_first ≡ false }
         requires ready { IsReady self.now store.old }
-        requires held { IsNode store.old draft.steps × IsNode store.old draft.letters }
+        requires held { IsNode store.old moves.steps × IsNode store.old moves.making }
         requires next { (v : ℕ) × (p : ℕ) × StandsAt (play_of self.now).keys v (First state p) ×
             Contains (successors_of self.now.arena.now v) vertex }
         ensures keeps { Keeps store.old store.new }
         ensures tried { IfOk result (λ made. (vertices : List ℕ) (k : ℕ) → slice_get vertices k ≡ Some vertex →
-            TriesMoves self.now store.old state vertices k draft →
+            TriesMoves self.now store.old state vertices k moves →
             TriesMoves self.now store.new state vertices (k + 1) made) }
     {
         let Some(leaf) = self.move_at(vertex, state) else {
-            return Ok(draft);
+            return Ok(moves);
         };
         let made = self.single(store, state, leaf)?;
-        joined(store, draft, made)
+        joined(store, moves, made)
     }
 
     /// The move of a winner who moves second at one of the arena's vertices, as a leaf of the automaton's diagrams.
@@ -169,8 +195,8 @@ impl Plan<'_> {
         self.leaf_at(chosen)
     }
 
-    /// One step, where it can be made, by its least letter.
-    fn single(&self, store: &mut Store, state: u32, leaf: u64) -> Result<Draft, AllocError>
+    /// One step, where it can be made, and the letters that make it.
+    fn single(&self, store: &mut Store, state: u32, leaf: u64) -> Result<Moves, AllocError>
         requires ready { IsReady self.now store.old }
         requires state { state ≤ self.now.setting.now.automaton.now.states }
         requires leaf { leaf < length self.now.setting.now.automaton.now.steps }
@@ -179,20 +205,20 @@ impl Plan<'_> {
     {
         let node = self.setting.automaton.node(state);
         let making = store.selected(node, leaf)?;
-        let letters = store.least_letters(making, self.setting.second)?;
-        let steps = store.guard(letters, leaf)?;
-        Ok(Draft { steps, letters })
+        let behind = store.projected(making, self.setting.second)?;
+        let steps = store.guard(behind, leaf)?;
+        Ok(Moves { steps, making })
     }
 }
 
-/// The moves of the first draft, and those of the second where it has none.
-fn joined(store: &mut Store, first: Draft, second: Draft) -> Result<Draft, AllocError>
-    requires first { IsNode store.old first.steps × IsNode store.old first.letters }
-    requires second { IsNode store.old second.steps × IsNode store.old second.letters }
+/// The first moves, and the second moves at letters at which there is none of the first.
+fn joined(store: &mut Store, first: Moves, second: Moves) -> Result<Moves, AllocError>
+    requires first { IsNode store.old first.steps × IsNode store.old first.making }
+    requires second { IsNode store.old second.steps × IsNode store.old second.making }
     ensures keeps { Keeps store.old store.new }
     ensures joined { IfOk result (IsJoined store.old store.new first second) }
 {
     let steps = store.choose(first.steps, first.steps, second.steps)?;
-    let letters = store.choose(first.letters, first.letters, second.letters)?;
-    Ok(Draft { steps, letters })
+    let making = store.choose(first.steps, first.making, second.making)?;
+    Ok(Moves { steps, making })
 }

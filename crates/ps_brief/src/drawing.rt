@@ -4,8 +4,8 @@ ghost use Rattle.std.specs.Prelude.{◌≡◌, ◌+◌, ℕ, List, IfOk, length}
 ghost use Rattle.ps_diagram.specs.Table.{Keeps, Table};
 ghost use Rattle.ps_basis.specs.Arenas.{AreOrders};
 ghost use Rattle.ps_basis.specs.Memories.{IsMachineByRounds};
+ghost use Rattle.ps_machine.specs.BitMachines.{bit_behaviour};
 ghost use Rattle.ps_machine.specs.Extracting.{HasPropositions};
-ghost use Rattle.ps_machine.specs.Machines.{behaviour};
 ghost use Rattle.ps_machine.specs.Numbering.{StandsAt};
 ghost use Rattle.ps_machine.specs.declared.key.Key.TheVariants.{First};
 ghost use Rattle.ps_brief.specs.Drawing.{BeginsWith, IsCertifiedArena, order_by, play_in};
@@ -13,21 +13,21 @@ ghost use Rattle.ps_brief.specs.Listings.{IsListing, listed_keys};
 ghost use Rattle.ps_brief.specs.Settings.{Fits, board_in};
 ghost use Rattle.ps_brief.specs.Inner.Drafts.{AreLeavesOf, IsReady};
 ghost use Rattle.ps_brief.specs.Inner.Reaching.{IsReached};
-ghost use Rattle.ps_brief.specs.Inner.Rows.{AreNotedUpTo, HasMemories, IsDrawing};
+ghost use Rattle.ps_brief.specs.Inner.Parts.{AreNotedUpTo, AreStepsBy, HasMemories, IsDrawing};
 ghost use Rattle.ps_brief.specs.declared.setting.Setting.{Setting};
 
 use crate::drafts::Plan;
 use crate::listing::Listing;
 use crate::memories::{Memories, memories_of};
+use crate::parts::{copied_bits, paired_nodes, relabelled};
 use crate::reach::{Reached, reached_by};
-use crate::rows::{paired_nodes, relabelled, rows_of};
 use crate::setting::Setting;
 use indexmap::IndexSet;
 use ps_automaton::Step;
 use ps_certificate::Certificate;
-use ps_diagram::Store;
+use ps_diagram::{Node, Store};
 use ps_game::{Game, Player};
-use ps_machine::{Key, Machine, MachineParts, machine_of_diagrams};
+use ps_machine::{BitMachine, BitParts, Key, machine_of_bits};
 use std::alloc::{AllocError, Global};
 
 /// Draws the machine of the player who wins an arena's start, by the moves of a valid certificate of the arena. Fails
@@ -40,7 +40,7 @@ pub fn machine_of_arena(
     arena: &Game,
     others: &[Key],
     certificate: &Certificate,
-) -> Result<Machine, AllocError>
+) -> Result<BitMachine, AllocError>
     requires fits { Fits setting.now store.old }
     requires listing { IsListing setting.now store.old listing.now }
     requires certified { IsCertifiedArena setting.now arena.now others.now certificate.now }
@@ -49,9 +49,9 @@ pub fn machine_of_arena(
     ensures orders { AreOrders others.now (order_by (listed_keys listing.now) arena.now) }
     ensures machine { IfOk result
         (λ m. IsMachineByRounds (play_in setting.now listing.now arena.now others.now certificate.now)
-        (behaviour m)) }
+        (bit_behaviour m)) }
     ensures propositions { IfOk result (λ m. HasPropositions setting.now.automaton.now.names (board_in setting.now)
-        (behaviour m)) }
+        (bit_behaviour m)) }
 {
     let winner = certificate.winner(0);
     let plan = Plan {
@@ -63,14 +63,14 @@ pub fn machine_of_arena(
         moves_first: setting.order.mover().number() == winner,
         leaves: leaves_of(alloc, listing)?,
     };
-    let diagrams = diagrams_of(alloc, &plan, store)?;
-    machine_of_diagrams(
+    let parts = parts_of(alloc, &plan, store)?;
+    machine_of_bits(
         alloc,
         setting.automaton,
         setting.order,
         Player::of_number(winner),
         plan.moves_first,
-        diagrams,
+        parts,
     )
 }
 
@@ -109,29 +109,25 @@ fn note_targets(listing: &Listing, state: u32, leaves: &mut Vec<Option<u64>>)
     }
 }
 
-/// The diagrams of the machine.
-fn diagrams_of(
-    alloc: Global,
-    plan: &Plan<'_>,
-    store: &mut Store,
-) -> Result<MachineParts, AllocError>
+/// The parts of the machine.
+fn parts_of(alloc: Global, plan: &Plan<'_>, store: &mut Store) -> Result<BitParts, AllocError>
     requires { IsReady plan.now store.old }
     ensures keeps { Keeps store.old store.new }
     ensures drawn { IfOk result (λ d. (kept : List ℕ) × IsDrawing plan.now kept d) }
 {
     let reached = reached_by(alloc, plan, store)?;
     let memories = memories_of(alloc, plan, &reached)?;
-    diagrams_by(alloc, plan, store, &reached, &memories)
+    parts_by(alloc, plan, store, &reached, &memories)
 }
 
 /// The same, given what the moves can reach and the memory states.
-fn diagrams_by(
+fn parts_by(
     alloc: Global,
     plan: &Plan<'_>,
     store: &mut Store,
     reached: &Reached,
     memories: &Memories,
-) -> Result<MachineParts, AllocError>
+) -> Result<BitParts, AllocError>
     requires ready { IsReady plan.now store.old }
     requires reached { IsReached plan.now store.old reached.now }
     requires memories { HasMemories plan.now reached.now memories.now }
@@ -140,12 +136,33 @@ fn diagrams_by(
 {
     let mut pairs = IndexSet::new(alloc);
     let nodes = paired_nodes(alloc, plan, store, reached, memories, &mut pairs)?;
-    let rows = rows_of(alloc, plan, memories, pairs.as_slice())?;
+    let values = memories.values(alloc, plan, pairs.as_slice())?;
+    copied(alloc, plan, store, reached, memories, &nodes, &values)
+}
+
+/// The same, given the diagrams of the steps, and the memory states for their leaves.
+fn copied(
+    alloc: Global,
+    plan: &Plan<'_>,
+    store: &Store,
+    reached: &Reached,
+    memories: &Memories,
+    nodes: &[Node],
+    values: &[u64],
+) -> Result<BitParts, AllocError>
+    requires ready { IsReady plan.now store.now }
+    requires reached { IsReached plan.now store.now reached.now }
+    requires memories { HasMemories plan.now reached.now memories.now }
+    requires paired { (pairs : List (ℕ × ℕ)) × AreStepsBy plan.now store.now reached.now memories.now.kept.items pairs
+        nodes.now values.now }
+    ensures { IfOk result (IsDrawing plan.now memories.now.kept.items) }
+{
     let mut own = Store::new(alloc, store.propositions());
-    let nodes = relabelled(alloc, &mut own, store, &nodes, &rows.values)?;
-    Ok(MachineParts {
+    let nodes = relabelled(alloc, &mut own, store, nodes, values)?;
+    let bits = copied_bits(alloc, plan, &mut own, store, reached, memories)?;
+    Ok(BitParts {
         store: own,
         nodes,
-        rows: rows.rows,
+        bits,
     })
 }

@@ -21,6 +21,9 @@
 //! | `brief_machine(setting, store, listing, arena, keys, certificate)` | the same, as the machine of the whole game |
 //! | `machine_without_game(automaton, order)` | the machine of the winner at the start, without the game |
 //!
+//! The machines are made with a diagram for each bit of their output letters, so no call makes a diagram that has each
+//! letter of a player as a leaf.
+//!
 //! The calls with a store fail if memory runs out. They keep the nodes of the store, also then.
 #![tactic(auto)]
 
@@ -31,9 +34,9 @@ mod drafts;
 mod drawing;
 mod listing;
 mod memories;
+mod parts;
 mod places;
 mod reach;
-mod rows;
 mod setting;
 mod steps;
 

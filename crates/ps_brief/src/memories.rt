@@ -2,7 +2,7 @@
 
 ghost use Rattle.std.specs.Prelude.{◌≡◌, IfOk, OnOk};
 ghost use Rattle.ps_machine.specs.Inner.Drawing.{KeepsAt};
-ghost use Rattle.ps_brief.specs.Inner.Rows.{HasMemories};
+ghost use Rattle.ps_brief.specs.Inner.Parts.{HasMemories};
 
 use crate::drafts::Plan;
 use crate::reach::{Reached, anchor};

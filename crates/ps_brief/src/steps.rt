@@ -1,12 +1,12 @@
 //! The steps from a state, without classes of letters.
 
-ghost use Rattle.std.specs.Prelude.{◌≡◌, ◌≤◌, ℕ, IfOk, IsSome};
+ghost use Rattle.std.specs.Prelude.{◌≡◌, ◌≤◌, ℕ, IfOk};
 ghost use Rattle.ps_diagram.specs.Letters.{IsLeastLetter};
 ghost use Rattle.ps_diagram.specs.Reached.{LeadsToLeaf};
-ghost use Rattle.ps_diagram.specs.Table.{IsNode, Keeps, leaf_of};
+ghost use Rattle.ps_diagram.specs.Table.{IsNode, Keeps};
 ghost use Rattle.ps_brief.specs.Settings.{Fits, board_in};
 ghost use Rattle.ps_brief.specs.Targets.{AreTargetsOf, IsTarget};
-ghost use Rattle.ps_brief.specs.Inner.Placing.{IsLeastPair, IsPlaced, MakesStep, letter_pair_place};
+ghost use Rattle.ps_brief.specs.Inner.Placing.{IsAnswered, IsLeastPair, IsPlaced, MakesStep, letter_pair_place};
 
 use crate::setting::Setting;
 use ps_diagram::{Node, Store};
@@ -78,8 +78,7 @@ fn target_of(
     let step = setting.automaton.pair(leaf);
     let making = store.selected(node, leaf)?;
     let behind = store.projected(making, setting.second)?;
-    let answers = store.least_letters(making, setting.second)?;
-    let place = least_place(store, behind, answers)?;
+    let place = least_place(setting, store, making, behind)?;
     Ok(Target {
         leaf,
         state: step.state,
@@ -89,19 +88,28 @@ fn target_of(
     })
 }
 
-/// The place of the least letter at which `behind` has the leaf 1, and of the leaf of `answers` there.
-fn least_place(store: &Store, behind: Node, answers: Node) -> Result<u128, AllocError>
-    requires behind { IsNode store.now behind }
-    requires answers { IsNode store.now answers }
-    requires some { (x : ℕ) × LeadsToLeaf store.now behind 1 x }
-    requires answered { (x : ℕ) → IsLeastLetter (LeadsToLeaf store.now behind 1) x →
-        IsSome (leaf_of store.now answers x) }
-    ensures { IfOk result (IsLeastPair store.now behind answers) }
+/// The place of the least letter at which `behind` has the leaf 1, and of the least letter of the second player that,
+/// together with it, leads from `making` to the leaf 1.
+fn least_place(
+    setting: &Setting<'_>,
+    store: &mut Store,
+    making: Node,
+    behind: Node,
+) -> Result<u128, AllocError>
+    requires fits { Fits setting.now store.old }
+    requires making { IsNode store.old making }
+    requires behind { IsNode store.old behind }
+    requires some { (x : ℕ) × LeadsToLeaf store.old behind 1 x }
+    requires answered { (x : ℕ) → IsLeastLetter (LeadsToLeaf store.old behind 1) x →
+        IsAnswered (board_in setting.now) store.old making x }
+    ensures keeps { Keeps store.old store.new }
+    ensures place { IfOk result (IsLeastPair (board_in setting.now) store.old making behind) }
 {
     let Some(first) = store.path_to(behind, 1)? else {
         unreachable!();
     };
-    match store.eval(answers, first) {
+    let answers = store.behind(making, setting.first, first)?;
+    match store.path_to(answers, 1)? {
         Some(second) => Ok(place_of(first, second)),
         None => unreachable!(),
     }

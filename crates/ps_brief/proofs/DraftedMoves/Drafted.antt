@@ -3,25 +3,23 @@
 -- - `second_drafted`: after all vertices of a state were tried, the draft has the move at each letter
 -- - `first_drafted`: the draft of a winner who moves first
 use Rattle.std.specs.Prelude.{◌≡◌, ℕ, ◌+◌, ◌<◌, ◌≤◌, Bool, true, false, List, length, slice_get, Option, None, Some}
-use Rattle.std.specs.Prelude.{MatchOption, option_map}
+use Rattle.std.specs.Prelude.{MatchOption, Vec, option_map}
+use Rattle.std.specs.Global.{Global}
 use Rattle.std.specs.List.{Contains}
 use Rattle.std.specs.Option.{unwrap_or}
-use Rattle.std.proofs.Common.{sym, ◌∙◌, subst, ap, refl, inl, inr, arith}
-use Rattle.std.proofs.lemmas.Bool.{cases_lt}
+use Rattle.std.proofs.Common.{sym, ◌∙◌, subst, ap, refl, arith}
 use Rattle.std.proofs.lemmas.Option.{slice_get_within}
 use Rattle.ps_automaton.specs.Automata.{AutomatonData, node_of, pair_of, step_of}
 use Rattle.ps_automaton.specs.declared.step.Step.{Step}
 use Rattle.ps_certificate.specs.Certificates.{choice_of}
 use Rattle.ps_game.specs.Games.{ParityGame}
-use Rattle.ps_diagram.specs.Hidden.{AreLeastLetters, HasLeafBehind, IsBehind, IsClear, IsOver, one_for}
+use Rattle.ps_diagram.specs.Bits.{AreBitsOf, AreLeastBits, AreLetterBits}
+use Rattle.ps_diagram.specs.Hidden.{HasLeafBehind, HasNoLeafBehind, IsBehind, IsLeafBehind, IsProjection, one_for}
 use Rattle.ps_diagram.specs.Letters.{AgreeOff, IsLeastLetter}
 use Rattle.ps_diagram.specs.Table.{Table, IsNode, Keeps, leaf_of}
-use Rattle.ps_diagram.proofs.Letters.{no_bit}
 use Rattle.ps_machine.specs.Boards.{Board, IsFirstLetter, IsSecondLetter}
-use Rattle.ps_machine.specs.Dividing.{IsMaskOf}
 use Rattle.ps_machine.specs.Extracting.{IsOtherLetter}
 use Rattle.ps_machine.specs.Numbering.{StandsAt}
-use Rattle.ps_machine.specs.Parts.{IsOwnLetter}
 use Rattle.ps_machine.specs.declared.key.Key.TheVariants.{First, Second}
 use Rattle.ps_machine.proofs.AutomatonGames.GameKeys.Standing.{same_some}
 use Rattle.ps_pruning.specs.Lifting.{IsFirstIn}
@@ -32,25 +30,22 @@ use Rattle.ps_basis.proofs.ArenaEdges.{second_letter_same}
 use Rattle.ps_basis.proofs.ArenaKeys.{index_once, stands_there}
 use Rattle.ps_basis.proofs.ArenaSteps.{first_is_one}
 use Rattle.ps_brief.specs.Settings.{Fits, board_in}
-use Rattle.ps_brief.specs.Inner.Drafts.{CanMoveFrom, IsDraft, IsDraftAt, IsDrafted, IsSingle}
-use Rattle.ps_brief.specs.Inner.Drafts.{IsTried}
-use Rattle.ps_brief.specs.Inner.Drafts.{IsUntried, TriesMoves, own_mask, play_of}
+use Rattle.ps_brief.specs.Inner.Drafts.{CanMoveFrom, IsDraft, IsDraftAt, IsDrafted, IsLeafOf, IsSingle, IsTried}
+use Rattle.ps_brief.specs.Inner.Drafts.{IsOwnLetter}
+use Rattle.ps_brief.specs.Inner.Drafts.{NoneMoves, TriesMoves, own_mask, play_of}
 use Rattle.ps_brief.specs.Inner.Playable.{Comes, IsFirstMove, IsPlayable}
 use Rattle.ps_brief.specs.declared.drafts.Draft.{Draft}
+use Rattle.ps_brief.specs.declared.drafts.Moves.{Moves}
 use Rattle.ps_brief.specs.declared.drafts.Plan.{Plan}
 use Rattle.ps_brief.specs.declared.setting.Setting.{Setting}
 use Rattle.ps_brief.proofs.BasesOfLetters.Behind.{clear}
 use Rattle.ps_machine.proofs.AutomatonGames.BoardSteps.{same_pair, some_of}
-use Rattle.ps_brief.proofs.DraftedMoves.Drafting.{move_priority, move_state, some_same}
+use Rattle.ps_brief.proofs.DraftedMoves.Drafting.{both_behind, move_priority, move_state, some_same}
 use Rattle.ps_brief.proofs.ListedStates.KeptTargets.{leaf_kept}
+use Rattle.ps_brief.proofs.ListedStates.LeastPlaces.{first_clear}
 use Rattle.ps_brief.proofs.ListedStates.StepLeaves.{goes_behind, has_behind}
 
 -- ## One step
-
-pub match_through : (o : Option ℕ) {P Q : Type 0} (F G : ℕ → Type 0) → (P → Q) → ((x : ℕ) → F x → G x) →
-    MatchOption o P F → MatchOption o Q G
-match_through None F G none some h = none h
-match_through (Some x) F G none some h = some x h
 
 least_of : (P Q : ℕ → Type 0) (y : ℕ) → ((z : ℕ) → P z → Q z) → ((z : ℕ) → Q z → P z) → IsLeastLetter P y →
     IsLeastLetter Q y
@@ -61,125 +56,173 @@ least_of P Q y to from least = record {
 
 module _ (setting : Setting) {s m u v : Table} (fits : Fits setting s) (q : ℕ)
     (in_states : q ≤ setting.automaton.now.states) (leaf : ℕ) (named : leaf < length setting.automaton.now.steps)
-    (making answers steps : ℕ) (to_m : Keeps s m) (to_v : Keeps u v)
+    (making behind steps : ℕ) (to_m : Keeps s m) (to_u : Keeps m u) (to_v : Keeps u v) (making_held : IsNode m making)
     (selects : (z : ℕ) → leaf_of m making z ≡ one_for leaf (leaf_of s (node_of setting.automaton.now q) z))
-    (held : IsNode u answers) (least : AreLeastLetters m u making setting.second answers)
-    (steps_held : IsNode v steps) (guards : (x : ℕ) → leaf_of v steps x ≡ option_map (λ _. leaf) (leaf_of u answers x))
-  where
-    abbrev step : Step
-    step = pair_of setting.automaton.now leaf
+    (projects : IsProjection m u making setting.second behind) (steps_held : IsNode v steps)
+    (guards : (x : ℕ) → leaf_of v steps x ≡ option_map (λ _. leaf) (leaf_of u behind x)) where
+  abbrev step : Step
+  step = pair_of setting.automaton.now leaf
 
-    same : (x : ℕ) → leaf_of v answers x ≡ leaf_of u answers x
-    same x = leaf_kept answers x to_v held
+  goes : (x y : ℕ) → HasLeafBehind m making setting.second x y →
+      GoesThere (board_in setting) q x step.state step.priority y
+  goes x y has = goes_behind setting fits q in_states leaf named step refl {t = m} making to_m selects x y has
 
-    goes : (x y : ℕ) → HasLeafBehind m making setting.second x y →
-        GoesThere (board_in setting) q x step.state step.priority y
-    goes x y has = goes_behind setting fits q in_states leaf named step refl {t = m} making to_m selects x y has
+  has : (x y : ℕ) → GoesThere (board_in setting) q x step.state step.priority y →
+      HasLeafBehind m making setting.second x y
+  has x y there = has_behind setting fits q in_states leaf named step refl {t = m} making to_m selects x y there
 
-    has : (x y : ℕ) → GoesThere (board_in setting) q x step.state step.priority y →
-        HasLeafBehind m making setting.second x y
-    has x y there = has_behind setting fits q in_states leaf named step refl {t = m} making to_m selects x y there
+  same : (x y : ℕ) → leaf_of v making (x + y) ≡ leaf_of m making (x + y)
+  same x y = leaf_kept making (x + y) to_v (to_u.held making making_held) ∙ leaf_kept making (x + y) to_u making_held
 
-    pub single_is : IsSingle setting v q leaf (record { steps = steps; letters = answers })
-    single_is = record {
-      steps_held = steps_held;
-      letters_held = to_v.held answers held;
-      heeds = λ a b off. same a ∙ least.others a b off ∙ sym (same b);
-      steps = λ x. guards x ∙ ap (λ (o : Option ℕ). option_map (λ _. leaf) o) (sym (same x));
-      at = λ x first.
-          subst (λ (o : Option ℕ). MatchOption o (CanGoTo (board_in setting) q x step.state step.priority → ⊥)
-          (IsLeastLetter (GoesThere (board_in setting) q x step.state step.priority))) (sym (same x))
-          (match_through (leaf_of u answers x) (IsLeastLetter (HasLeafBehind m making setting.second x))
-          (IsLeastLetter (GoesThere (board_in setting) q x step.state step.priority))
-          (λ none can. none can.letter (has x can.letter
-          (record { is_letter = can.is_letter; state = can.state; priority = can.priority })))
-          (λ y. least_of (HasLeafBehind m making setting.second x)
-          (GoesThere (board_in setting) q x step.state step.priority) y (goes x) (has x))
-          (least.leaf x (clear (board_in setting) setting.second fits.second x first)));
-    }
+  can_at : (x : ℕ) (o : Option ℕ) → MatchOption o (HasNoLeafBehind m making setting.second x)
+      (IsLeafBehind m making setting.second x) → MatchOption (option_map (λ _. leaf) o)
+      (CanGoTo (board_in setting) q x step.state step.priority → ⊥) (IsLeafOf setting q leaf x)
+  can_at x None none = λ can. none can.letter (has x can.letter
+      (record { is_letter = can.is_letter; state = can.state; priority = can.priority }))
+  can_at x (Some k) found =
+      let there = goes x found.letter found.there in
+      record {
+        same = refl;
+        can = record {
+          letter = found.letter;
+          is_letter = there.is_letter;
+          state = there.state;
+          priority = there.priority;
+        };
+      }
+
+  pub single_is : IsSingle setting v q leaf (record { steps = steps; making = making })
+  single_is = record {
+    steps_held = steps_held;
+    making_held = to_v.held making (to_u.held making making_held);
+    heeds = λ a b off. guards a ∙ ap (λ (o : Option ℕ). option_map (λ _. leaf) o) (projects.others a b off)
+        ∙ sym (guards b);
+    at = λ x first.
+        subst (λ (o : Option ℕ). MatchOption o (CanGoTo (board_in setting) q x step.state step.priority → ⊥)
+        (IsLeafOf setting q leaf x)) (sym (guards x))
+        (can_at x (leaf_of u behind x)
+        (projects.leaf x (clear (board_in setting) setting.second fits.second x first)));
+    makes = λ x y. both_behind setting.second x y making making (to_v.propositions ∙ to_u.propositions)
+        (λ _. same x y) ((λ h. goes x y h), (λ g. has x y g)) (λ _. same x y);
+  }
 
 -- ## The winner moves second
 
-module _ (plan : Plan) {t : Table} (arena : ParityGame) (playable : IsPlayable (play_of plan) plan.moves_first arena)
-    (second : plan.moves_first ≡ false) (q p : ℕ) (comes : Comes (play_of plan) plan.moves_first q p)
-    (vertices : List ℕ) (tried_are : vertices ≡ (play_of plan).order q) (draft : Draft)
-    (tries : TriesMoves plan t q vertices (length vertices) draft) where
-  abbrev Found : ℕ → Type 0
-  Found x =
-      (leaf : ℕ) × (leaf_of t draft.steps x ≡ Some leaf) × IsTried plan t q vertices (length vertices) draft x leaf
+module _ (plan : Plan) {s t u : Table} (arena : ParityGame)
+    (playable : IsPlayable (play_of plan) plan.moves_first arena) (second : plan.moves_first ≡ false)
+    (fits : Fits plan.setting.now s) (q p : ℕ) (comes : Comes (play_of plan) plan.moves_first q p)
+    (vertices : List ℕ) (tried_are : vertices ≡ (play_of plan).order q) (made : Moves) (to_t : Keeps s t)
+    (tries : TriesMoves plan t q vertices (length vertices) made) (to_u : Keeps t u) (bits : Vec ℕ Global)
+    (least_bits : AreLeastBits t u made.making plan.setting.now.second bits.items) where
+  abbrev made_draft : Draft
+  made_draft = record { steps = made.steps; bits = bits }
 
-  found_at : (x : ℕ) → IsFirstLetter (board_in plan.setting.now) x → Found x
-  found_at x first = at_leaf (leaf_of t draft.steps x) refl (tries.at x first)
+  record IsFound (x : ℕ) : Type 0 where
+    leaf : ℕ
+    step : leaf_of u made.steps x ≡ Some leaf
+    tried : IsTried plan t q vertices (length vertices) made x leaf
+
+  found_at : (x : ℕ) → IsFirstLetter (board_in plan.setting.now) x → IsFound x
+  found_at x first = at_leaf (leaf_of t made.steps x) refl (tries.at x first)
     where
-      at_leaf : (o : Option ℕ) → leaf_of t draft.steps x ≡ o → MatchOption o
-          (IsUntried plan t q vertices (length vertices) draft x) (IsTried plan t q vertices (length vertices) draft x)
-          →
-          Found x
-      at_leaf None e un =
+      at_leaf : (o : Option ℕ) → leaf_of t made.steps x ≡ o → MatchOption o
+          (NoneMoves plan q vertices (length vertices) x) (IsTried plan t q vertices (length vertices) made x) →
+          IsFound x
+      at_leaf None e none =
           let can = playable.can_move second q p x comes first in
           let (i, at) = stands_there vertices can.vertex
           (subst (λ (us : List ℕ). Contains us can.vertex) (sym tried_are) can.tried) in
-          absurd (un.none i can.vertex (slice_get_within vertices i can.vertex at) at can.moves)
-      at_leaf (Some leaf) e tried = (leaf, e, tried)
+          absurd (none i can.vertex (slice_get_within vertices i can.vertex at) at can.moves)
+      at_leaf (Some leaf) e tried =
+          record { leaf = leaf; step = leaf_kept made.steps x to_u tries.steps_held ∙ e; tried = tried }
+
+  -- the letter that the bits have is the least that makes the step
+  record IsAnswered (x r o : ℕ) : Type 0 where
+    letter : ℕ
+    least : IsLeastLetter (GoesThere (board_in plan.setting.now) q x r o) letter
+    bits_are : AreBitsOf u bits.items plan.setting.now.second letter x
+
+  answered_at : (x : ℕ) → IsFirstLetter (board_in plan.setting.now) x → (found : IsFound x) →
+      IsAnswered x found.tried.moves.state found.tried.moves.priority
+  answered_at x first found =
+      let moves = found.tried.moves in
+      let can = moves.reached in
+      let has = (found.tried.makes can.letter).1
+      (record { is_letter = can.is_letter; state = can.state; priority = can.priority }) in
+      let bit = least_bits.leaf x can.letter
+      (clear (board_in plan.setting.now) plan.setting.now.second fits.second x first) has in
+      record {
+        letter = bit.letter;
+        least = least_of (HasLeafBehind t made.making plan.setting.now.second x)
+            (GoesThere (board_in plan.setting.now) q x moves.state moves.priority) bit.letter
+            (λ y h. (found.tried.makes y).0 h) (λ y g. (found.tried.makes y).1 g) bit.least;
+        bits_are = bit.bits_are;
+      }
 
   abbrev IsFirst : ℕ → ℕ → Type 0
   IsFirst x u = IsFirstIn ((play_of plan).order q) (CanMoveFrom plan q x) u
 
-  first_of : (x leaf : ℕ) → (tried : IsTried plan t q vertices (length vertices) draft x leaf) → IsFirst x tried.vertex
-  first_of x leaf tried = record {
-    place = tried.place;
-    stands = subst (λ (us : List ℕ). slice_get us tried.place ≡ Some tried.vertex) tried_are tried.stands;
-    here = tried.moves;
-    none_before = λ k y less at moves. tried.none_before k y less
+  first_of : (x : ℕ) → (found : IsFound x) → IsFirst x found.tried.vertex
+  first_of x found = record {
+    place = found.tried.place;
+    stands = subst (λ (us : List ℕ). slice_get us found.tried.place ≡ Some found.tried.vertex) tried_are
+        found.tried.stands;
+    here = found.tried.moves;
+    none_before = λ k y less at moves. found.tried.none_before k y less
         (subst (λ (us : List ℕ). slice_get us k ≡ Some y) (sym tried_are) at) moves;
   }
 
   abbrev a : AutomatonData
   a = plan.setting.now.automaton.now
 
-  draft_at : (x : ℕ) → IsFirstLetter (board_in plan.setting.now) x → IsDraftAt plan t q p draft x
-  unfolding first_of found_at
+  draft_at : (x : ℕ) → IsFirstLetter (board_in plan.setting.now) x → IsDraftAt plan u q p made_draft x
+  unfolding first_of
   draft_at x first =
-      let (leaf, at, tried) = found_at x first in
+      let found = found_at x first in
+      let tried = found.tried in
+      let leaf : ℕ = found.leaf in
+      let answer = answered_at x first found in
       let output : StepsBehind (play_of plan).board (play_of plan).mover (play_of plan).others
-      (play_of plan).certificate (play_of plan).order q x tried.letter =
-      record { guide = tried.vertex; first = first_of x leaf tried; least = tried.least } in
+      (play_of plan).certificate (play_of plan).order q x answer.letter =
+      record { guide = tried.vertex; first = first_of x found; least = answer.least } in
       let round : IsSecondRound (play_of plan).board (play_of plan).mover (play_of plan).others
       (play_of plan).certificate (play_of plan).order q p (pair_of a leaf).state (pair_of a leaf).priority =
       record {
         letter = x;
         is_letter = first;
         guide = tried.vertex;
-        first = first_of x leaf tried;
+        first = first_of x found;
         state = sym tried.state;
         priority = sym tried.priority;
       } in
       record {
         leaf = leaf;
-        letter = tried.letter;
-        step = at;
-        plays = tried.plays;
-        own = subst (λ (f : Bool). IsOwnLetter f (board_in plan.setting.now) tried.letter) (sym second)
-            tried.least.here.is_letter;
+        letter = answer.letter;
+        step = found.step;
+        plays = subst (λ (f : Bool). AreBitsOf u bits.items (own_mask f plan.setting.now) answer.letter x) (sym second)
+            answer.bits_are;
+        own = subst (λ (f : Bool). IsOwnLetter f (board_in plan.setting.now) answer.letter) (sym second)
+            answer.least.here.is_letter;
         within = tried.within;
-        goes = same_pair (tried.least.here.state ∙ sym tried.state) (tried.least.here.priority ∙ sym tried.priority);
-        output = subst (λ (f : Bool). IsOutputAt (play_of plan) f q p x tried.letter) (sym second) output;
+        goes = same_pair (answer.least.here.state ∙ sym tried.state) (answer.least.here.priority ∙ sym tried.priority);
+        output = subst (λ (f : Bool). IsOutputAt (play_of plan) f q p x answer.letter) (sym second) output;
         round = subst (λ (f : Bool). IsRoundOf (play_of plan) f q p (pair_of a leaf).state (pair_of a leaf).priority)
             (sym second) round;
       }
 
-  drafted : (r s : ℕ) → IsSecondRound (play_of plan).board (play_of plan).mover (play_of plan).others
-      (play_of plan).certificate (play_of plan).order q p r s → IsDrafted plan t draft r s
-  drafted r s round =
-      let (leaf, at, tried) = found_at round.letter round.is_letter in
+  drafted : (r o : ℕ) → IsSecondRound (play_of plan).board (play_of plan).mover (play_of plan).others
+      (play_of plan).certificate (play_of plan).order q p r o → IsDrafted plan u made_draft r o
+  drafted r o round =
+      let found = found_at round.letter round.is_letter in
+      let tried = found.tried in
       let same : tried.vertex ≡ round.guide = first_is_one ((play_of plan).order q) (CanMoveFrom plan q round.letter)
-      tried.vertex round.guide (first_of round.letter leaf tried) round.first in
+      tried.vertex round.guide (first_of round.letter found) round.first in
       record {
         letter = round.letter;
         is_other = subst (λ (f : Bool). IsOtherLetter f (board_in plan.setting.now) round.letter) (sym second)
             round.is_letter;
-        leaf = leaf;
-        step = at;
+        leaf = found.leaf;
+        step = found.step;
         state = tried.state ∙ move_state (play_of plan).board (play_of plan).mover (play_of plan).others
             (play_of plan).certificate q round.letter round.letter tried.vertex round.guide same tried.moves
             round.first.here ∙ round.state;
@@ -188,35 +231,33 @@ module _ (plan : Plan) {t : Table} (arena : ParityGame) (playable : IsPlayable (
             round.first.here ∙ round.priority;
       }
 
-  pub second_drafted : IsDraft plan t q p draft
+  off_second : (x y : ℕ) → AgreeOff (own_mask plan.moves_first plan.setting.now) x y →
+      AgreeOff plan.setting.now.second x y
+  off_second x y off = subst (λ (f : Bool). AgreeOff (own_mask f plan.setting.now) x y) second off
+
+  pub second_drafted : IsDraft plan u q p made_draft
   second_drafted = record {
-    heeds = tries.heeds;
+    heeds = record {
+      steps_held = to_u.held made.steps tries.steps_held;
+      bits_held = least_bits.each;
+      steps = λ x y off. leaf_kept made.steps x to_u tries.steps_held ∙ tries.steps x y (off_second x y off)
+          ∙ sym (leaf_kept made.steps y to_u tries.steps_held);
+      bits = λ x y off. least_bits.others x y (off_second x y off);
+    };
     at = λ x other. draft_at x (subst (λ (f : Bool). IsOtherLetter f (board_in plan.setting.now) x) second other);
-    rounds = λ r s round. drafted r s (subst (λ (f : Bool). IsRoundOf (play_of plan) f q p r s) second round);
+    rounds = λ r o round. drafted r o (subst (λ (f : Bool). IsRoundOf (play_of plan) f q p r o) second round);
   }
 
 -- ## The winner moves first
-
-first_clear : (board : Board) (mask : ℕ) → IsMaskOf board mask → (y : ℕ) → IsSecondLetter board y → IsClear mask y
-first_clear board mask is_mask y second p masked = elim (cases_lt p board.propositions) [
-  | inl less ↦ second.own p (sym (is_mask.is p less) ∙ masked)
-  | inr more ↦ no_bit board.propositions y p second.within more
-]
-
-pub first_over : (board : Board) (mask : ℕ) → IsMaskOf board mask → (x : ℕ) → IsFirstLetter board x → IsOver mask x
-first_over board mask is_mask x first p shown = elim (cases_lt p board.propositions) [
-  | inl less ↦ first.own p (sym (is_mask.is p less) ∙ shown)
-  | inr more ↦ no_bit board.propositions x p first.within more
-]
 
 module _ (plan : Plan) {s t u : Table} (arena : ParityGame)
     (playable : IsPlayable (play_of plan) plan.moves_first arena) (is_first : plan.moves_first ≡ true)
     (fits : Fits plan.setting.now s) (q p v letter : ℕ) (in_states : q ≤ plan.setting.now.automaton.now.states)
     (stands : StandsAt (play_of plan).keys v (First q p)) (move : IsFirstMove (play_of plan) v q letter)
-    (steps letters : ℕ)
+    (steps : ℕ) (bits : Vec ℕ Global)
     (behind : IsBehind s t (node_of plan.setting.now.automaton.now q) plan.setting.now.first letter steps)
-    (to_u : Keeps t u) (held : IsNode t steps) (letters_held : IsNode u letters)
-    (says : (x : ℕ) → leaf_of u letters x ≡ Some letter) where
+    (to_u : Keeps t u) (held : IsNode t steps)
+    (letter_bits : AreLetterBits u plan.setting.now.first letter bits.items) where
   abbrev board : Board
   board = board_in plan.setting.now
 
@@ -224,7 +265,7 @@ module _ (plan : Plan) {s t u : Table} (arena : ParityGame)
   auto = plan.setting.now.automaton.now
 
   abbrev draft : Draft
-  draft = record { steps = steps; letters = letters }
+  draft = record { steps = steps; bits = bits }
 
   steps_at : (y : ℕ) → IsSecondLetter board y → leaf_of u steps y ≡ leaf_of auto.store (node_of auto q) (letter + y)
   steps_at y second = leaf_kept steps y to_u held
@@ -285,7 +326,8 @@ module _ (plan : Plan) {s t u : Table} (arena : ParityGame)
         leaf = leaf;
         letter = letter;
         step = at.step;
-        plays = says y;
+        plays = subst (λ (f : Bool). AreBitsOf u bits.items (own_mask f plan.setting.now) letter y) (sym is_first)
+            (letter_bits.bits_are y);
         own = subst (λ (f : Bool). IsOwnLetter f board letter) (sym is_first) move.is_letter;
         within = at.within;
         goes = ap (λ (z : ℕ). step_of auto q z) turned ∙ at.goes;
@@ -326,10 +368,10 @@ module _ (plan : Plan) {s t u : Table} (arena : ParityGame)
   first_drafted = record {
     heeds = record {
       steps_held = to_u.held steps held;
-      letters_held = letters_held;
+      bits_held = letter_bits.each;
       steps = λ x z off. leaf_kept steps x to_u held ∙ behind.others x z (off_first x z off)
           ∙ sym (leaf_kept steps z to_u held);
-      letters = λ x z off. says x ∙ sym (says z);
+      bits = λ x z off. letter_bits.bits_are x ∙ sym (letter_bits.bits_are z);
     };
     at = λ y other. first_draft_at y (subst (λ (f : Bool). IsOtherLetter f board y) is_first other);
     rounds =

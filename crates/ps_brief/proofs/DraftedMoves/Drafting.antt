@@ -1,29 +1,31 @@
 -- The moves of a winner who moves second, tried one after another.
 -- - `move_state`, `move_priority`: a vertex has one move
 -- - `never_more`, `tries_more`: one more vertex is tried
-use Rattle.std.specs.Prelude.{◌≡◌, ℕ, ◌+◌, Bool, false, List, slice_get, Option, None, Some}
+use Rattle.std.specs.Prelude.{◌≡◌, ◌↔◌, ℕ, ◌+◌, ◌^◌, ◌<◌, Bool, cond, List, slice_get, Option, None, Some, IsSome}
 use Rattle.std.specs.Prelude.{MatchOption}
-use Rattle.std.specs.Prelude.{option_map}
 use Rattle.std.proofs.Common.{sym, ◌∙◌, subst, ap, ap₂, refl, inl, inr, arith}
 use Rattle.std.proofs.lemmas.Bool.{cases_lt}
+use Rattle.ps_label.specs.Truth.{is_in}
 use Rattle.ps_automaton.specs.Automata.{pair_of}
 use Rattle.ps_certificate.specs.Certificates.{CertificateData, choice_of}
-use Rattle.ps_diagram.specs.Leaves.{either_leaf}
-use Rattle.ps_diagram.specs.Letters.{AgreeOff, IsLeastLetter}
+use Rattle.ps_diagram.specs.Hidden.{HasLeafBehind, IsClear, IsOver}
+use Rattle.ps_diagram.specs.Leaves.{chosen, either_leaf}
+use Rattle.ps_diagram.specs.Letters.{AgreeOff}
 use Rattle.ps_diagram.specs.Table.{Table, Keeps, leaf_of}
-use Rattle.ps_machine.specs.Boards.{Board}
+use Rattle.ps_diagram.proofs.ClassesOfLetters.LetterSums.{in_sum}
+use Rattle.ps_machine.specs.Boards.{Board, IsFirstLetter}
 use Rattle.ps_machine.specs.Numbering.{StandsAt}
 use Rattle.ps_machine.specs.declared.key.Key.{Key}
 use Rattle.ps_machine.specs.declared.key.Key.TheVariants.{First}
 use Rattle.ps_machine.proofs.AutomatonGames.GameKeys.Standing.{same_some}
 use Rattle.ps_basis.specs.ArenaMoves.{GoesThere, MovesBehind}
 use Rattle.ps_basis.specs.Bases.{CanGoTo}
-use Rattle.ps_brief.specs.Settings.{board_in}
-use Rattle.ps_brief.specs.Inner.Drafts.{CanMoveFrom, IsJoined, IsMoveLeaf, IsSingle, IsTried, IsUntried}
-use Rattle.ps_brief.specs.Inner.Drafts.{NeverMoves}
-use Rattle.ps_brief.specs.Inner.Drafts.{NoneMoves, TriesMoves, own_mask}
-use Rattle.ps_brief.specs.declared.drafts.Draft.{Draft}
+use Rattle.ps_brief.specs.Settings.{Fits, board_in}
+use Rattle.ps_brief.specs.Inner.Drafts.{CanMoveFrom, IsJoined, IsLeafOf, IsMoveLeaf, IsSingle, IsTried, NeverMoves}
+use Rattle.ps_brief.specs.Inner.Drafts.{NoneMoves, TriesMoves}
+use Rattle.ps_brief.specs.declared.drafts.Moves.{Moves}
 use Rattle.ps_brief.specs.declared.drafts.Plan.{Plan}
+use Rattle.ps_brief.proofs.BasesOfLetters.Behind.{clear}
 use Rattle.ps_brief.proofs.ListedStates.KeptTargets.{leaf_kept}
 
 -- ## Moves
@@ -67,11 +69,36 @@ none_more plan q vertices k x u here before now i w less at moves = elim (cases_
       now (subst (λ (z : ℕ). CanMoveFrom plan q x z) same moves)
 ]
 
+-- ## The letters that make a step
+
+-- a letter behind which one of two nodes has a leaf, if both have the same leaf there
+pub behind_same : {s t : Table} (mask x y a b : ℕ) → t.propositions ≡ s.propositions →
+    leaf_of t b (x + y) ≡ leaf_of s a (x + y) → HasLeafBehind s a mask x y → HasLeafBehind t b mask x y
+behind_same mask x y a b size same has = record {
+  within = subst (λ (n : ℕ). y < 2 ^ n) (sym size) has.within;
+  own = has.own;
+  leaf = subst (λ (o : Option ℕ). IsSome o) (sym same) has.leaf;
+}
+
+pub both_behind : {s t : Table} {P : Type 0} (mask x y a b : ℕ) → t.propositions ≡ s.propositions →
+    (IsOver mask y → leaf_of t b (x + y) ≡ leaf_of s a (x + y)) → (HasLeafBehind s a mask x y ↔ P) →
+    (IsOver mask y → leaf_of t b (x + y) ≡ leaf_of s a (x + y)) → HasLeafBehind t b mask x y ↔ P
+both_behind mask x y a b size same both again = (
+  λ has. both.0 (behind_same mask x y b a (sym size) (sym (same has.own)) has),
+  λ holds. (let has = both.1 holds in behind_same mask x y a b size (again has.own) has),
+)
+
+-- outside the mask, a letter and its sum with a letter over the mask agree
+sum_agrees : (mask x y : ℕ) → IsClear mask x → IsOver mask y → AgreeOff mask (x + y) x
+sum_agrees mask x y is_clear is_over p off =
+    in_sum mask x y is_clear is_over p ∙ ap (λ (b : Bool). cond b (is_in p y) (is_in p x)) off
+
 module _ (plan : Plan) (q : ℕ) (vertices : List ℕ) (k : ℕ) where
   -- a vertex that was found stays
-  still_tried : {s t : Table} (old new : Draft) (x leaf : ℕ) (tried : IsTried plan s q vertices k old x leaf) →
-      leaf_of t new.letters x ≡ leaf_of s old.letters x → IsTried plan t q vertices (k + 1) new x leaf
-  still_tried old new x leaf tried same = record {
+  still_tried : {s t : Table} (old new : Moves) (x leaf : ℕ) (tried : IsTried plan s q vertices k old x leaf) →
+      t.propositions ≡ s.propositions → ((y : ℕ) → IsOver plan.setting.now.second y →
+      leaf_of t new.making (x + y) ≡ leaf_of s old.making (x + y)) → IsTried plan t q vertices (k + 1) new x leaf
+  still_tried old new x leaf tried size same = record {
     place = tried.place;
     below = omega (arith, tried.below);
     vertex = tried.vertex;
@@ -81,27 +108,26 @@ module _ (plan : Plan) (q : ℕ) (vertices : List ℕ) (k : ℕ) where
     within = tried.within;
     state = tried.state;
     priority = tried.priority;
-    letter = tried.letter;
-    plays = same ∙ tried.plays;
-    least = tried.least;
+    makes = λ y. both_behind plan.setting.now.second x y old.making new.making size (same y) (tried.makes y) (same y);
   }
 
   module _ (u : ℕ) (here : slice_get vertices k ≡ Some u) where
-    pub never_more : {t : Table} (draft : Draft) → NeverMoves plan q u → TriesMoves plan t q vertices k draft →
-        TriesMoves plan t q vertices (k + 1) draft
-    never_more {t} draft never tries = record {
-      heeds = tries.heeds;
-      at = λ x first. at_leaf x (leaf_of t draft.steps x) (tries.at x first);
+    pub never_more : {t : Table} (moves : Moves) → NeverMoves plan q u → TriesMoves plan t q vertices k moves →
+        TriesMoves plan t q vertices (k + 1) moves
+    never_more {t} moves never tries = record {
+      steps_held = tries.steps_held;
+      making_held = tries.making_held;
+      steps = tries.steps;
+      at = λ x first. at_leaf x (leaf_of t moves.steps x) (tries.at x first);
     }
       where
         at_leaf : (x : ℕ) (o : Option ℕ) →
-            MatchOption o (IsUntried plan t q vertices k draft x) (IsTried plan t q vertices k draft x) →
-            MatchOption o (IsUntried plan t q vertices (k + 1) draft x) (IsTried plan t q vertices (k + 1) draft x)
-        at_leaf x None un =
-            record { none = none_more plan q vertices k x u here un.none (never x); silent = un.silent }
-        at_leaf x (Some leaf) tried = still_tried {s = t} {t = t} draft draft x leaf tried refl
+            MatchOption o (NoneMoves plan q vertices k x) (IsTried plan t q vertices k moves x) →
+            MatchOption o (NoneMoves plan q vertices (k + 1) x) (IsTried plan t q vertices (k + 1) moves x)
+        at_leaf x None none = none_more plan q vertices k x u here none (never x)
+        at_leaf x (Some leaf) tried = still_tried {s = t} {t = t} moves moves x leaf tried refl (λ y _. refl)
 
-    module _ (leaf : ℕ) (is_move : IsMoveLeaf plan q u leaf) (second : plan.moves_first ≡ false) where
+    module _ (leaf : ℕ) (is_move : IsMoveLeaf plan q u leaf) where
       abbrev state : ℕ
       state = (pair_of plan.setting.now.automaton.now leaf).state
 
@@ -118,20 +144,11 @@ module _ (plan : Plan) (q : ℕ) (vertices : List ℕ) (k : ℕ) where
           (subst (λ (s : ℕ). CanGoTo (board_in plan.setting.now) q x moves.state s)
           (sym (is_move.priority x moves)) moves.reached))
 
-      can_go : (x y : ℕ) → IsLeastLetter (GoesThere (board_in plan.setting.now) q x state priority) y → CanGo x
-      can_go x y least = record {
-        letter = y;
-        is_letter = least.here.is_letter;
-        state = least.here.state;
-        priority = least.here.priority;
-      }
-
-      now_tried : {t : Table} (new : Draft) (x y : ℕ) → NoneMoves plan q vertices k x →
-          leaf_of t new.letters x ≡ Some y →
-          IsLeastLetter (GoesThere (board_in plan.setting.now) q x state priority) y →
-          IsTried plan t q vertices (k + 1) new x leaf
-      now_tried new x y none plays least =
-          let moves : CanMoveFrom plan q x u = is_move.behind x (can_go x y least) in record {
+      now_tried : {t : Table} (new : Moves) (x : ℕ) → NoneMoves plan q vertices k x → CanGo x →
+          ((y : ℕ) → HasLeafBehind t new.making plan.setting.now.second x y ↔
+          GoesThere (board_in plan.setting.now) q x state priority y) → IsTried plan t q vertices (k + 1) new x leaf
+      now_tried {t} new x none can makes =
+          let moves : CanMoveFrom plan q x u = is_move.behind x can in record {
             place = k;
             below = omega arith;
             vertex = u;
@@ -141,69 +158,56 @@ module _ (plan : Plan) (q : ℕ) (vertices : List ℕ) (k : ℕ) where
             within = is_move.within;
             state = is_move.state x moves;
             priority = is_move.priority x moves;
-            letter = y;
-            plays = plays;
-            least = subst (λ (r : ℕ). IsLeastLetter (GoesThere (board_in plan.setting.now) q x r moves.priority) y)
-                (is_move.state x moves)
-                (subst (λ (s : ℕ). IsLeastLetter (GoesThere (board_in plan.setting.now) q x state s) y)
-                (is_move.priority x moves) least);
+            makes = λ y. subst (λ (r : ℕ). HasLeafBehind t new.making plan.setting.now.second x y ↔
+                GoesThere (board_in plan.setting.now) q x r moves.priority y) (is_move.state x moves)
+                (subst (λ (s : ℕ). HasLeafBehind t new.making plan.setting.now.second x y ↔
+                GoesThere (board_in plan.setting.now) q x state s y) (is_move.priority x moves) (makes y));
           }
 
-      pub tries_more : {s m t : Table} (old single new : Draft) → Keeps s m →
-          IsSingle plan.setting.now m q leaf single → IsJoined m t old single new → TriesMoves plan s q vertices k old →
-          TriesMoves plan t q vertices (k + 1) new
-      tries_more {s} {m} {t} old single new keeps is joined tries = record {
-        heeds = record {
+      module _ {s m t : Table} (fits : Fits plan.setting.now s) (old single new : Moves) (to_m : Keeps s m)
+          (to_t : Keeps m t) (is : IsSingle plan.setting.now m q leaf single) (joined : IsJoined m t old single new)
+          (tries : TriesMoves plan s q vertices k old) where
+        old_steps : (x : ℕ) → leaf_of m old.steps x ≡ leaf_of s old.steps x
+        old_steps x = leaf_kept old.steps x to_m tries.steps_held
+
+        new_steps : (x : ℕ) → leaf_of t new.steps x ≡ either_leaf (leaf_of s old.steps x) (leaf_of m single.steps x)
+        new_steps x = joined.steps x
+            ∙ ap (λ (o : Option ℕ). either_leaf o (leaf_of m single.steps x)) (old_steps x)
+
+        -- what makes the step behind x depends on the old step at x
+        new_making : (x y : ℕ) → IsFirstLetter (board_in plan.setting.now) x → IsOver plan.setting.now.second y →
+            (o : Option ℕ) → leaf_of s old.steps x ≡ o → leaf_of t new.making (x + y) ≡
+            chosen o (leaf_of s old.making (x + y)) (leaf_of m single.making (x + y))
+        new_making x y first is_over o e =
+            let off = sum_agrees plan.setting.now.second x y
+            (clear (board_in plan.setting.now) plan.setting.now.second fits.second x first) is_over in
+            joined.making (x + y)
+            ∙ ap₂ (λ (a b : Option ℕ). chosen a b (leaf_of m single.making (x + y)))
+            (old_steps (x + y) ∙ tries.steps (x + y) x off ∙ e) (leaf_kept old.making (x + y) to_m tries.making_held)
+
+        at_leaf : (x : ℕ) → IsFirstLetter (board_in plan.setting.now) x → (o l : Option ℕ) →
+            leaf_of s old.steps x ≡ o →
+            MatchOption o (NoneMoves plan q vertices k x) (IsTried plan s q vertices k old x) →
+            MatchOption l (CanGo x → ⊥) (IsLeafOf plan.setting.now q leaf x) →
+            MatchOption (either_leaf o l) (NoneMoves plan q vertices (k + 1) x)
+            (IsTried plan t q vertices (k + 1) new x)
+        at_leaf x first (Some found) l e tried more = still_tried {s = s} {t = t} old new x found tried
+            (to_t.propositions ∙ to_m.propositions) (λ y is_over. new_making x y first is_over (Some found) e)
+        at_leaf x first None None e none more = none_more plan q vertices k x u here none (not_moved x more)
+        at_leaf x first None (Some l) e none more =
+            subst (λ (i : ℕ). IsTried plan t q vertices (k + 1) new x i) (sym more.same)
+            (now_tried {t = t} new x none more.can
+            (λ y. both_behind plan.setting.now.second x y single.making new.making
+            to_t.propositions (λ is_over. new_making x y first is_over None e) (is.makes x y)
+            (λ is_over. new_making x y first is_over None e)))
+
+        pub tries_more : TriesMoves plan t q vertices (k + 1) new
+        tries_more = record {
           steps_held = joined.steps_held;
-          letters_held = joined.letters_held;
-          steps = λ a b off. joined.steps a
-              ∙ ap₂ either_leaf (old_steps a ∙ tries.heeds.steps a b off ∙ sym (old_steps b))
-              (is.steps a ∙ ap (λ (o : Option ℕ). option_map (λ _. leaf) o) (is.heeds a b (off_second a b off))
-              ∙ sym (is.steps b)) ∙ sym (joined.steps b);
-          letters = λ a b off. joined.letters a
-              ∙ ap₂ either_leaf (old_letters a ∙ tries.heeds.letters a b off ∙ sym (old_letters b))
-              (is.heeds a b (off_second a b off)) ∙ sym (joined.letters b);
-        };
-        at = λ x first. subst (λ (o : Option ℕ). MatchOption o (IsUntried plan t q vertices (k + 1) new x)
-            (IsTried plan t q vertices (k + 1) new x))
-            (sym (joined.steps x ∙ ap₂ either_leaf (old_steps x) (is.steps x)))
-            (at_leaf x (leaf_of s old.steps x) (leaf_of m single.letters x) refl (tries.at x first) (is.at x first));
-      }
-        where
-          old_steps : (x : ℕ) → leaf_of m old.steps x ≡ leaf_of s old.steps x
-          old_steps x = leaf_kept old.steps x keeps tries.heeds.steps_held
-
-          old_letters : (x : ℕ) → leaf_of m old.letters x ≡ leaf_of s old.letters x
-          old_letters x = leaf_kept old.letters x keeps tries.heeds.letters_held
-
-          off_second : (a b : ℕ) → AgreeOff (own_mask plan.moves_first plan.setting.now) a b →
-              AgreeOff plan.setting.now.second a b
-          off_second a b off =
-              subst (λ (f : Bool). AgreeOff (own_mask f plan.setting.now) a b) second off
-
-          letters_here : (x : ℕ) → leaf_of t new.letters x ≡
-              either_leaf (leaf_of s old.letters x) (leaf_of m single.letters x)
-          letters_here x = joined.letters x
-              ∙ ap (λ (o : Option ℕ). either_leaf o (leaf_of m single.letters x)) (old_letters x)
-
-          either_first : (a b : Option ℕ) (y : ℕ) → a ≡ Some y → either_leaf a b ≡ a
-          either_first a b y e = subst (λ (o : Option ℕ). either_leaf o b ≡ o) (sym e) refl
-
-          either_second : (a b : Option ℕ) → a ≡ None → either_leaf a b ≡ b
-          either_second a b e = subst (λ (o : Option ℕ). either_leaf o b ≡ b) (sym e) refl
-
-          at_leaf : (x : ℕ) (o l : Option ℕ) → leaf_of m single.letters x ≡ l →
-              MatchOption o (IsUntried plan s q vertices k old x) (IsTried plan s q vertices k old x) →
-              MatchOption l (CanGo x → ⊥) (IsLeastLetter (GoesThere (board_in plan.setting.now) q x state priority)) →
-              MatchOption (either_leaf o (option_map (λ _. leaf) l)) (IsUntried plan t q vertices (k + 1) new x)
-              (IsTried plan t q vertices (k + 1) new x)
-          at_leaf x (Some found) l e tried more = still_tried {s = s} {t = t} old new x found tried
-              (letters_here x ∙ either_first (leaf_of s old.letters x) (leaf_of m single.letters x) tried.letter
-              tried.plays)
-          at_leaf x None None e un more = record {
-            none = none_more plan q vertices k x u here un.none (not_moved x more);
-            silent = letters_here x
-                ∙ either_second (leaf_of s old.letters x) (leaf_of m single.letters x) un.silent ∙ e;
-          }
-          at_leaf x None (Some y) e un more = now_tried {t = t} new x y un.none (letters_here x
-              ∙ either_second (leaf_of s old.letters x) (leaf_of m single.letters x) un.silent ∙ e) more
+          making_held = joined.making_held;
+          steps = λ a b off. new_steps a ∙ ap₂ either_leaf (tries.steps a b off) (is.heeds a b off) ∙ sym (new_steps b);
+          at = λ x first. subst (λ (o : Option ℕ). MatchOption o (NoneMoves plan q vertices (k + 1) x)
+              (IsTried plan t q vertices (k + 1) new x)) (sym (new_steps x))
+              (at_leaf x first (leaf_of s old.steps x) (leaf_of m single.steps x) refl (tries.at x first)
+              (is.at x first));
+        }

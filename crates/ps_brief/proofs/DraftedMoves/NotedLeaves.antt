@@ -25,7 +25,7 @@ use Rattle.ps_brief.specs.Listings.{AreTargetsAt, IsListing, listed_keys}
 use Rattle.ps_brief.specs.Settings.{board_in}
 use Rattle.ps_brief.specs.Targets.{IsTarget}
 use Rattle.ps_brief.specs.Inner.Drafts.{AreLeavesOf}
-use Rattle.ps_brief.specs.Inner.Rows.{AreNotedUpTo}
+use Rattle.ps_brief.specs.Inner.Parts.{AreNotedUpTo}
 use Rattle.ps_brief.specs.declared.listing.Listing.{Listing}
 use Rattle.ps_brief.specs.declared.setting.Setting.{Setting}
 use Rattle.ps_brief.specs.declared.steps.Target.{Target}

@@ -13,7 +13,7 @@ use Rattle.ps_game.specs.Games.{ParityGame, vertex_count, successors_of, HasEdge
 use Rattle.ps_certificate.specs.Certificates.{CertificateData, Fits, IsValid, choice_of}
 use Rattle.ps_machine.specs.Boards.{Board, IsGameOf, LeadsTo}
 use Rattle.ps_machine.specs.Numbering.{StandsAt}
-use Rattle.ps_machine.specs.Solving.{winner_at_start}
+use Rattle.ps_solver.specs.Solving.{winner_at_start}
 use Rattle.ps_machine.specs.declared.key.Key.{Key}
 use Rattle.ps_machine.specs.declared.key.Key.TheVariants.{First, Second}
 use Rattle.ps_machine.proofs.AutomatonGames.GameKeys.Standing.{same_some, stand-within}

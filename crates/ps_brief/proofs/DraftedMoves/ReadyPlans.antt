@@ -10,7 +10,7 @@ use Rattle.ps_certificate.proofs.FlawsAndValidity.SuccessorEdges.{some_of}
 use Rattle.ps_diagram.specs.Table.{Table}
 use Rattle.ps_game.specs.Games.{ParityGame}
 use Rattle.ps_machine.specs.Keys.{mover_of}
-use Rattle.ps_machine.specs.Solving.{winner_at_start}
+use Rattle.ps_solver.specs.Solving.{winner_at_start}
 use Rattle.ps_machine.specs.declared.key.Key.{Key}
 use Rattle.ps_machine.specs.declared.key.Key.TheVariants.{First}
 use Rattle.ps_machine.proofs.AutomatonGames.Movers.{small_mover}

@@ -11,10 +11,10 @@ use Rattle.ps_certificate.proofs.FlawsAndValidity.SuccessorEdges.{some_of}
 use Rattle.ps_diagram.specs.Table.{Table, leaf_of}
 use Rattle.ps_game.specs.Games.{IsGame, ParityGame}
 use Rattle.ps_automaton.specs.Automata.{AutomatonData, IsWhole, node_of, pair_of, step_of}
+use Rattle.ps_machine.specs.Behaviours.{Behaviour}
 use Rattle.ps_machine.specs.Boards.{Board, IsGameOf}
 use Rattle.ps_machine.specs.Extracting.{HasPropositions, IsMachineOf}
 use Rattle.ps_machine.specs.Keys.{mover_of}
-use Rattle.ps_machine.specs.Machines.{MachineData, behaviour}
 use Rattle.ps_machine.specs.declared.key.Key.{Key}
 use Rattle.ps_machine.proofs.AutomatonGames.GameKeys.GameSound.{board_game_is_game}
 use Rattle.ps_machine.proofs.AutomatonGames.GameKeys.GameThere.{board_game_there}
@@ -79,8 +79,8 @@ module _ (setting : Setting) (arena : ParityGame) (others : List Key) (certifica
         }
 
     module _ (least_there : LeastCountsThere) (listing : Listing) {t : Table} (is : IsListing setting t listing)
-        (orders : AreOrders others (order_by (listed_keys listing) arena)) (m : MachineData)
-        (by_rounds : IsMachineByRounds (play_in setting listing arena others certificate) (behaviour m)) where
+        (orders : AreOrders others (order_by (listed_keys listing) arena)) (m : Behaviour)
+        (by_rounds : IsMachineByRounds (play_in setting listing arena others certificate) m) where
       drawn : (keys : List Key) (game : ParityGame) → IsGameOf board mover keys game →
           IsWinnersMachine setting.order setting.automaton.now keys game m
       drawn keys game is_game =
@@ -88,13 +88,13 @@ module _ (setting : Setting) (arena : ParityGame) (others : List Key) (certifica
           let is_arena : IsArenaOf board of.bases mover keys others arena = of.is_arena keys game is_game in
           let (lifted, lift) = lift_of_arena board of.bases mover keys others game arena small is_game is_arena
           certificate fits valid (order_by (listed_keys listing) arena) orders in
-          let machine : IsMachineOf board mover keys game lifted (behaviour m) = machine_by_rounds of.bases keys game
+          let machine : IsMachineOf board mover keys game lifted m = machine_by_rounds of.bases keys game
           arena lifted (play_in setting listing arena others certificate) small is_game is_arena fits valid lift
-          (listed_in_order board (listed_keys listing) is.listed) (behaviour m) by_rounds in
+          (listed_in_order board (listed_keys listing) is.listed) m by_rounds in
           let (least, counterpart) =
           least_there game lifted (board_game_is_game board mover keys game small is_game) lift.fits lift.valid in
-          let again : IsMachineOf board mover keys game least (behaviour m) =
-          machine_along board mover keys game is_game lifted least (behaviour m) counterpart.same machine in
+          let again : IsMachineOf board mover keys game least m =
+          machine_along board mover keys game is_game lifted least m counterpart.same machine in
           record {
             certificate = least;
             fits = counterpart.fits;
@@ -104,6 +104,6 @@ module _ (setting : Setting) (arena : ParityGame) (others : List Key) (certifica
             machine_of = again;
           }
 
-      pub brief_is : HasPropositions setting.automaton.now.names board (behaviour m) →
+      pub brief_is : HasPropositions setting.automaton.now.names board m →
           IsBriefMachine setting.order setting.automaton.now m
       brief_is propositions = record { propositions = propositions; machine_of = drawn }

@@ -1,35 +1,36 @@
--- The diagrams that are drawn are those of the machine by rounds.
--- - `steps_other`, `letters_other`: a draft's leaves at a letter are those at the other player's part of it
+-- The parts that are drawn are those of the machine by rounds.
+-- - `steps_other`, `bits_other`: a draft's leaves at a letter are those at the other player's part of it
 -- - `is_drawing`: the drawing is that of the machine
 -- - `pairs_differ`: a set of pairs has each pair once
 -- - `within_values`: each leaf is the index of a pair
--- - `by_rounds`: the machine with these diagrams is the machine by rounds
-use Rattle.std.specs.Prelude.{◌≡◌, ◌≢◌, ℕ, ◌^◌, ◌<◌, Bool, true, [], List, length, Option, None, Some, option_map}
-use Rattle.std.specs.Prelude.{slice_get, slice_index, slice_index_or, IfOk, IfSome, Result, Ok, Err}
+-- - `made_by_rounds`: the machine with these parts is the machine by rounds
+use Rattle.std.specs.Prelude.{◌≡◌, ◌≢◌, ℕ, ◌^◌, ◌<◌, Bool, true, false, [], ◌∷◌, List, length, map, Option, None, Some}
+use Rattle.std.specs.Prelude.{is_some, option_map, slice_index, slice_index_or, IfOk, IfSome, Result, Ok, Err}
+use Rattle.std.specs.Prelude.{IsSomeAnd}
 use Rattle.std.specs.Bool.{Decides}
 use Rattle.std.specs.List.{All, AllPairs, Contains, IsDistinct}
-use Rattle.std.proofs.Common.{sym, ◌∙◌, subst, ap, refl, get_or, arith, rules}
+use Rattle.std.proofs.Common.{sym, ◌∙◌, subst, ap, ap₂, refl, get_or, arith, rules, suc}
 use Rattle.std.proofs.lemmas.Bool.{eq-eqb}
-use Rattle.std.proofs.lemmas.List.{get_or_default}
+use Rattle.std.proofs.lemmas.List.{get_or_default, get_or-map, length-map}
 use Rattle.std.proofs.lemmas.Map.Made.{AllPairs-from_IsDistinct}
-use Rattle.std.proofs.lemmas.Option.{same_Some, slice_get_within}
+use Rattle.std.proofs.lemmas.Option.{slice_get_within}
 use Rattle.ps_label.specs.Truth.{is_in}
 use Rattle.ps_certificate.specs.Certificates.{choice_of}
+use Rattle.ps_diagram.specs.Bits.{IsBit, have_leaves}
 use Rattle.ps_diagram.specs.Inner.Known.{pair_eq}
 use Rattle.ps_diagram.specs.Letters.{assignment, letter_of}
 use Rattle.ps_diagram.specs.Pairs.{IsPaired}
 use Rattle.ps_diagram.specs.Table.{Table, IsNode, IsSoundTable, leaf_of, tree_of}
 use Rattle.ps_diagram.proofs.NodeTables.KnownLemmas.{pair_same}
 use Rattle.ps_diagram.proofs.Letters.{leaf_by_number, letter_is, letter_lt}
+use Rattle.ps_machine.specs.BitMachines.{BitMachineData, bit_behaviour, nodes_of}
+use Rattle.ps_machine.specs.BitParts.{AreSameForOther, IsBitDiagram, IsNextDiagram, own_propositions}
 use Rattle.ps_machine.specs.Boards.{Board}
-use Rattle.ps_machine.specs.Extracting.{IsOtherLetter, is_others}
-use Rattle.ps_machine.specs.Machines.{MachineData, behaviour}
+use Rattle.ps_machine.specs.Extracting.{HasPropositions, IsOtherLetter, is_others}
 use Rattle.ps_machine.specs.Numbering.{StandsAt}
-use Rattle.ps_machine.specs.Solving.{winner_at_start}
-use Rattle.ps_machine.specs.Parts.{IsDiagramOf, LeadsToRowAt}
+use Rattle.ps_solver.specs.Solving.{winner_at_start}
+use Rattle.ps_machine.specs.declared.bit_machine.BitParts.{BitParts}
 use Rattle.ps_machine.specs.declared.key.Key.TheVariants.{First, Second}
-use Rattle.ps_machine.specs.declared.machine.MachineParts.{MachineParts}
-use Rattle.ps_machine.specs.declared.machine.Row.{Row}
 use Rattle.ps_machine.proofs.AutomatonGames.DecidedMoves.{part_same}
 use Rattle.ps_machine.proofs.AutomatonGames.GameKeys.Standing.{same_some}
 use Rattle.ps_machine.proofs.Machines.KeptMemories.{some_kept}
@@ -40,8 +41,8 @@ use Rattle.ps_basis.proofs.ArenaKeys.{index_once}
 use Rattle.ps_brief.specs.Settings.{board_in}
 use Rattle.ps_brief.specs.Inner.Drafts.{IsDraft, IsDraftAt, IsReady, play_of}
 use Rattle.ps_brief.specs.Inner.Reaching.{IsReached}
-use Rattle.ps_brief.specs.Inner.Rows.{ArePaired, AreRelabelled, AreRowsOf, HasMemories, IsDrawing, IsPairedNode}
-use Rattle.ps_brief.specs.Inner.Rows.{NamesRow}
+use Rattle.ps_brief.specs.Inner.Parts.{AreCopied, AreCopiedUpTo, AreMemoriesFor, ArePaired, AreRelabelled, HasMemories}
+use Rattle.ps_brief.specs.Inner.Parts.{IsDrawing, IsPairedNode}
 use Rattle.ps_brief.specs.declared.drafts.Draft.{Draft}
 use Rattle.ps_brief.specs.declared.drafts.Plan.{Plan}
 use Rattle.ps_brief.specs.declared.memories.Memories.{Memories}
@@ -49,7 +50,7 @@ use Rattle.ps_brief.specs.declared.reach.Reached.{Reached}
 use Rattle.ps_brief.proofs.DraftedMoves.Drafting.{some_same}
 use Rattle.ps_brief.proofs.DrawnMachines.KeptPlaces.{all_kept, each_kept}
 use Rattle.ps_brief.proofs.DrawnMachines.Reaches.{other_agrees, other_of, other_part}
-use Rattle.ps_brief.proofs.DrawnMachines.RowSteps.{row_at, steps_made}
+use Rattle.ps_brief.proofs.DrawnMachines.RowSteps.{bits_are, copied_here, next_at, steps_made}
 
 -- a pair has one index
 paired_once : (pairs : List (ℕ × ℕ)) → AllPairs (λ x y. x ≢ y) pairs → (a b c d : Option ℕ) → IsPaired pairs a b c →
@@ -75,8 +76,14 @@ output_once plan q p x y one other first differ output also =
     second_letter_same (same_some (sym a.target
     ∙ subst (λ (v : ℕ). StandsAt (play_of plan).others v (Second q other)) (sym chosen) b.target))
 
-row_says : {row found : Row} {letter : ℕ} → row ≡ found → found.letter ≡ letter → row.letter ≡ letter
-row_says {row} {found} {letter} same is = subst (λ (r : Row). r.letter ≡ letter) (sym same) is
+-- two letters with the same bits are alike for each of them
+place_same : (t : Table) (nodes : List ℕ) (place x y : ℕ) → place < length nodes →
+    have_leaves t nodes x ≡ have_leaves t nodes y →
+    is_some (leaf_of t (slice_index nodes place) x) ≡ is_some (leaf_of t (slice_index nodes place) y)
+place_same t nodes place x y within e =
+    sym (get_or-map (λ node. is_some (leaf_of t node x)) nodes place 0 false within)
+    ∙ ap (λ (bs : List Bool). get_or bs place false) e
+    ∙ get_or-map (λ node. is_some (leaf_of t node y)) nodes place 0 false within
 
 module _ (plan : Plan) {t : Table} (ready : IsReady plan t) (sound : IsSoundTable t) where
   abbrev board : Board
@@ -106,109 +113,114 @@ module _ (plan : Plan) {t : Table} (ready : IsReady plan t) (sound : IsSoundTabl
       bit : (z p : ℕ) → p < board.propositions → is_in p (cut z) ≡ is_in p z
       bit z p less = letter_is t.propositions (assignment z) p (subst (λ (n : ℕ). p < n) (sym size) less)
 
+  leaves_cut : (nodes : List ℕ) (x : ℕ) → All (IsBit t) nodes → have_leaves t nodes x ≡ have_leaves t nodes (cut x)
+  leaves_cut [] x each = refl
+  leaves_cut (node ∷ nodes) x each =
+      ap₂ (λ (o : Option ℕ) (bs : List Bool). is_some o ∷ bs) (leaf_cut node x (each 0 node (omega arith)).held)
+      (leaves_cut nodes x (λ i e less. each (suc i) e (omega (arith, less))))
+
   module _ (q p : ℕ) (draft : Draft) (is : IsDraft plan t q p draft) where
     steps_other : (x : ℕ) → leaf_of t draft.steps x ≡ leaf_of t draft.steps (other x)
     steps_other x = leaf_cut draft.steps x is.heeds.steps_held
         ∙ is.heeds.steps (cut x) (other x) (other_agrees plan ready.fits (cut x) (cut_below x))
 
-    letters_other : (x : ℕ) → leaf_of t draft.letters x ≡ leaf_of t draft.letters (other x)
-    letters_other x = leaf_cut draft.letters x is.heeds.letters_held
-        ∙ is.heeds.letters (cut x) (other x) (other_agrees plan ready.fits (cut x) (cut_below x))
+    bits_other : (x : ℕ) → have_leaves t draft.bits.items x ≡ have_leaves t draft.bits.items (other x)
+    bits_other x = leaves_cut draft.bits.items x is.heeds.bits_held
+        ∙ is.heeds.bits (cut x) (other x) (other_agrees plan ready.fits (cut x) (cut_below x))
 
   module _ (reached : Reached) (is : IsReached plan t reached) (memories : Memories)
       (m : HasMemories plan reached memories) (pairs : List (ℕ × ℕ)) (differ : AllPairs (λ x y. x ≢ y) pairs)
-      (nodes values : List ℕ) (d : MachineParts)
-      (paired : ArePaired plan t memories.kept.items pairs nodes (length memories.kept.items))
-      (rows : AreRowsOf plan memories.kept.items pairs d.rows.keys values (length pairs))
-      (relabelled : AreRelabelled t d.store values nodes d.nodes.items (length memories.kept.items))
+      (old values : List ℕ) (d : BitParts)
+      (paired : ArePaired plan t reached memories.kept.items pairs old (length memories.kept.items))
+      (for : AreMemoriesFor plan memories.kept.items pairs values (length pairs))
+      (relabelled : AreRelabelled t d.store values old d.nodes.items (length memories.kept.items))
+      (copied : AreCopiedUpTo plan t d.store reached memories.kept.items d.bits.items (length memories.kept.items))
       (letters : d.store.propositions ≡ t.propositions) where
     abbrev kept : List ℕ
     kept = memories.kept.items
 
-    -- the machine, apart from its propositions
-    abbrev machine : MachineData
-    machine = record {
-      names = [];
-      inputs = [];
-      outputs = [];
-      player = 0;
-      is_first = plan.moves_first;
-      store = d.store;
-      nodes = d.nodes.items;
-      rows = d.rows.keys;
-    }
-
     module _ (memory : ℕ) (within : memory < length kept) where
       abbrev node : ℕ
-      node = slice_index nodes memory
+      node = slice_index old memory
 
-      abbrev here : IsPairedNode plan t pairs (slice_index kept memory) node
+      abbrev here : IsPairedNode plan t reached pairs (slice_index kept memory) node
       here = paired.each memory within
 
-      abbrev at : (x : ℕ) → IsDraftAt plan t here.state here.priority here.draft (other x)
-      at x = here.is_draft.at (other x) (other_part plan (cut x))
+      abbrev diagrams : List ℕ
+      diagrams = slice_index_or (map nodes_of d.bits.items) memory []
 
-      paired_at : (x y : ℕ) → other x ≡ other y → IsPaired pairs (leaf_of t here.draft.steps (other x))
-          (leaf_of t here.draft.letters (other x)) (leaf_of t node y)
+      abbrev has_bits : AreCopied plan t d.store reached (slice_index kept memory) diagrams
+      has_bits = copied_here plan plan.arena.now ready.playable ready.fits reached kept pairs old values d.nodes.items
+          d.bits.items paired for relabelled copied memory within
+
+      abbrev at : (x : ℕ) → IsOtherLetter plan.moves_first board x →
+          IsDraftAt plan t here.has.state here.has.priority here.has.draft x
+      at x is_other = here.has.is_draft.at x is_other
+
+      bits_at_letter : (x : ℕ) → (is_other : IsOtherLetter plan.moves_first board x) →
+          have_leaves d.store diagrams x ≡
+          map (λ p. is_in p (at x is_other).letter) (own_propositions plan.moves_first board)
+      bits_at_letter x is_other = bits_are plan plan.arena.now ready.playable ready.fits reached kept pairs old values
+          d.nodes.items d.bits.items paired for relabelled copied memory within x is_other
+
+      paired_at : (x y : ℕ) → other x ≡ other y → IsPaired pairs (leaf_of t here.has.draft.steps (other x))
+          (leaf_of t here.has.draft.steps (other x)) (leaf_of t node y)
       paired_at x y same =
-          let to_steps : leaf_of t here.draft.steps y ≡ leaf_of t here.draft.steps (other x) =
-          steps_other here.state here.priority here.draft here.is_draft y
-          ∙ ap (λ (z : ℕ). leaf_of t here.draft.steps z) (sym same) in
-          let to_letters : leaf_of t here.draft.letters y ≡ leaf_of t here.draft.letters (other x) =
-          letters_other here.state here.priority here.draft here.is_draft y
-          ∙ ap (λ (z : ℕ). leaf_of t here.draft.letters z) (sym same) in
-          subst (λ (o : Option ℕ). IsPaired pairs (leaf_of t here.draft.steps (other x)) o (leaf_of t node y))
-          to_letters
-          (subst (λ (o : Option ℕ). IsPaired pairs o (leaf_of t here.draft.letters y) (leaf_of t node y)) to_steps
-          (here.paired y))
+          let to_steps : leaf_of t here.has.draft.steps y ≡ leaf_of t here.has.draft.steps (other x) =
+          steps_other here.has.state here.has.priority here.has.draft here.has.is_draft y
+          ∙ ap (λ (z : ℕ). leaf_of t here.has.draft.steps z) (sym same) in
+          subst (λ (o : Option ℕ). IsPaired pairs o o (leaf_of t node y)) to_steps (here.paired y)
 
-      heeds : (x y : ℕ) → ((p : ℕ) → p < board.propositions → is_others plan.moves_first board p ≡ true →
-          is_in p x ≡ is_in p y) → leaf_of d.store (slice_index d.nodes.items memory) x
-          ≡ leaf_of d.store (slice_index d.nodes.items memory) y
-      heeds x y same =
-          let leaf : leaf_of t node x ≡ leaf_of t node y = paired_once pairs differ
-          (leaf_of t here.draft.steps (other x)) (leaf_of t here.draft.letters (other x)) (leaf_of t node x)
-          (leaf_of t node y) (paired_at x x refl) (paired_at x y (same_other x y same)) in
-          relabelled.leaves memory x within ∙ ap (λ (o : Option ℕ). option_map (λ k. slice_index values k) o) leaf
-          ∙ sym (relabelled.leaves memory y within)
-
-      -- the row at any letter has the winner's letter
-      row_letter : (x : ℕ) (row : Row) → LeadsToRowAt d.store d.rows.keys (slice_index d.nodes.items memory) x row →
-          row.letter ≡ (at x).letter
-      row_letter x row leads =
-          let pair : IsPaired pairs (Some (at x).leaf) (Some (at x).letter) (leaf_of t node x) =
-          subst (λ (o : Option ℕ). IsPaired pairs (Some (at x).leaf) o (leaf_of t node x)) (at x).plays
-          (subst (λ (o : Option ℕ). IsPaired pairs o (leaf_of t here.draft.letters (other x)) (leaf_of t node x))
-          (at x).step (paired_at x x refl)) in
-          let names : NamesRow plan kept d.rows.keys ((at x).leaf, (at x).letter) (slice_index values pair.0) =
-          rows.each pair.0 ((at x).leaf, (at x).letter)
-          (slice_get_within pairs pair.0 ((at x).leaf, (at x).letter) pair.2) pair.2 in
-          let leaf : Some leads.leaf ≡ Some (slice_index values pair.0) = sym leads.is_leaf
-          ∙ relabelled.leaves memory x within
-          ∙ ap (λ (o : Option ℕ). option_map (λ k. slice_index values k) o) pair.1 in
-          let leaf_is : leads.leaf ≡ slice_index values pair.0 =
-          same_Some leads.leaf (slice_index values pair.0) leaf in
-          let both : Some row ≡ Some names.row =
-          sym leads.is_row ∙ ap (λ (i : ℕ). slice_get d.rows.keys i) leaf_is ∙ names.stands in
-          row_says (same_Some row names.row both) names.is_row.letter
-
-      is_diagram : IsDiagramOf plan.moves_first board d.store d.rows.keys (slice_index d.nodes.items memory)
-      is_diagram = record {
+      is_next : IsNextDiagram plan.moves_first board d.store (length kept) (slice_index d.nodes.items memory)
+      is_next = record {
         held = relabelled.held memory within;
-        leads = λ x is_other. leads_at x is_other;
-        heeds = heeds;
-        blind = λ first x y one two at_x at_y. row_letter x one at_x
-            ∙ output_once plan here.state here.priority (other x)
-            (other y) (at x).letter (at y).letter first ready.playable.once (at x).output (at y).output
-            ∙ sym (row_letter y two at_y);
+        leads = λ x is_other.
+            let n = next_at plan plan.arena.now ready.playable ready.fits reached kept pairs old values d.nodes.items
+            d.bits.items paired for relabelled copied memory within x is_other in
+            subst (λ (o : Option ℕ). IsSomeAnd o (λ k. k < length kept)) (sym n.leaf) n.for.within;
+        heeds = λ x y same.
+            let leaf : leaf_of t node x ≡ leaf_of t node y = paired_once pairs differ
+            (leaf_of t here.has.draft.steps (other x)) (leaf_of t here.has.draft.steps (other x)) (leaf_of t node x)
+            (leaf_of t node y) (paired_at x x refl) (paired_at x y (same_other x y same)) in
+            relabelled.leaves memory x within ∙ ap (λ (o : Option ℕ). option_map (λ k. slice_index values k) o) leaf
+            ∙ sym (relabelled.leaves memory y within);
       }
-        where
-          leads_at : (x : ℕ) → IsOtherLetter plan.moves_first board x → (row : Row) × LeadsToRowAt d.store d.rows.keys
-              (slice_index d.nodes.items memory) x row
-          leads_at x is_other =
-              let (row, found) = row_at plan plan.arena.now ready.playable kept pairs nodes values machine refl
-              paired.each rows relabelled memory x within is_other in
-              (row, record { leaf = found.leaf; is_leaf = found.is_leaf; is_row = found.is_row })
+
+      bits_heed : (x y : ℕ) → AreSameForOther plan.moves_first board x y →
+          have_leaves d.store diagrams x ≡ have_leaves d.store diagrams y
+      bits_heed x y same =
+          let draft = has_bits.has.draft in
+          let to_other = bits_other has_bits.has.state has_bits.has.priority draft has_bits.has.is_draft in
+          has_bits.same x ∙ to_other x
+          ∙ ap (λ (z : ℕ). have_leaves t draft.bits.items z) (same_other x y same) ∙ sym (to_other y)
+          ∙ sym (has_bits.same y)
+
+      bits_blind : plan.moves_first ≡ true → (x y : ℕ) → IsOtherLetter plan.moves_first board x →
+          IsOtherLetter plan.moves_first board y → have_leaves d.store diagrams x ≡ have_leaves d.store diagrams y
+      bits_blind first x y one two =
+          let same : (at x one).letter ≡ (at y two).letter = output_once plan here.has.state here.has.priority x y
+          (at x one).letter (at y two).letter first ready.playable.once (at x one).output (at y two).output in
+          bits_at_letter x one
+          ∙ ap (λ (letter : ℕ). map (λ p. is_in p letter) (own_propositions plan.moves_first board)) same
+          ∙ sym (bits_at_letter y two)
+
+      as_many : length diagrams ≡ length (own_propositions plan.moves_first board)
+      as_many =
+          let x : ℕ = other 0 in
+          let is_other : IsOtherLetter plan.moves_first board x = other_part plan (cut 0) in
+          sym (length-map diagrams (λ n. is_some (leaf_of d.store n x)))
+          ∙ ap (λ (bs : List Bool). length bs) (bits_at_letter x is_other)
+          ∙ length-map (own_propositions plan.moves_first board) (λ p. is_in p (at x is_other).letter)
+
+      is_bit : (place : ℕ) → place < length (own_propositions plan.moves_first board) →
+          IsBitDiagram plan.moves_first board d.store (slice_index diagrams place)
+      is_bit place less =
+          let inside : place < length diagrams = omega (arith, less, as_many) in
+          record {
+            held = has_bits.held place 0 inside;
+            heeds = λ x y same. place_same d.store diagrams place x y inside (bits_heed x y same);
+            blind = λ first x y one two. place_same d.store diagrams place x y inside (bits_blind first x y one two);
+          }
 
     some_memory : 0 < length kept
     some_memory = some_kept m 0 (play_of plan).board.auto.start ready.playable.begins
@@ -223,18 +235,16 @@ module _ (plan : Plan) {t : Table} (ready : IsReady plan t) (sound : IsSoundTabl
       parts = record {
         letters = letters ∙ size;
         some = subst (λ (n : ℕ). 0 < n) (sym relabelled.many) some_memory;
-        rows = λ i r within. (
-          subst (λ (n : ℕ). (get_or d.rows.keys i r).memory < n) (sym relabelled.many) (rows.rows_are i r within).0,
-          (rows.rows_are i r within).1,
-        );
-        each = λ memory within. is_diagram memory (subst (λ (n : ℕ). memory < n) relabelled.many within);
+        each = λ memory less. subst (λ (n : ℕ). IsNextDiagram plan.moves_first board d.store n
+            (slice_index d.nodes.items memory)) (sym relabelled.many)
+            (is_next memory (subst (λ (n : ℕ). memory < n) relabelled.many less));
+        many = copied.many ∙ sym relabelled.many;
+        full = λ memory less. as_many memory (subst (λ (n : ℕ). memory < n) relabelled.many less);
+        bits = λ memory place less. is_bit memory (subst (λ (n : ℕ). memory < n) relabelled.many less) place;
       };
-      steps = λ made first store_is nodes_are rows_are memory x within is_other. steps_made plan plan.arena.now
-          ready.playable kept pairs nodes values made first paired.each
-          (subst (λ (rs : List Row). AreRowsOf plan kept pairs rs values (length pairs)) (sym rows_are) rows)
-          (subst (λ (u : Table). AreRelabelled t u values nodes made.nodes (length kept)) (sym store_is)
-          (subst (λ (ns : List ℕ). AreRelabelled t d.store values nodes ns (length kept)) (sym nodes_are) relabelled))
-          memory x within is_other;
+      steps = λ made first store_is nodes_are bits_is outputs_are names memory x within is_other. steps_made plan
+          plan.arena.now ready.playable ready.fits reached kept pairs old values d.nodes.items d.bits.items paired for
+          relabelled copied made first store_is nodes_are bits_is outputs_are names memory x within is_other;
     }
 
 -- ## The pairs' indices
@@ -251,45 +261,66 @@ leaf_within pairs (Some k) None o none = subst (λ (e : Option ℕ). IfSome e (�
 leaf_within pairs (Some k) (Some m) o (place, leaf, at) =
     subst (λ (e : Option ℕ). IfSome e (λ k. k < length pairs)) (sym leaf) (slice_get_within pairs place (k, m) at)
 
-pub within_values : (plan : Plan) {t : Table} (kept : List ℕ) (pairs : List (ℕ × ℕ)) (nodes values : List ℕ) →
-    ArePaired plan t kept pairs nodes (length kept) → length values ≡ length pairs → (i d : ℕ) → i < length nodes →
+pub within_values : (plan : Plan) {t : Table} (reached : Reached) (kept : List ℕ) (pairs : List (ℕ × ℕ))
+    (nodes values : List ℕ) → ArePaired plan t reached kept pairs nodes (length kept) →
+    length values ≡ length pairs → (i d : ℕ) → i < length nodes →
     (x : ℕ) → IfSome (leaf_of t (slice_index_or nodes i d) x) (λ k. k < length values)
-within_values plan {t} kept pairs nodes values paired many i d within x =
-    let here : IsPairedNode plan t pairs (slice_index kept i) (slice_index nodes i) =
+within_values plan {t} reached kept pairs nodes values paired many i d within x =
+    let here : IsPairedNode plan t reached pairs (slice_index kept i) (slice_index nodes i) =
     paired.each i (omega (arith, within, paired.many)) in
     let below : IfSome (leaf_of t (slice_index nodes i) x) (λ k. k < length values) =
     subst (λ (n : ℕ). IfSome (leaf_of t (slice_index nodes i) x) (λ k. k < n)) (sym many)
-    (leaf_within pairs (leaf_of t here.draft.steps x) (leaf_of t here.draft.letters x)
+    (leaf_within pairs (leaf_of t here.has.draft.steps x) (leaf_of t here.has.draft.steps x)
     (leaf_of t (slice_index nodes i) x) (here.paired x)) in
     subst (λ (node : ℕ). IfSome (leaf_of t node x) (λ k. k < length values)) (get_or_default nodes i 0 d within) below
 
 -- ## The machine
 
-is_machine : (plan : Plan) {t : Table} → IsReady plan t → (kept : List ℕ) (d : MachineParts) → IsDrawing plan kept d →
-    (m : MachineData) → m.player ≡ winner_at_start plan.certificate.now → m.is_first ≡ plan.moves_first →
-    m.store ≡ d.store → m.nodes ≡ d.nodes.items → m.rows ≡ d.rows.keys → IsMachineByRounds (play_of plan) (behaviour m)
-is_machine plan ready kept d is m player first store nodes rows = record {
-  player = player;
-  is_first = first ∙ ready.playable.turn;
+-- what is said of the machine that has the parts
+record HasParts (plan : Plan) (d : BitParts) (winner : ℕ) (m : BitMachineData) : Type 0 where
+  player : m.player ≡ winner
+  first : m.is_first ≡ plan.moves_first
+  store : m.store ≡ d.store
+  nodes : m.nodes ≡ d.nodes.items
+  bits : m.bits ≡ map nodes_of d.bits.items
+  outputs : m.outputs ≡ own_propositions plan.moves_first (board_in plan.setting.now)
+  names : length m.names ≡ (board_in plan.setting.now).propositions
+
+by_rounds : (plan : Plan) {t : Table} → IsReady plan t → (kept : List ℕ) (d : BitParts) → IsDrawing plan kept d →
+    (player : ℕ) → player ≡ winner_at_start plan.certificate.now → (m : BitMachineData) → HasParts plan d player m →
+    IsMachineByRounds (play_of plan) (bit_behaviour m)
+by_rounds plan ready kept d is player is_winner m has = record {
+  player = has.player ∙ is_winner;
+  is_first = has.first ∙ ready.playable.turn;
   kept = kept;
   rising = is.rising;
-  each = subst (λ (f : Bool). All (IsFirstReached (play_of plan) f) kept) (sym first) is.each;
+  each = subst (λ (f : Bool). All (IsFirstReached (play_of plan) f) kept) (sym has.first) is.each;
   complete =
-      subst (λ (f : Bool). (v : ℕ) → IsFirstReached (play_of plan) f v → Contains kept v) (sym first) is.complete;
+      subst (λ (f : Bool). (v : ℕ) → IsFirstReached (play_of plan) f v → Contains kept v) (sym has.first) is.complete;
   memories = many;
-  steps = λ memory x within other. is.steps m first store nodes rows memory x
+  steps = λ memory x within other. is.steps m has.first has.store has.nodes has.bits has.outputs has.names memory x
       (subst (λ (n : ℕ). memory < n) many within) other;
 }
   where
     many : length m.nodes ≡ length kept
-    many = ap (λ (xs : List ℕ). length xs) nodes ∙ is.many
+    many = ap (λ (xs : List ℕ). length xs) has.nodes ∙ is.many
 
-pub by_rounds : (plan : Plan) {t : Table} → IsReady plan t → (kept : List ℕ) (d : MachineParts) →
-    IsDrawing plan kept d → (player : ℕ) → player ≡ winner_at_start plan.certificate.now →
-    {E : Type 0} (r : Result MachineData E) →
-    IfOk r (λ m. m.player ≡ player) → IfOk r (λ m. m.is_first ≡ plan.moves_first) → IfOk r (λ m. m.store ≡ d.store) →
-    IfOk r (λ m. m.nodes ≡ d.nodes.items) → IfOk r (λ m. m.rows ≡ d.rows.keys) →
-    IfOk r (λ m. IsMachineByRounds (play_of plan) (behaviour m))
-by_rounds plan ready places d is player is_winner (Ok m) plays first store nodes rows =
-    is_machine plan ready places d is m (plays ∙ is_winner) first store nodes rows
-by_rounds plan ready places d is player is_winner (Err e) plays first store nodes rows = tt
+pub made_by_rounds : (plan : Plan) {t : Table} → IsReady plan t → (kept : List ℕ) (d : BitParts) →
+    IsDrawing plan kept d → (player : ℕ) → player ≡ winner_at_start plan.certificate.now → {E : Type 0}
+    (r : Result BitMachineData E) → IfOk r (λ m. m.player ≡ player) → IfOk r (λ m. m.is_first ≡ plan.moves_first) →
+    IfOk r (λ m. m.store ≡ d.store) → IfOk r (λ m. m.nodes ≡ d.nodes.items) →
+    IfOk r (λ m. m.bits ≡ map nodes_of d.bits.items) →
+    IfOk r (λ m. m.outputs ≡ own_propositions plan.moves_first (board_in plan.setting.now)) →
+    IfOk r (λ m. HasPropositions plan.setting.now.automaton.now.names (board_in plan.setting.now) (bit_behaviour m)) →
+    IfOk r (λ m. IsMachineByRounds (play_of plan) (bit_behaviour m))
+made_by_rounds plan ready kept d is player is_winner (Ok m) plays first store nodes bits outputs named =
+    by_rounds plan ready kept d is player is_winner m (record {
+      player = plays;
+      first = first;
+      store = store;
+      nodes = nodes;
+      bits = bits;
+      outputs = outputs;
+      names = ap (λ (ns : List (List ℕ)). length ns) named.names_are ∙ named.as_many;
+    })
+made_by_rounds plan ready kept d is player is_winner (Err e) plays first store nodes bits outputs named = tt

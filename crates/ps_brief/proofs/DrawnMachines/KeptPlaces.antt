@@ -13,7 +13,7 @@ use Rattle.ps_basis.specs.Memories.{IsFirstReached}
 use Rattle.ps_basis.proofs.ArenaKeys.{index_once}
 use Rattle.ps_brief.specs.Inner.Drafts.{play_of}
 use Rattle.ps_brief.specs.Inner.Reaching.{IsFound, IsReached, Reaches}
-use Rattle.ps_brief.specs.Inner.Rows.{HasMemories}
+use Rattle.ps_brief.specs.Inner.Parts.{HasMemories}
 use Rattle.ps_brief.specs.declared.drafts.Plan.{Plan}
 use Rattle.ps_brief.specs.declared.memories.Memories.{Memories}
 use Rattle.ps_brief.specs.declared.reach.Reached.{Reached}

@@ -11,7 +11,7 @@ use Rattle.ps_certificate.specs.Certificates.{CertificateData, Fits, IsValid, wi
 use Rattle.ps_certificate.proofs.FlawsAndValidity.SuccessorEdges.{IsSomeAnd-at, some_of}
 use Rattle.ps_machine.specs.Boards.{Board, IsFirstLetter, IsGameOf}
 use Rattle.ps_machine.specs.Numbering.{StandsAt}
-use Rattle.ps_machine.specs.Solving.{winner_at_start}
+use Rattle.ps_solver.specs.Solving.{winner_at_start}
 use Rattle.ps_machine.specs.declared.key.Key.{Key}
 use Rattle.ps_machine.specs.declared.key.Key.TheVariants.{First, Second}
 use Rattle.ps_machine.proofs.AutomatonGames.GameKeys.Standing.{same_some}

@@ -4,7 +4,7 @@
 -- - `reached_kept`: what was found stays right when the store gets more nodes
 -- - `visited_again`, `visited_now`: one more key is visited
 use Rattle.std.specs.Prelude.{◌≡◌, ◌≢◌, ℕ, ◌+◌, ◌<◌, ◌≤◌, ◌∷◌, [], List, length, None, Option, Some}
-use Rattle.std.specs.Prelude.{is_some, nat_eq, true}
+use Rattle.std.specs.Prelude.{is_some, map, nat_eq, true}
 use Rattle.std.specs.Prelude.{slice_get}
 use Rattle.std.specs.List.{All, Contains, IsDistinct}
 use Rattle.std.proofs.Common.{sym, ◌∙◌, subst, ap, refl, inl, inr, arith, eqb, get_or, zero, suc}
@@ -15,14 +15,17 @@ use Rattle.std.proofs.lemmas.Option.{get_or_from_slice_get, same_Some, slice_get
 use Rattle.std.proofs.lemmas.Map.Steps.{length-le_from_distinct_below}
 use Rattle.std.proofs.lemmas.Map.Views.{Contains-from_any}
 use Rattle.indexmap.specs.IndexMap.{get}
+use Rattle.ps_label.specs.Truth.{is_in}
+use Rattle.ps_diagram.specs.Bits.{have_leaves, propositions_in}
 use Rattle.ps_diagram.specs.Table.{Table, IsNode, Keeps, leaf_of}
+use Rattle.ps_diagram.proofs.TreeOperations.BitLists.{bits_kept, leaves_kept}
 use Rattle.ps_diagram.proofs.NodeTables.Cells.{true_is_not_false}
 use Rattle.ps_machine.specs.Inner.Drawing.{anchor_of}
 use Rattle.ps_machine.specs.Numbering.{StandsAt}
 use Rattle.ps_machine.specs.declared.key.Key.TheVariants.{First}
 use Rattle.ps_machine.proofs.AutomatonGames.GameKeys.Standing.{same_some, slice_get-left}
 use Rattle.ps_basis.specs.ArenaMoves.{at_start}
-use Rattle.ps_brief.specs.Inner.Drafts.{IsDraft, IsDraftAt, IsDrafted, play_of}
+use Rattle.ps_brief.specs.Inner.Drafts.{IsDraft, IsDraftAt, IsDrafted, own_mask, play_of}
 use Rattle.ps_brief.specs.Inner.Playable.{Comes}
 use Rattle.ps_brief.specs.Inner.Reaching.{GrowsTo, HasDraft, IsEntered, IsFound, IsReached, IsReachedUpTo, IsRight}
 use Rattle.ps_brief.specs.Inner.Reaching.{Reaches}
@@ -40,9 +43,9 @@ module _ (plan : Plan) {s t : Table} (keeps : Keeps s t) (draft : Draft) where
   draft_kept q p is = record {
     heeds = record {
       steps_held = keeps.held draft.steps is.heeds.steps_held;
-      letters_held = keeps.held draft.letters is.heeds.letters_held;
+      bits_held = bits_kept draft.bits.items keeps is.heeds.bits_held;
       steps = λ u v off. step u ∙ is.heeds.steps u v off ∙ sym (step v);
-      letters = λ u v off. letter u ∙ is.heeds.letters u v off ∙ sym (letter v);
+      bits = λ u v off. bit u ∙ is.heeds.bits u v off ∙ sym (bit v);
     };
     at = λ x other. again x (is.at x other);
     rounds = λ r s round. on (is.rounds r s round);
@@ -51,15 +54,18 @@ module _ (plan : Plan) {s t : Table} (keeps : Keeps s t) (draft : Draft) where
       step : (x : ℕ) → leaf_of t draft.steps x ≡ leaf_of s draft.steps x
       step x = leaf_kept draft.steps x keeps is.heeds.steps_held
 
-      letter : (x : ℕ) → leaf_of t draft.letters x ≡ leaf_of s draft.letters x
-      letter x = leaf_kept draft.letters x keeps is.heeds.letters_held
+      bit : (x : ℕ) → have_leaves t draft.bits.items x ≡ have_leaves s draft.bits.items x
+      bit x = leaves_kept draft.bits.items x keeps is.heeds.bits_held
 
       again : (x : ℕ) → IsDraftAt plan s q p draft x → IsDraftAt plan t q p draft x
       again x one = record {
         leaf = one.leaf;
         letter = one.letter;
         step = step x ∙ one.step;
-        plays = letter x ∙ one.plays;
+        plays = bit x ∙ one.plays
+            ∙ ap (λ (n : ℕ). map (λ p. is_in p one.letter)
+            (propositions_in (own_mask plan.moves_first plan.setting.now) n))
+            (sym keeps.propositions);
         own = one.own;
         within = one.within;
         goes = one.goes;

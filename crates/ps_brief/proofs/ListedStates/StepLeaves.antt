@@ -3,10 +3,11 @@
 -- - `can_go`: so the projection has a leaf where the second player can make it
 -- - `least_step`: its least letter, and then the least of the second player's, are the least that make the step
 use Rattle.std.specs.Prelude.{◌≡◌, ◌↔◌, ℕ, ◌+◌, ◌^◌, ◌<◌, ◌≤◌, length, Option, Some, None, IsSome, MatchOption, nat_eq}
+use Rattle.std.specs.Prelude.{Bool, cond}
 use Rattle.std.specs.Option.{unwrap_or}
 use Rattle.std.proofs.Common.{ap, sym, ◌∙◌, subst, refl, inl, inr}
 use Rattle.std.proofs.lemmas.Bool.{cases_Bool, eq-eqb, eqb-true}
-use Rattle.ps_diagram.specs.Hidden.{AreLeastLetters, HasLeafBehind, HasNoLeafBehind, IsLeafBehind, IsProjection}
+use Rattle.ps_diagram.specs.Hidden.{HasLeafBehind, HasNoLeafBehind, IsLeafBehind, IsProjection}
 use Rattle.ps_diagram.specs.Hidden.{one_for}
 use Rattle.ps_diagram.specs.Letters.{IsLeastLetter}
 use Rattle.ps_diagram.specs.Reached.{LeadsToLeaf}
@@ -19,7 +20,7 @@ use Rattle.ps_machine.proofs.AutomatonGames.BoardLetters.{second_is, second_of}
 use Rattle.ps_basis.specs.ArenaMoves.{GoesThere}
 use Rattle.ps_basis.specs.Bases.{CanGoTo}
 use Rattle.ps_basis.specs.PairOrder.{IsLeastStep}
-use Rattle.ps_brief.specs.Inner.Placing.{MakesStep}
+use Rattle.ps_brief.specs.Inner.Placing.{IsAnswer, IsAnswered, MakesStep}
 use Rattle.ps_brief.specs.Settings.{Fits, board_in}
 use Rattle.ps_brief.specs.declared.setting.Setting.{Setting}
 use Rattle.ps_brief.proofs.BasesOfLetters.Behind.{clear, first_agrees, first_itself, first_of, first_part, over}
@@ -38,6 +39,9 @@ one_is value (Some k) is = elim (cases_Bool (nat_eq k value)) [
 
 pub one_at : (value : ℕ) (leaf : Option ℕ) → leaf ≡ Some value → IsSome (one_for value leaf)
 one_at value leaf e = rw (e, eq-eqb value value refl) refl
+
+one_same : (value : ℕ) → one_for value (Some value) ≡ Some 1
+one_same value = ap (λ (b : Bool). cond b (Some 1) None) (eq-eqb value value refl)
 
 pub is_there : (P : Type 0) (Q : ℕ → Type 0) (o : Option ℕ) → MatchOption o P Q → IsSome o →
     (k : ℕ) × (o ≡ Some k) × Q k
@@ -95,6 +99,9 @@ module _ (setting : Setting) {s : Table} (fits : Fits setting s) (q : ℕ) (in_s
       goes.priority ∙ sym is_step in
       at ∙ ap (λ (i : ℕ). Some i) (fits.fit.whole.once k leaf within named same)
 
+  as_stored : (z : ℕ) → leaf_of s node z ≡ leaf_of a.store node z
+  as_stored z = leaf_kept node z fits.fit.keeps (fits.fit.whole.held q in_states)
+
   goes_to : (x y : ℕ) → GoesThere board q x step.state step.priority y →
       CanGoTo board q x step.state step.priority
   goes_to x y goes = record {
@@ -112,9 +119,6 @@ module _ (setting : Setting) {s : Table} (fits : Fits setting s) (q : ℕ) (in_s
 
   module _ {t : Table} (making : ℕ) (keeps : Keeps s t)
       (selects : (z : ℕ) → leaf_of t making z ≡ one_for leaf (leaf_of s node z)) where
-    node_same : (z : ℕ) → leaf_of s node z ≡ leaf_of a.store node z
-    node_same z = leaf_kept node z fits.fit.keeps (fits.fit.whole.held q in_states)
-
     many_now : t.propositions ≡ board.propositions
     many_now = keeps.propositions ∙ many
 
@@ -125,7 +129,7 @@ module _ (setting : Setting) {s : Table} (fits : Fits setting s) (q : ℕ) (in_s
         let at : leaf_of s node (x + y) ≡ Some leaf = one_is leaf (leaf_of s node (x + y))
         (subst (λ (o : Option ℕ). IsSome o) (selects (x + y)) has.leaf) in
         goes_by_leaf x y (over_second board setting.second fits.second y within has.own)
-        (sym (node_same (x + y)) ∙ at)
+        (sym (as_stored (x + y)) ∙ at)
 
     pub has_behind : (x y : ℕ) → GoesThere board q x step.state step.priority y →
         HasLeafBehind t making setting.second x y
@@ -133,7 +137,7 @@ module _ (setting : Setting) {s : Table} (fits : Fits setting s) (q : ℕ) (in_s
       within = subst (λ (n : ℕ). y < 2 ^ n) (sym many_now) goes.is_letter.within;
       own = over board setting.second fits.second y goes.is_letter;
       leaf = subst (λ (o : Option ℕ). IsSome o) (sym (selects (x + y)))
-          (one_at leaf (leaf_of s node (x + y)) (node_same (x + y) ∙ leaf_by_going x y goes));
+          (one_at leaf (leaf_of s node (x + y)) (as_stored (x + y) ∙ leaf_by_going x y goes));
     }
 
   -- ## The letters behind which the step can be made
@@ -203,29 +207,34 @@ module _ (setting : Setting) {s : Table} (fits : Fits setting s) (q : ℕ) (in_s
               (subst (λ (n : ℕ). z < 2 ^ n) (sym size) is.0.within, one_there z is.0 is.1) before;
         }
 
-        module _ {v w : Table} (answers : ℕ) (keeps_on : Keeps s v)
-            (still : (z : ℕ) → leaf_of v making z ≡ one_for leaf (leaf_of s node z))
-            (answer : AreLeastLetters v w making setting.second answers) where
-          pub least_step : (y : ℕ) → leaf_of w answers x ≡ Some y →
-              IsLeastStep board q step.state step.priority x y
-          least_step y at =
-              let found : IsLeastLetter (HasLeafBehind v making setting.second x) y =
-              is_at (HasNoLeafBehind v making setting.second x)
-              (IsLeastLetter (HasLeafBehind v making setting.second x)) (leaf_of w answers x) y
-              (answer.leaf x (clear board setting.second fits.second x x_first)) at in
-              record {
-                first = first_least;
-                second = record {
-                  here = goes_behind making keeps_on still x y found.here;
-                  none_before = λ z goes before.
-                      found.none_before z (has_behind making keeps_on still x z goes) before;
-                };
-              }
+        module _ {v : Table} (still : (z : ℕ) → leaf_of v making z ≡ one_for leaf (leaf_of s node z)) where
+          answer_by_going : (y : ℕ) → GoesThere board q x step.state step.priority y → IsAnswer board v making x y
+          answer_by_going y goes = record {
+            is_letter = goes.is_letter;
+            leaf = still (x + y) ∙ ap (λ (o : Option ℕ). one_for leaf o) (as_stored (x + y) ∙ leaf_by_going x y goes)
+                ∙ one_same leaf;
+          }
+
+          going_by_answer : (y : ℕ) → IsAnswer board v making x y → GoesThere board q x step.state step.priority y
+          going_by_answer y answer =
+              let here : leaf_of s node (x + y) ≡ Some leaf = one_is leaf (leaf_of s node (x + y))
+              (some_is (one_for leaf (leaf_of s node (x + y))) 1 (sym (still (x + y)) ∙ answer.leaf)) in
+              goes_by_leaf x y answer.is_letter (sym (as_stored (x + y)) ∙ here)
 
           -- there is an answer
-          pub has_answer : IsSome (leaf_of w answers x)
-          has_answer = some_or_missing (HasNoLeafBehind v making setting.second x)
-              (IsLeastLetter (HasLeafBehind v making setting.second x)) (leaf_of w answers x)
-              (answer.leaf x (clear board setting.second fits.second x x_first))
-              (λ none. none x_goes.letter
-              (has_behind making keeps_on still x x_goes.letter (goes_from x x_goes)))
+          pub has_answer : IsAnswered board v making x
+          has_answer = record {
+            first = x_first;
+            letter = x_goes.letter;
+            answer = answer_by_going x_goes.letter (goes_from x x_goes);
+          }
+
+          pub least_step : (y : ℕ) → IsLeastLetter (IsAnswer board v making x) y →
+              IsLeastStep board q step.state step.priority x y
+          least_step y least_y = record {
+            first = first_least;
+            second = record {
+              here = going_by_answer y least_y.here;
+              none_before = λ z goes before. least_y.none_before z (answer_by_going z goes) before;
+            };
+          }

@@ -1,20 +1,21 @@
 -- The moves of the winner of an arena's start as diagrams. (For private functions.)
 -- - `IsReady plan t`: a machine can be drawn from the plan, with diagrams in the store t
--- - `IsDraft plan t q p draft`: at each letter of the other player, the two diagrams of the draft have the automaton's
---   step and the winner's letter
--- - `TriesMoves plan t q vertices k draft`: the same for a winner who moves second, if only the first k vertices are
---   tried
+-- - `IsDraft plan t q p draft`: at each letter of the other player, the diagrams of the draft have the automaton's step
+--   and the bits of the winner's letter
+-- - `TriesMoves plan t q vertices k moves`: the steps of a winner who moves second, and all letters that make them, if
+--   only the first k vertices are tried
 use Rattle.std.specs.Prelude.{◌≡◌, ℕ, ◌+◌, ◌<◌, ◌≤◌, Bool, true, false, List, length, slice_get, Option, None, Some}
-use Rattle.std.specs.Prelude.{slice_index_or, MatchOption, option_map}
-use Rattle.std.specs.List.{Contains}
+use Rattle.std.specs.Prelude.{◌↔◌, slice_index_or, MatchOption}
+use Rattle.std.specs.List.{All, Contains}
 use Rattle.ps_automaton.specs.Automata.{pair_of, step_of}
-use Rattle.ps_diagram.specs.Leaves.{either_leaf}
-use Rattle.ps_diagram.specs.Letters.{AgreeOff, IsLeastLetter}
+use Rattle.ps_diagram.specs.Bits.{AreBitsOf, IsBit, have_leaves}
+use Rattle.ps_diagram.specs.Hidden.{HasLeafBehind}
+use Rattle.ps_diagram.specs.Leaves.{chosen, either_leaf}
+use Rattle.ps_diagram.specs.Letters.{AgreeOff}
 use Rattle.ps_diagram.specs.Table.{Table, IsNode, leaf_of}
-use Rattle.ps_machine.specs.Boards.{IsFirstLetter}
+use Rattle.ps_machine.specs.Boards.{Board, IsFirstLetter, IsSecondLetter}
 use Rattle.ps_machine.specs.Extracting.{IsOtherLetter}
 use Rattle.ps_machine.specs.Numbering.{StandsAt}
-use Rattle.ps_machine.specs.Parts.{IsOwnLetter}
 use Rattle.ps_machine.specs.declared.key.Key.{Key}
 use Rattle.ps_machine.specs.declared.key.Key.TheVariants.{First}
 use Rattle.ps_basis.specs.ArenaMoves.{GoesThere, MovesBehind}
@@ -25,11 +26,17 @@ use Rattle.ps_brief.specs.Drawing.{play_in}
 use Rattle.ps_brief.specs.Settings.{Fits, board_in}
 use Rattle.ps_brief.specs.Inner.Playable.{IsPlayable}
 use Rattle.ps_brief.specs.declared.drafts.Draft.{Draft}
+use Rattle.ps_brief.specs.declared.drafts.Moves.{Moves}
 use Rattle.ps_brief.specs.declared.drafts.Plan.{Plan}
 use Rattle.ps_brief.specs.declared.setting.Setting.{Setting}
 
 abbrev pub play_of : Plan → Play
 play_of plan = play_in plan.setting.now plan.listing.now plan.arena.now plan.others.now plan.certificate.now
+
+-- y is a letter of the player who wins, if this player moves first or second as the truth value says
+abbrev pub IsOwnLetter : Bool → Board → ℕ → Type 0
+IsOwnLetter true board y = IsFirstLetter board y
+IsOwnLetter false board y = IsSecondLetter board y
 
 -- the propositions of the player who wins, as bits
 abbrev pub own_mask : Bool → Setting → ℕ
@@ -57,7 +64,7 @@ pub record IsDraftAt (plan : Plan) (t : Table) (q p : ℕ) (draft : Draft) (x : 
   pub leaf : ℕ
   pub letter : ℕ
   pub step : leaf_of t draft.steps x ≡ Some leaf
-  pub plays : leaf_of t draft.letters x ≡ Some letter
+  pub plays : AreBitsOf t draft.bits.items (own_mask plan.moves_first plan.setting.now) letter x
   pub own : IsOwnLetter plan.moves_first (board_in plan.setting.now) letter
   pub within : leaf < length plan.setting.now.automaton.now.steps
   pub goes : step_of plan.setting.now.automaton.now q (x + letter) ≡ pair_of plan.setting.now.automaton.now leaf
@@ -76,11 +83,11 @@ pub record IsDrafted (plan : Plan) (t : Table) (draft : Draft) (r s : ℕ) : Typ
 
 pub record Heeds (plan : Plan) (t : Table) (draft : Draft) : Type 0 where
   pub steps_held : IsNode t draft.steps
-  pub letters_held : IsNode t draft.letters
+  pub bits_held : All (IsBit t) draft.bits.items
   pub steps : (u v : ℕ) → AgreeOff (own_mask plan.moves_first plan.setting.now) u v →
       leaf_of t draft.steps u ≡ leaf_of t draft.steps v
-  pub letters : (u v : ℕ) → AgreeOff (own_mask plan.moves_first plan.setting.now) u v →
-      leaf_of t draft.letters u ≡ leaf_of t draft.letters v
+  pub bits : (u v : ℕ) → AgreeOff (own_mask plan.moves_first plan.setting.now) u v →
+      have_leaves t draft.bits.items u ≡ have_leaves t draft.bits.items v
 
 pub record IsDraft (plan : Plan) (t : Table) (q p : ℕ) (draft : Draft) : Type 0 where
   pub heeds : Heeds plan t draft
@@ -107,32 +114,38 @@ pub record IsMoveLeaf (plan : Plan) (q u leaf : ℕ) : Type 0 where
   pub priority : (x : ℕ) (moves : CanMoveFrom plan q x u) →
       (pair_of plan.setting.now.automaton.now leaf).priority ≡ moves.priority
 
--- the draft has the step of the leaf where it can be made, and the second player's least letter that makes it
-pub record IsSingle (setting : Setting) (t : Table) (q leaf : ℕ) (draft : Draft) : Type 0 where
-  pub steps_held : IsNode t draft.steps
-  pub letters_held : IsNode t draft.letters
-  pub heeds : (u v : ℕ) → AgreeOff setting.second u v → leaf_of t draft.letters u ≡ leaf_of t draft.letters v
-  pub steps : (x : ℕ) → leaf_of t draft.steps x ≡ option_map (λ _. leaf) (leaf_of t draft.letters x)
-  pub at : (x : ℕ) → IsFirstLetter (board_in setting) x → MatchOption (leaf_of t draft.letters x)
-      (CanGoTo (board_in setting) q x (pair_of setting.automaton.now leaf).state
-      (pair_of setting.automaton.now leaf).priority → ⊥)
-      (IsLeastLetter (GoesThere (board_in setting) q x (pair_of setting.automaton.now leaf).state
-      (pair_of setting.automaton.now leaf).priority))
+-- the letter leads to the leaf, whose step can be made behind it
+pub record IsLeafOf (setting : Setting) (q leaf x k : ℕ) : Type 0 where
+  pub same : k ≡ leaf
+  pub can : CanGoTo (board_in setting) q x (pair_of setting.automaton.now leaf).state
+      (pair_of setting.automaton.now leaf).priority
 
--- at each letter, the draft has the leaves of the first draft, or else those of the second
-pub record IsJoined (s t : Table) (first second draft : Draft) : Type 0 where
-  pub steps_held : IsNode t draft.steps
-  pub letters_held : IsNode t draft.letters
-  pub steps : (x : ℕ) → leaf_of t draft.steps x ≡ either_leaf (leaf_of s first.steps x) (leaf_of s second.steps x)
-  pub letters : (x : ℕ) →
-      leaf_of t draft.letters x ≡ either_leaf (leaf_of s first.letters x) (leaf_of s second.letters x)
+-- the moves are the step of the leaf where it can be made, and the letters that make it
+pub record IsSingle (setting : Setting) (t : Table) (q leaf : ℕ) (moves : Moves) : Type 0 where
+  pub steps_held : IsNode t moves.steps
+  pub making_held : IsNode t moves.making
+  pub heeds : (u v : ℕ) → AgreeOff setting.second u v → leaf_of t moves.steps u ≡ leaf_of t moves.steps v
+  pub at : (x : ℕ) → IsFirstLetter (board_in setting) x → MatchOption (leaf_of t moves.steps x)
+      (CanGoTo (board_in setting) q x (pair_of setting.automaton.now leaf).state
+      (pair_of setting.automaton.now leaf).priority → ⊥) (IsLeafOf setting q leaf x)
+  pub makes : (x y : ℕ) → HasLeafBehind t moves.making setting.second x y ↔
+      GoesThere (board_in setting) q x (pair_of setting.automaton.now leaf).state
+      (pair_of setting.automaton.now leaf).priority y
+
+-- at each letter, the moves are the first moves, or else the second
+pub record IsJoined (s t : Table) (first second moves : Moves) : Type 0 where
+  pub steps_held : IsNode t moves.steps
+  pub making_held : IsNode t moves.making
+  pub steps : (x : ℕ) → leaf_of t moves.steps x ≡ either_leaf (leaf_of s first.steps x) (leaf_of s second.steps x)
+  pub making : (x : ℕ) → leaf_of t moves.making x ≡ chosen (leaf_of s first.steps x) (leaf_of s first.making x)
+      (leaf_of s second.making x)
 
 -- none of the first k vertices moves behind x
 abbrev pub NoneMoves : Plan → (q : ℕ) → List ℕ → ℕ → ℕ → Type 0
 NoneMoves plan q vertices k x = (i u : ℕ) → i < k → slice_get vertices i ≡ Some u → CanMoveFrom plan q x u → ⊥
 
 -- the vertex at the index `place` is the first that moves behind x, by the step of the leaf
-pub record IsTried (plan : Plan) (t : Table) (q : ℕ) (vertices : List ℕ) (k : ℕ) (draft : Draft) (x leaf : ℕ) : Type 0
+pub record IsTried (plan : Plan) (t : Table) (q : ℕ) (vertices : List ℕ) (k : ℕ) (made : Moves) (x leaf : ℕ) : Type 0
   where
     pub place : ℕ
     pub below : place < k
@@ -143,17 +156,12 @@ pub record IsTried (plan : Plan) (t : Table) (q : ℕ) (vertices : List ℕ) (k 
     pub within : leaf < length plan.setting.now.automaton.now.steps
     pub state : (pair_of plan.setting.now.automaton.now leaf).state ≡ moves.state
     pub priority : (pair_of plan.setting.now.automaton.now leaf).priority ≡ moves.priority
-    pub letter : ℕ
-    pub plays : leaf_of t draft.letters x ≡ Some letter
-    pub least : IsLeastLetter (GoesThere (board_in plan.setting.now) q x moves.state moves.priority) letter
+    pub makes : (y : ℕ) → HasLeafBehind t made.making plan.setting.now.second x y ↔
+        GoesThere (board_in plan.setting.now) q x moves.state moves.priority y
 
--- no vertex was found yet
-pub record IsUntried (plan : Plan) (t : Table) (q : ℕ) (vertices : List ℕ) (k : ℕ) (draft : Draft) (x : ℕ) : Type 0
-  where
-    pub none : NoneMoves plan q vertices k x
-    pub silent : leaf_of t draft.letters x ≡ None
-
-pub record TriesMoves (plan : Plan) (t : Table) (q : ℕ) (vertices : List ℕ) (k : ℕ) (draft : Draft) : Type 0 where
-  pub heeds : Heeds plan t draft
-  pub at : (x : ℕ) → IsFirstLetter (board_in plan.setting.now) x → MatchOption (leaf_of t draft.steps x)
-      (IsUntried plan t q vertices k draft x) (IsTried plan t q vertices k draft x)
+pub record TriesMoves (plan : Plan) (t : Table) (q : ℕ) (vertices : List ℕ) (k : ℕ) (moves : Moves) : Type 0 where
+  pub steps_held : IsNode t moves.steps
+  pub making_held : IsNode t moves.making
+  pub steps : (u v : ℕ) → AgreeOff plan.setting.now.second u v → leaf_of t moves.steps u ≡ leaf_of t moves.steps v
+  pub at : (x : ℕ) → IsFirstLetter (board_in plan.setting.now) x → MatchOption (leaf_of t moves.steps x)
+      (NoneMoves plan q vertices k x) (IsTried plan t q vertices k moves x)

@@ -10,7 +10,7 @@ use Rattle.ps_certificate.specs.Certificates.{choice_of}
 use Rattle.ps_game.specs.Games.{ParityGame, successors_of, vertex_count}
 use Rattle.ps_machine.specs.Boards.{IsFirstLetter}
 use Rattle.ps_machine.specs.Numbering.{StandsAt}
-use Rattle.ps_machine.specs.Solving.{winner_at_start}
+use Rattle.ps_solver.specs.Solving.{winner_at_start}
 use Rattle.ps_machine.specs.declared.key.Key.{Key}
 use Rattle.ps_machine.specs.declared.key.Key.TheVariants.{First, Second}
 use Rattle.ps_basis.specs.ArenaMoves.{ComesTo, MovesBehind}

@@ -1,3 +1,4 @@
+use Rattle.ps_machine.specs.BitMachines.{bit_behaviour}
 use Rattle.ps_brief.proofs.DrawnMachines.BriefMachines.{both_ok, brief_is, certified_there}
 use Rattle.ps_brief.proofs.brief.brief_machine.Goals as goal
 
@@ -11,5 +12,6 @@ returns-clause-machine c =
     let said = c.machine_of_arena.ensures in
     both_ok c.machine_of_arena.result _ _ _ (λ m by_rounds propositions. brief_is c.args.setting.now c.args.arena.now
     c.args.others.now c.args.certificate.now c.requires.arena c.requires.certificate_fits c.requires.certificate_valid
-    c.least_counts_are_there.ensures c.args.listing.now c.requires.listing said.orders m by_rounds propositions)
+    c.least_counts_are_there.ensures c.args.listing.now c.requires.listing said.orders (bit_behaviour m) by_rounds
+    propositions)
     said.machine said.propositions

@@ -1,7 +1,7 @@
 use Rattle.std.proofs.Common.{◌≡◌, length}
 use Rattle.ps_diagram.specs.Table.{Table}
 use Rattle.ps_brief.specs.Listings.{IsListing, listed_keys}
-use Rattle.ps_brief.specs.Inner.Rows.{AreNotedUpTo}
+use Rattle.ps_brief.specs.Inner.Parts.{AreNotedUpTo}
 use Rattle.ps_brief.specs.declared.setting.Setting.{Setting}
 use Rattle.ps_brief.proofs.drawing.leaves_of.Given as goal
 

@@ -1,7 +1,8 @@
 use Rattle.std.proofs.Common.{ℕ, subst}
 use Rattle.ps_diagram.specs.Hidden.{IsBehind}
 use Rattle.ps_brief.specs.Settings.{board_in}
-use Rattle.ps_brief.proofs.DraftedMoves.Drafted.{first_drafted, first_over}
+use Rattle.ps_brief.proofs.DraftedMoves.Drafted.{first_drafted}
+use Rattle.ps_brief.proofs.ListedStates.LeastPlaces.{first_over}
 use Rattle.ps_brief.proofs.drafts.Plan.first_draft.Goals as goal
 
 pub behind-requires-clause-over : goal.behind-requires-clause-over
@@ -16,10 +17,9 @@ returns-clause-draft c =
     let q = c.args.step.state in
     let ready = c.requires.ready in
     let steps = c.in_ok-steps.ensures in
-    let letters = c.in_ok-letters.ensures in
     let behind = subst (λ (node : ℕ). IsBehind c.args.store.now c.behind.new.self node plan.setting.now.first
     c.letter_at-letter.result c.in_ok-steps.steps) c.node-node.ensures.node steps.leaf in
     first_drafted plan plan.arena.now ready.playable c.requires.turn ready.fits q c.args.step.priority c.args.vertex
     c.letter_at-letter.result (ready.states c.args.vertex q c.args.step.priority c.requires.reached.stands)
-    c.requires.reached.stands c.letter_at-letter.ensures c.in_ok-steps.steps c.in_ok-letters.letters behind
-    c.leaf.ensures.keeps steps.held letters.held letters.leaf
+    c.requires.reached.stands c.letter_at-letter.ensures c.in_ok-steps.steps c.in_ok-bits.bits behind
+    c.letter_bits.ensures.keeps steps.held c.in_ok-bits.ensures.bits

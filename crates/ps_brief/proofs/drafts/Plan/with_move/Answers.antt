@@ -8,10 +8,11 @@ pub returns-in_default-clause-tried : goal.returns-in_default-clause-tried
 returns-in_default-clause-tried c =
     let never : NeverMoves c.args.self.now c.args.state c.args.vertex = search rules in
     λ vertices k at tries.
-    never_more c.args.self.now c.args.state vertices k c.args.vertex at c.args.draft never tries
+    never_more c.args.self.now c.args.state vertices k c.args.vertex at c.args.moves never tries
 
 pub returns-clause-tried : goal.returns-clause-tried
 returns-clause-tried c = IfOk-weaker c.joined.result _ _ (λ made joined vertices k at tries.
-    tries_more c.args.self.now c.args.state vertices k c.args.vertex at c.in-Some.leaf c.in-Some.ensures c.requires.turn
-    c.args.draft c.in_ok-made.made made c.single.ensures.keeps c.in_ok-made.ensures.single joined tries)
+    tries_more c.args.self.now c.args.state vertices k c.args.vertex at c.in-Some.leaf c.in-Some.ensures
+    c.requires.ready.fits c.args.moves c.in_ok-made.made made c.single.ensures.keeps c.joined.ensures.keeps
+    c.in_ok-made.ensures.single joined tries)
     c.joined.ensures.joined

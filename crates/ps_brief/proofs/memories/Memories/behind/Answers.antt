@@ -1,4 +1,4 @@
-use Rattle.std.proofs.Common.{◌∙◌, Some, ap, eqb, refl, rules, subst, sym}
+use Rattle.std.proofs.Common.{◌∙◌, Some, ap, eqb, rules, subst, sym}
 use Rattle.std.proofs.lemmas.Bool.{eqb-true}
 use Rattle.ps_automaton.specs.declared.step.Step.{Step}
 use Rattle.ps_machine.specs.Inner.Drawing.{anchor_of}
@@ -6,7 +6,7 @@ use Rattle.ps_machine.specs.Numbering.{StandsAt}
 use Rattle.ps_machine.specs.declared.key.Key.TheVariants.{First}
 use Rattle.ps_machine.proofs.Machines.Diagrams.DrawingLemmas.{at_position, has_anchor}
 use Rattle.ps_brief.specs.Inner.Drafts.{play_of}
-use Rattle.ps_brief.proofs.DrawnMachines.MachineDrawn.{has_memory, row_for}
+use Rattle.ps_brief.proofs.DrawnMachines.MachineDrawn.{has_memory, memory_for}
 use Rattle.ps_brief.proofs.memories.Memories.behind.Goals as goal
 
 pub unwrap-requires : goal.unwrap-requires
@@ -23,7 +23,7 @@ unwrap-requires c =
     search (rules, has_anchor)
 
 pub returns : goal.returns
-returns c row is_memory =
+returns c =
     let plan = c.args.plan.now in
     let (t, reached, ready, is, m) = c.requires.memories in
     let place = c.unwrap-place.result in
@@ -35,5 +35,4 @@ returns c row is_memory =
     let (x, is_x, same) =
     at_position (eqb c.anchor.result) anchors 0 (sym c.get_index_of.ensures.index ∙ c.unwrap.ensures) in
     let anchored = is_x ∙ ap (λ k. Some k) (sym (eqb-true c.anchor.result x same) ∙ anchor) in
-    row_for plan reached c.args.self.now m ready.playable.different c.args.leaf row.letter c.unwrap.result place at
-    anchored row is_memory refl
+    memory_for plan reached c.args.self.now m ready.playable.different c.args.leaf c.unwrap.result place at anchored

@@ -3,7 +3,7 @@ use Rattle.std.specs.Prelude.{ℕ, List, slice_index_or}
 use Rattle.ps_diagram.proofs.NodeTables.KnownLemmas.{keeps_trans}
 use Rattle.ps_brief.proofs.DraftedMoves.DraftsMade.{ready_kept}
 use Rattle.ps_brief.proofs.DrawnMachines.PairedNodes.{draft_at, is_drafted, kept_within, next_paired}
-use Rattle.ps_brief.proofs.rows.paired_nodes.Goals as goal
+use Rattle.ps_brief.proofs.parts.paired_nodes.Goals as goal
 
 pub step_at-state-requires : goal.step_at-state-requires
 step_at-state-requires c =
@@ -22,6 +22,17 @@ unreachable-requires c =
     (ap (λ (xs : List ℕ). slice_index_or xs i 0) items) c.step_at-state.result.state c.step_at-state.result.priority
     c.step_at-state.ensures (rw c.anchor.ensures at c.in_default.ensures.value)
 
+pub both-requires-clause-first : goal.both-requires-clause-first
+both-requires-clause-first c =
+    let i = c.loop-place.place-index in
+    let items = c.deref-place-items.ensures.value in
+    let has = draft_at c.args.plan.now c.args.reached.now c.requires.reached c.args.memories.now c.requires.memories i
+    (slice_index_or c.deref-place-items.result.now i 0) (rw items at c.loop-place-test.true)
+    (ap (λ (xs : List ℕ). slice_index_or xs i 0) items) c.loop-place.invariant.keeps c.step_at-state.result.state
+    c.step_at-state.result.priority c.step_at-state.ensures c.in-Some.draft.now
+    (sym (rw c.anchor.ensures at c.in-Some.ensures.value)) in
+    has.is_draft.heeds.steps_held
+
 pub both-requires-clause-second : goal.both-requires-clause-second
 both-requires-clause-second c =
     let i = c.loop-place.place-index in
@@ -31,7 +42,7 @@ both-requires-clause-second c =
     (ap (λ (xs : List ℕ). slice_index_or xs i 0) items) c.loop-place.invariant.keeps c.step_at-state.result.state
     c.step_at-state.result.priority c.step_at-state.ensures c.in-Some.draft.now
     (sym (rw c.anchor.ensures at c.in-Some.ensures.value)) in
-    has.is_draft.heeds.letters_held
+    has.is_draft.heeds.steps_held
 
 pub returns-in_err-push-clause-keeps : goal.returns-in_err-push-clause-keeps
 returns-in_err-push-clause-keeps c = keeps_trans c.loop-place.invariant.keeps c.in_ok-both.ensures.made.keeps
@@ -52,7 +63,7 @@ loop-place-preserved c =
     (sym (rw c.anchor.ensures at c.in-Some.ensures.value)) in
     record {
       keeps = keeps_trans inv.keeps made.keeps;
-      paired = next_paired plan (ready_kept plan inv.keeps c.requires.ready) made.keeps v draft has
+      paired = next_paired plan (ready_kept plan inv.keeps c.requires.ready) made.keeps c.args.reached.now v has
           c.loop-place.pairs.keys c.both.new.pairs.keys c.in_ok-both.ensures.adds c.args.memories.now.kept.items
           c.loop-place.nodes.items c.push.new.self.items i c.in_ok-both.field-0 is_kept c.in_ok-push.ensures.items
           made.held made.leaf inv.paired;
