@@ -3,10 +3,10 @@ use Rattle.std.proofs.Common.{arith, ◌≡◌, Bool, IsTrue, Result, Ok, Err, r
 use Rattle.std.specs.Prelude.{OnOk, is_ok}
 use Rattle.ps_certificate.specs.Certificates.{CertificateData}
 use Rattle.ps_game.specs.Games.{NamedGameData}
-use Rattle.ps_machine.specs.Solvers.{Answered, MayAnswer, SolverData, answers_now}
-use Rattle.ps_machine.specs.Solving.{AnswersSurely, NamesVertices}
-use Rattle.ps_machine.specs.declared.fault.SolveFault.{SolveFault}
-use Rattle.ps_machine.specs.declared.fault.SolveFault.TheVariants as solver
+use Rattle.ps_solver.specs.Solvers.{Answered, MayAnswer, SolverData, answers_now}
+use Rattle.ps_solver.specs.Solving.{AnswersSurely, NamesVertices}
+use Rattle.ps_solver.specs.declared.fault.SolveFault.{SolveFault}
+use Rattle.ps_solver.specs.declared.fault.SolveFault.TheVariants as solver
 use Rattle.ps_synthesis.specs.Stages.{IsFaultFor, IsSolverFault}
 use Rattle.ps_synthesis.specs.declared.fault.SynthFault.{SynthFault}
 use Rattle.ps_synthesis.specs.declared.fault.SynthFault.TheVariants.{Text, Automaton, BadCycle, Certificate}

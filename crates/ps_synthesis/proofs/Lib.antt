@@ -9,3 +9,4 @@ pub mod ShortTexts
 pub mod UnseenGames
 mod WinnersCircuitThere
 mod MixedWinners
+mod MixedAutomata

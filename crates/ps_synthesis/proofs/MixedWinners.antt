@@ -14,7 +14,7 @@ use Rattle.ps_machine.specs.Behaviours.{Behaviour}
 use Rattle.ps_machine.specs.Boards.{Board}
 use Rattle.ps_machine.specs.Extracting.{HasPropositions}
 use Rattle.ps_machine.specs.FileGames.{IsGameOfFile}
-use Rattle.ps_machine.specs.Solvers.{MayAnswer}
+use Rattle.ps_solver.specs.Solvers.{MayAnswer}
 use Rattle.ps_machine.specs.declared.key.Order.{Order}
 use Rattle.ps_synthesis.specs.Reports.{IsWinners, IsWinnersCircuit}
 use Rattle.ps_synthesis.specs.SynthFaults.{IsTooLarge}

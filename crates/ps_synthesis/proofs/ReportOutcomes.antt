@@ -7,9 +7,9 @@ use Rattle.std.specs.Result.{IsErrAnd}
 use Rattle.ps_certificate.specs.Certificates.{CertificateData}
 use Rattle.ps_game.specs.Games.{NamedGameData}
 use Rattle.ps_hoa.specs.Files.{FileData}
-use Rattle.ps_machine.specs.declared.fault.SolveFault.{SolveFault}
+use Rattle.ps_solver.specs.declared.fault.SolveFault.{SolveFault}
 use Rattle.ps_machine.specs.declared.key.Order.{Order}
-use Rattle.ps_machine.specs.Solvers.{MayAnswer}
+use Rattle.ps_solver.specs.Solvers.{MayAnswer}
 use Rattle.ps_synthesis.specs.Promises.{IsSynthesis, SynthesisData}
 use Rattle.ps_synthesis.specs.Reports.{IsReport, IsWinnersSynthesis}
 use Rattle.ps_synthesis.specs.SynthFaults.{IsReportOrFault, Reported, TooLarge, LacksMemory, IsSynthFault, IsTooLarge}

@@ -12,7 +12,7 @@ use Rattle.ps_game.specs.Games.{NamedGameData, ParityGame}
 use Rattle.ps_hoa.specs.Files.{FileData}
 use Rattle.ps_machine.specs.Boards.{Board, IsGameOf}
 use Rattle.ps_machine.specs.BuiltBoards.{board_of}
-use Rattle.ps_machine.specs.Solving.{winner_at_start, IsCertified}
+use Rattle.ps_solver.specs.Solving.{winner_at_start, IsCertified}
 use Rattle.ps_machine.specs.FileGames.{IsGameOfFile, board_of_file}
 use Rattle.ps_machine.specs.KeyNames.{AreNamed}
 use Rattle.ps_machine.specs.Keys.{mover_of}
@@ -22,7 +22,7 @@ use Rattle.ps_machine.specs.declared.key.Order.{Order}
 use Rattle.ps_synthesis.specs.Printing.{PrintsCertificate, PrintsCircuit, PrintsGame}
 use Rattle.ps_synthesis.specs.Problems.{ReturnsOnly, IsProblem, IsProblemOf, ProblemData}
 use Rattle.ps_synthesis.specs.Reports.{IsReport, IsWinners, IsWinnersCircuit, IsWinnersSynthesis}
-use Rattle.ps_machine.specs.Solvers.{MayAnswer}
+use Rattle.ps_solver.specs.Solvers.{MayAnswer}
 use Rattle.ps_synthesis.specs.Promises.{SynthesisData}
 use Rattle.ps_synthesis.specs.Stages.{IsAutomatonOf, IsCircuitFault, IsCircuitOf, IsExtracted}
 use Rattle.ps_synthesis.specs.SynthFaults.{IsSureFault, IsSynthFault}

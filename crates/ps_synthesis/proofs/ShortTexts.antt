@@ -14,8 +14,8 @@ use Rattle.ps_machine.specs.Behaviours.{Behaviour, IsMachine}
 use Rattle.ps_machine.specs.Extracting.{HasPropositions, IsMachineOf}
 use Rattle.ps_machine.specs.FileGames.{IsGameOfFile, board_of_file}
 use Rattle.ps_machine.specs.Keys.{mover_of}
-use Rattle.ps_machine.specs.Solvers.{Answered, MayAnswer, SolverData}
-use Rattle.ps_machine.specs.Solving.{AnswersLeast, IsFree, winner_at_start}
+use Rattle.ps_solver.specs.Solvers.{Answered, MayAnswer, SolverData}
+use Rattle.ps_solver.specs.Solving.{AnswersLeast, IsFree, winner_at_start}
 use Rattle.ps_machine.specs.declared.key.Order.{Order}
 use Rattle.ps_mixing.specs.MixedFiles.{IsMixingOf, mixed_file}
 use Rattle.ps_mixing.specs.Mixings.{Mixing}
@@ -79,12 +79,6 @@ module _ (May : MayAnswer) (order : Order) (text : List ℕ) (file : FileData) (
   found_of_text laws (Err fault) h = tt
 
 -- ## From a mixed file to the file
-
-pub mixing_there : {E : Type 0} (file : FileData) (mixing : Mixing) → IsMixingOf file mixing → (r : Result FileData E) →
-    IfOk r (λ made. made ≡ mixed_file mixing file) →
-    IfOk r (λ made. (mixing : Mixing) × IsMixingOf file mixing × (made ≡ mixed_file mixing file))
-mixing_there file mixing is (Ok made) same = (mixing, is, same)
-mixing_there file mixing is (Err fault) same = tt
 
 module _ (May : MayAnswer) (order : Order) (file : FileData) (mixing : Mixing) (is : IsMixingOf file mixing)
     (sound : IsSoundFile file) where

@@ -7,7 +7,7 @@ use Rattle.ps_game.specs.Games.{NamedGameData}
 use Rattle.ps_hoa.specs.Files.{FileData}
 use Rattle.ps_machine.specs.declared.key.Order.{Order}
 use Rattle.ps_synthesis.specs.Problems.{ReturnsOnly, IsProblemOf, ProblemData}
-use Rattle.ps_machine.specs.Solvers.{MayAnswer}
+use Rattle.ps_solver.specs.Solvers.{MayAnswer}
 use Rattle.ps_synthesis.specs.Reports.{IsWinnersSynthesis}
 use Rattle.ps_synthesis.specs.Stages.{IsSolverFault, IsTextFault}
 use Rattle.ps_synthesis.specs.SynthFaults.{IsSynthFault, OfGame}

@@ -13,15 +13,14 @@ use Rattle.ps_circuit.specs.declared.encode_fault.EncodeFault.{EncodeFault}
 use Rattle.ps_circuit.specs.declared.encode_fault.EncodeFault.TheVariants as encoding
 use Rattle.ps_game.specs.Games.{NamedGameData}
 use Rattle.ps_hoa.specs.Files.{FileData}
-use Rattle.ps_machine.specs.Behaviours.{IsMachine}
+use Rattle.ps_machine.specs.Behaviours.{Behaviour, IsMachine}
 use Rattle.ps_machine.specs.Boards.{Board, IsGameOf}
 use Rattle.ps_machine.specs.BuiltBoards.{board_of}
 use Rattle.ps_machine.specs.Extracting.{HasPropositions, IsMachineOf}
 use Rattle.ps_machine.specs.FileGames.{IsGameOfFile, board_of_file}
 use Rattle.ps_machine.specs.KeyNames.{AreNamed, key_names}
 use Rattle.ps_machine.specs.Keys.{mover_of}
-use Rattle.ps_machine.specs.Machines.{MachineData, behaviour}
-use Rattle.ps_machine.specs.Solving.{AnswersLeast, IsCertified}
+use Rattle.ps_solver.specs.Solving.{AnswersLeast, IsCertified}
 use Rattle.ps_machine.specs.declared.key.Key.{Key}
 use Rattle.ps_machine.specs.declared.key.Order.{Order}
 use Rattle.ps_machine.proofs.AutomatonGames.GameKeys.GameThere.{board_game_there}
@@ -75,24 +74,24 @@ module _ (order : Order) (file : FileData) (chain : Chain) (a : AutomatonData) (
     are_named = subst (λ (b : Board). AreNamed b game_there.keys game) board_is game_there.are_named;
   }
 
-  module _ (m : MachineData) (is_machine : IsMachine (behaviour m)) (brief : IsBriefMachine order a m) where
-    abbrev found : IsWinnersMachine order a game_there.keys game.game m
+  module _ (b : Behaviour) (is_machine : IsMachine b) (brief : IsBriefMachine order a b) where
+    abbrev found : IsWinnersMachine order a game_there.keys game.game b
     found = brief.machine_of game_there.keys game.game game_there.is_game
 
     certified : IsCertified game found.certificate
     certified = record { fits = found.fits; valid = found.valid }
 
-    winners : IsWinners order file game of_file found.certificate (behaviour m)
+    winners : IsWinners order file game of_file found.certificate b
     winners = record {
       is_machine = is_machine;
-      propositions = subst (λ (b : Board). HasPropositions file.names b (behaviour m)) board_is
-          (subst (λ (names : List (List ℕ)). HasPropositions names board (behaviour m)) built.names brief.propositions);
-      machine_of = subst (λ (b : Board). IsMachineOf b (mover_of order) game_there.keys game.game found.certificate
-          (behaviour m)) board_is found.machine_of;
+      propositions = subst (λ (to : Board). HasPropositions file.names to b) board_is
+          (subst (λ (names : List (List ℕ)). HasPropositions names board b) built.names brief.propositions);
+      machine_of = subst (λ (to : Board). IsMachineOf to (mover_of order) game_there.keys game.game found.certificate
+          b) board_is found.machine_of;
     }
 
-    pub short_is : IsAdmitted file → (short : Short) → (IsTrue short.realizable ↔ (m.player ≡ 0)) →
-        Encodes (behaviour m) short.circuit → IsTidy short.circuit → IsWired (behaviour m) short.circuit →
+    pub short_is : IsAdmitted file → (short : Short) → (IsTrue short.realizable ↔ (b.player ≡ 0)) →
+        Encodes b short.circuit → IsTidy short.circuit → IsWired b short.circuit →
         IsShortOfFile AnswersLeast order file short
     short_is admitted short realizable encodes tidy wired = record {
       admitted = admitted;
@@ -103,7 +102,7 @@ module _ (order : Order) (file : FileData) (chain : Chain) (a : AutomatonData) (
       certified = certified;
       realizable = subst (λ (n : ℕ). IsTrue short.realizable ↔ (n ≡ 0)) (sym found.winner) realizable;
       circuit = record {
-        machine = behaviour m;
+        machine = b;
         winners = winners;
         encodes = encodes;
         tidy = tidy;
@@ -112,7 +111,7 @@ module _ (order : Order) (file : FileData) (chain : Chain) (a : AutomatonData) (
     }
 
     pub short_cause : IsAdmitted file → (given : EncodeFault) →
-        (given ≡ encoding.CircuitTooLarge → IsOutOfLiterals (behaviour m)) →
+        (given ≡ encoding.CircuitTooLarge → IsOutOfLiterals b) →
         IsFaultOfFile AnswersLeast order file (of_circuit given)
     short_cause admitted encoding.CircuitTooLarge large = (
       admitted,
@@ -122,7 +121,7 @@ module _ (order : Order) (file : FileData) (chain : Chain) (a : AutomatonData) (
         answered = (certified, found.least);
         certified = certified;
         is_game = of_file;
-        machine = behaviour m;
+        machine = b;
         winners = winners;
         out_of_literals = large refl;
       },

@@ -7,3 +7,4 @@ pub mod ShortFiles
 pub mod Stages
 pub mod SynthFaults
 pub mod SynthFaultNames
+pub mod MixedAutomata

@@ -15,7 +15,7 @@ use Rattle.ps_machine.specs.Extracting.{HasPropositions, IsMachineOf}
 use Rattle.ps_machine.specs.FileGames.{IsGameOfFile, board_of_file}
 use Rattle.ps_machine.specs.Keys.{mover_of}
 use Rattle.ps_machine.specs.declared.key.Order.{Order}
-use Rattle.ps_machine.specs.Solvers.{MayAnswer}
+use Rattle.ps_solver.specs.Solvers.{MayAnswer}
 use Rattle.ps_synthesis.specs.Promises.{IsSynthesis, KeepsPromise, SynthesisData}
 use Rattle.ps_synthesis.specs.declared.report.Report.{Report}
 

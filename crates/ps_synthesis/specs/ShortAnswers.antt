@@ -3,8 +3,8 @@
 -- - `IsShortOf May order text short`: `short` has the winner and the circuit of a synthesis of the text
 use Rattle.std.specs.Prelude.{◌≡◌, ◌↔◌, ℕ, ◌-◌, List, length, IsTrue}
 use Rattle.ps_hoa.specs.Files.{FileData}
-use Rattle.ps_machine.specs.Solvers.{MayAnswer}
-use Rattle.ps_machine.specs.Solving.{winner_at_start}
+use Rattle.ps_solver.specs.Solvers.{MayAnswer}
+use Rattle.ps_solver.specs.Solving.{winner_at_start}
 use Rattle.ps_machine.specs.declared.key.Order.{Order}
 use Rattle.ps_machine.specs.declared.key.Order.TheVariants.{Mealy, Moore}
 use Rattle.ps_synthesis.specs.Promises.{SynthesisData}

@@ -10,8 +10,8 @@ use Rattle.ps_certificate.specs.Certificates.{CertificateData}
 use Rattle.ps_game.specs.Games.{NamedGameData}
 use Rattle.ps_hoa.specs.Files.{FileData}
 use Rattle.ps_machine.specs.FileGames.{IsGameOfFile}
-use Rattle.ps_machine.specs.Solvers.{MayAnswer}
-use Rattle.ps_machine.specs.Solving.{IsCertified, winner_at_start}
+use Rattle.ps_solver.specs.Solvers.{MayAnswer}
+use Rattle.ps_solver.specs.Solving.{IsCertified, winner_at_start}
 use Rattle.ps_machine.specs.declared.key.Order.{Order}
 use Rattle.ps_synthesis.specs.Reports.{IsWinnersCircuit}
 use Rattle.ps_synthesis.specs.SynthFaults.{IsTooLarge}

@@ -6,8 +6,8 @@ use Rattle.ps_automaton.specs.FaultNames as automaton
 use Rattle.ps_certificate.specs.Faults as certificate
 use Rattle.ps_hoa.specs.CauseNames as hoa_names
 use Rattle.ps_hoa.specs.Causes as hoa
-use Rattle.ps_machine.specs.FaultNames as solver
-use Rattle.ps_machine.specs.declared.fault.SolveFault.TheVariants as solving
+use Rattle.ps_solver.specs.FaultNames as solver
+use Rattle.ps_solver.specs.declared.fault.SolveFault.TheVariants as solving
 use Rattle.ps_text.specs.Faults.{memory_number, memory_name}
 use Rattle.ps_synthesis.specs.declared.fault.SynthFault.{SynthFault}
 use Rattle.ps_synthesis.specs.declared.fault.SynthFault.TheVariants.{Text, Automaton, BadCycle, Certificate}

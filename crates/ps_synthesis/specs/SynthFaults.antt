@@ -23,12 +23,12 @@ use Rattle.ps_hoa.specs.Files.{FileData}
 use Rattle.ps_hoa.specs.Texts.{ReadsFile}
 use Rattle.ps_machine.specs.FileGames.{IsGameOfFile}
 use Rattle.ps_machine.specs.Behaviours.{Behaviour}
-use Rattle.ps_machine.specs.Solving.{IsCertified}
-use Rattle.ps_machine.specs.declared.fault.SolveFault.{SolveFault}
-use Rattle.ps_machine.specs.declared.fault.SolveFault.TheVariants as solver
+use Rattle.ps_solver.specs.Solving.{IsCertified}
+use Rattle.ps_solver.specs.declared.fault.SolveFault.{SolveFault}
+use Rattle.ps_solver.specs.declared.fault.SolveFault.TheVariants as solver
 use Rattle.ps_machine.specs.declared.key.Order.{Order}
 use Rattle.ps_synthesis.specs.Reports.{IsReport, IsWinners}
-use Rattle.ps_machine.specs.Solvers.{MayAnswer}
+use Rattle.ps_solver.specs.Solvers.{MayAnswer}
 use Rattle.ps_synthesis.specs.Promises.{IsAcceptedText}
 use Rattle.ps_synthesis.specs.declared.fault.SynthFault.{SynthFault}
 use Rattle.ps_synthesis.specs.declared.fault.SynthFault.TheVariants.{Text, Automaton, BadCycle, Certificate}

@@ -3,8 +3,8 @@
 ghost use Rattle.std.specs.Prelude.{◌≡◌, ◌<◌, ◌↔◌, IsTrue, true, map, slice_index, All, Ok, Err, IfOk, IfErr};
 ghost use Rattle.ps_certificate.specs.Regions.{BothHold, NoneWinsOutside};
 ghost use Rattle.ps_game.specs.Games.{vertex_count};
-ghost use Rattle.ps_machine.specs.Solvers.{Answered, IsKept};
-ghost use Rattle.ps_machine.specs.Solving.{IsCertified, NamesVertices};
+ghost use Rattle.ps_solver.specs.Solvers.{Answered, IsKept};
+ghost use Rattle.ps_solver.specs.Solving.{IsCertified, NamesVertices};
 ghost use Rattle.ps_synthesis.specs.Stages.{IsFaultFor, IsSolverFault};
 ghost use Rattle.ps_synthesis.specs.declared.fault.SynthFault.TheVariants.{OutOfMemory};
 

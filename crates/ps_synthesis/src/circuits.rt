@@ -7,9 +7,9 @@ ghost use Rattle.ps_hoa.specs.Files.{FileData};
 ghost use Rattle.ps_machine.specs.Boards.{IsGameOf};
 ghost use Rattle.ps_machine.specs.BuiltBoards.{board_of};
 ghost use Rattle.ps_machine.specs.Dividing.{HasClasses};
-ghost use Rattle.ps_machine.specs.Solving.{winner_at_start};
+ghost use Rattle.ps_solver.specs.Solving.{winner_at_start};
 ghost use Rattle.ps_machine.specs.Keys.{mover_of};
-ghost use Rattle.ps_machine.specs.Solving.{IsCertified};
+ghost use Rattle.ps_solver.specs.Solving.{IsCertified};
 ghost use Rattle.ps_synthesis.specs.Stages.{IsCircuitFault, IsCircuitOf};
 ghost use Rattle.ps_traces.specs.Answers.{IsWitness};
 

@@ -11,7 +11,7 @@ ghost use Rattle.ps_hoa.specs.Files.{FileData};
 ghost use Rattle.ps_hoa.specs.Sound.{IsSoundFile};
 ghost use Rattle.ps_machine.specs.Behaviours.{Behaviour};
 ghost use Rattle.ps_machine.specs.FileGames.{IsGameOfFile};
-ghost use Rattle.ps_machine.specs.Solving.{IsCertified};
+ghost use Rattle.ps_solver.specs.Solving.{IsCertified};
 ghost use Rattle.ps_machine.specs.declared.key.Order.{Order};
 ghost use Rattle.ps_pgsolver.specs.Written.{game_text};
 ghost use Rattle.ps_synthesis.specs.Printing.{HasCircuitWords, HasGameWords};

@@ -16,12 +16,14 @@
 //! | `certified(game, solver)` | the certificate that a solver returns for a game, checked |
 //! | `is_certified(game, certificate)` | whether a certificate fits a game and is valid |
 //! | `Problem::read(text, order)`, `game`, `close` | for other ways to solve: a text's problem, its game; frees it |
+//! | `Problem::parts_fit` | a fact: the game is the automaton's, and has a start vertex |
 //! | `Problem::report(certificate, compact)` | the report by a certificate, which is checked |
 //! | `Problem::report_of_certified(certificate, compact)` | the same by one that was checked before |
 //! | `Problem::solve(solver)` | the certificate that a solver returns, checked, and the winner's circuit |
 //! | `Problem::circuit(certificate)` | this circuit, by a certificate that was checked before |
 //! | `short_answer(text, order, solver)` | the winner and a circuit without the game, if that is worth it |
 //! | `read_automaton(text)`, `circuit_of_certificate` | an automaton; the winner's circuit by a valid certificate |
+//! | `read_mixed_automaton(text)` | an automaton whose propositions may be mixed, so that its diagrams are small |
 //! | `report_of`, `certificate_text` | the three texts of a report; a certificate's text |
 //! | `ids_of(game, vertices)` | the ids that name vertices in a fault |
 //! | `SynthFault::number`, `name` | its number and name in psyn's list of faults |
@@ -35,6 +37,7 @@ mod certifying;
 mod circuits;
 mod fault;
 mod laws;
+mod mixed_automata;
 mod mixing;
 mod problem;
 mod report;
@@ -46,6 +49,7 @@ pub use certifying::{certified, ids_of, is_certified};
 pub use circuits::circuit_of_certificate;
 pub use fault::SynthFault;
 pub use laws::{winners_circuit_is_one, winners_circuit_is_there, written_texts_are_read};
+pub use mixed_automata::read_mixed_automaton;
 pub use mixing::circuit_of_mixed;
 pub use problem::{Problem, Synthesis};
 pub use report::{Report, certificate_text, report_of};

@@ -3,8 +3,8 @@
 ghost use Rattle.std.specs.Prelude.{◌≡◌, ℕ, true, List, IfOk, IfErr};
 ghost use Rattle.std.specs.Result.{IsErrAnd};
 ghost use Rattle.ps_hoa.specs.Files.{FileData};
-ghost use Rattle.ps_machine.specs.Solvers.{Answered, IsKept};
-ghost use Rattle.ps_machine.specs.Solving.{IsCertified};
+ghost use Rattle.ps_solver.specs.Solvers.{Answered, IsKept};
+ghost use Rattle.ps_solver.specs.Solving.{IsCertified};
 ghost use Rattle.ps_machine.specs.declared.key.Order.{Order};
 ghost use Rattle.ps_synthesis.specs.Problems.{ReturnsOnly, IsProblem, IsProblemOf, IsReportFault};
 ghost use Rattle.ps_synthesis.specs.Reports.{IsReport, IsWinnersSynthesis};
@@ -84,6 +84,13 @@ impl Problem {
         ensures problem { IsProblem self.now }
     {
         &self.game.game
+    }
+
+    /// The parts fit: the game is the automaton's, and has a start vertex. The prover learns it here.
+    pub fn parts_fit(&self)
+        ensures { IsProblem self.now }
+    {
+        self.game();
     }
 
     /// Frees the problem; that this is right is proved here once, and not in each caller.

@@ -8,29 +8,26 @@ ghost use Rattle.ps_automaton.specs.Automata.{IsBuiltFrom};
 ghost use Rattle.ps_automaton.specs.Chains.{Chain};
 ghost use Rattle.ps_circuit.specs.declared.encode_fault.EncodeFault.TheVariants as encoding;
 ghost use Rattle.ps_hoa.specs.Files.{FileData};
-ghost use Rattle.ps_hoa.specs.Sound.{IsSoundFile};
 ghost use Rattle.ps_hoa.specs.Texts.{ReadsFile};
 ghost use Rattle.ps_machine.specs.Behaviours.{IsMachine};
-ghost use Rattle.ps_machine.specs.Machines.{behaviour};
-ghost use Rattle.ps_machine.specs.Solvers.{Answered};
-ghost use Rattle.ps_machine.specs.Solving.{AnswersLeast};
-ghost use Rattle.ps_mixing.specs.MixedFiles.{HasLabels, IsMixingOf, mixed_file};
-ghost use Rattle.ps_mixing.specs.Mixings.{Mixing};
+ghost use Rattle.ps_machine.specs.BitMachines.{bit_behaviour};
+ghost use Rattle.ps_solver.specs.Solvers.{Answered};
+ghost use Rattle.ps_solver.specs.Solving.{AnswersLeast};
 ghost use Rattle.ps_synthesis.specs.ShortAnswers.{IsShortOf, first_count};
 ghost use Rattle.ps_synthesis.specs.ShortFiles.{IsFaultOfFile, IsShortOfFile};
 ghost use Rattle.ps_synthesis.specs.Stages.{IsTextFault};
 ghost use Rattle.ps_synthesis.specs.SynthFaults.{IsSureFault, IsSynthFault};
 
 use crate::fault::SynthFault;
-use ps_aiger::{Circuit, EncodeFault, encode};
+use ps_aiger::{Circuit, EncodeFault, encode_bits};
 use ps_automaton::Automaton;
 use ps_brief::machine_without_game;
 use ps_certificate::{no_strategy_wins_outside, valid_regions_are_held};
 use ps_hoa::{HoaFile, one_answer};
-use ps_machine::{Machine, Order, Solver, game_of_file_is_game};
-use ps_mixing::{even_order, has_labels, mixed};
+use ps_machine::{BitMachine, Order, Solver, game_of_file_is_game};
+use ps_mixing::{evenly_mixed, has_labels};
 use ps_traces::certified_circuit_of_file_answers;
-use std::alloc::{AllocError, Global};
+use std::alloc::Global;
 
 /// If the player who moves first has fewer propositions, a state of the game has at most 2^7 classes of letters, and
 /// the game is built: its circuits stay as they are.
@@ -122,19 +119,6 @@ fn answer_without_game(
     found
 }
 
-/// The file with each player's propositions evenly spread among the other's.
-fn evenly_mixed(alloc: Global, file: &HoaFile) -> Result<HoaFile, AllocError>
-    requires { HasLabels file.now }
-    ensures mixed { IfOk result (λ made. (mixing : Mixing) × IsMixingOf file.now mixing ×
-        (made ≡ mixed_file mixing file.now)) }
-    ensures sound { IsSoundFile file.now }
-{
-    let order = even_order(alloc, file.names().len() as u32, file.controllable())?;
-    let made = mixed(alloc, file, &order);
-    drop(order);
-    made
-}
-
 /// The winner and a circuit, from the automaton of the file with its propositions as they stand.
 fn answer_as_it_stands(
     alloc: Global,
@@ -170,16 +154,16 @@ fn answer_of_automaton(
 }
 
 /// The player and the circuit of a machine.
-fn encoded(alloc: Global, machine: &Machine) -> Result<Short, EncodeFault>
+fn encoded(alloc: Global, machine: &BitMachine) -> Result<Short, EncodeFault>
     ensures realizable { IfOk result (λ short. IsTrue short.realizable ↔ (machine.now.player ≡ 0)) }
-    ensures encodes { IfOk result (λ short. Encodes (behaviour machine.now) short.circuit) }
+    ensures encodes { IfOk result (λ short. Encodes (bit_behaviour machine.now) short.circuit) }
     ensures tidy { IfOk result (λ short. IsTidy short.circuit) }
-    ensures wired { IfOk result (λ short. IsWired (behaviour machine.now) short.circuit) }
-    ensures too_large { result ≡ Err encoding.CircuitTooLarge → IsOutOfLiterals (behaviour machine.now) }
-    ensures machine { IsMachine (behaviour machine.now) }
+    ensures wired { IfOk result (λ short. IsWired (bit_behaviour machine.now) short.circuit) }
+    ensures too_large { result ≡ Err encoding.CircuitTooLarge → IsOutOfLiterals (bit_behaviour machine.now) }
+    ensures machine { IsMachine (bit_behaviour machine.now) }
 {
     let realizable = machine.player().number() == 0;
-    let circuit = encode(alloc, machine)?;
+    let circuit = encode_bits(alloc, machine)?;
     Ok(Short {
         realizable,
         circuit,

@@ -2,7 +2,7 @@
 
 ghost use Rattle.std.specs.Prelude.{◌≡◌, ℕ, true, List, IfOk, IfErr};
 ghost use Rattle.ps_hoa.specs.Files.{FileData};
-ghost use Rattle.ps_machine.specs.Solvers.{Answered, IsKept};
+ghost use Rattle.ps_solver.specs.Solvers.{Answered, IsKept};
 ghost use Rattle.ps_machine.specs.declared.key.Order.{Order};
 ghost use Rattle.ps_synthesis.specs.Problems.{IsProblemOf};
 ghost use Rattle.ps_synthesis.specs.Promises.{IsAcceptedText};

@@ -1,7 +1,7 @@
 use Rattle.std.proofs.Common.{subst}
 use Rattle.std.specs.Prelude.{IfErr, IfOk, IfSome}
 use Rattle.ps_hoa.specs.Files.{FileData}
-use Rattle.ps_machine.specs.Solving.{AnswersLeast}
+use Rattle.ps_solver.specs.Solving.{AnswersLeast}
 use Rattle.ps_synthesis.specs.ShortFiles.{IsFaultOfFile, IsShortOfFile}
 use Rattle.ps_synthesis.proofs.ShortTexts.{found_back, refused_back}
 use Rattle.ps_synthesis.proofs.short.answer_without_game.Goals as goal

@@ -1,4 +1,4 @@
-use Rattle.ps_machine.specs.Solvers.{Answered, MayAnswer}
+use Rattle.ps_solver.specs.Solvers.{Answered, MayAnswer}
 use Rattle.ps_synthesis.proofs.ShortTexts.{Laws, found_of_text}
 use Rattle.ps_synthesis.proofs.short.short_answer.Goals as goal
 

@@ -1,6 +1,6 @@
 use Rattle.std.proofs.Common.{arith, refl, subst}
 use Rattle.ps_game.specs.Games.{NamedGameData}
-use Rattle.ps_machine.specs.Solvers.{Answered, MayAnswer}
+use Rattle.ps_solver.specs.Solvers.{Answered, MayAnswer}
 use Rattle.ps_synthesis.specs.Printing.{PrintsCertificate, PrintsGame}
 use Rattle.ps_synthesis.specs.SynthFaults.{IsSynthFault, Reported}
 use Rattle.ps_synthesis.proofs.ReportOutcomes.{failed}

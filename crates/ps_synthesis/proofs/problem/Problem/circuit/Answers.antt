@@ -1,6 +1,6 @@
 use Rattle.std.proofs.Common.{IfErr, IfOk, subst, sym}
 use Rattle.ps_circuit.specs.Circuits.{CircuitData}
-use Rattle.ps_machine.specs.Solving.{IsCertified}
+use Rattle.ps_solver.specs.Solving.{IsCertified}
 use Rattle.ps_synthesis.specs.Problems.{IsProblemOf, ProblemData, ReturnsOnly}
 use Rattle.ps_synthesis.specs.Reports.{IsWinnersSynthesis}
 use Rattle.ps_synthesis.specs.SynthFaults.{IsSynthFault}

@@ -1,6 +1,6 @@
 use Rattle.std.proofs.Common.{arith, Ok, subst}
 use Rattle.ps_game.specs.Games.{NamedGameData}
-use Rattle.ps_machine.specs.Solvers.{Answered, MayAnswer}
+use Rattle.ps_solver.specs.Solvers.{Answered, MayAnswer}
 use Rattle.ps_synthesis.specs.Stages.{IsSolverFault}
 use Rattle.ps_synthesis.proofs.Reporting.{sure_circuit}
 use Rattle.ps_synthesis.proofs.SynthesiseLemmas.{fault_by, fault_of, synthesis_by}
