@@ -3,5 +3,6 @@
 pub mod AlphabetLemmas
 pub mod BoardTableaux
 pub mod ComposedLemmas
+pub mod Scenes
 pub mod StateLemmas
 pub mod ViewLemmas

@@ -1,28 +1,23 @@
 //! Compares an automaton with a formula.
 
-ghost use Rattle.std.specs.Prelude.{◌≡◌, ◌^◌, ◌<◌, ◌≤◌, IfErr, IfNone, IfOk, IfSome, MatchOption, cond, length, map};
-ghost use Rattle.std.specs.Prelude.{true};
+ghost use Rattle.std.specs.Prelude.{◌^◌, IfErr, IfNone, IfOk, IfSome, MatchOption, cond, true};
 ghost use Rattle.ps_automaton.specs.Automata.{IsBuiltFrom, auto_of};
 ghost use Rattle.ps_automaton.specs.Chains.{Chain};
 ghost use Rattle.ps_fairness.specs.Marks.{IsFairCycle};
 ghost use Rattle.ps_formula.specs.Formulas.{formula_at, not_of};
 ghost use Rattle.ps_hoa.specs.Files.{FileData};
-ghost use Rattle.ps_hoa.specs.Memory.{bytes_of};
-ghost use Rattle.ps_simulate.specs.Symbols.{AreDistinct};
 ghost use Rattle.ps_models.specs.Agreements.{ArePropositionsOf, IsAgreementOf, IsAgreementRefusal};
 ghost use Rattle.ps_models.specs.Inner.Comparing.{IsComparison, ArePlaces, HasNoCycle, IsHalfTold, IsLassoAt};
 ghost use Rattle.ps_models.specs.Inner.Comparing.{IsLassoIf, IsLassoTold};
-ghost use Rattle.ps_models.specs.Inner.JointGraphs.{AllJoined, IsJointOf, capped_graph, marks_at};
-ghost use Rattle.ps_models.specs.Inner.Joining.{IsJointPlan};
+ghost use Rattle.ps_models.specs.Inner.JointGraphs.{IsJointOf, capped_graph, marks_at};
 ghost use Rattle.ps_models.specs.Inner.Joints.{read_by};
 ghost use Rattle.ps_models.specs.Sentences.{named_formula};
 
 use crate::agreement::{Agreement, AgreementFault, Lasso};
-use crate::joining::JointPlan;
 use crate::joint::{Capped, JointGraph};
+use crate::joint_plan::JointPlan;
 use crate::sentence::Sentence;
 use ps_automaton::Automaton;
-use ps_components::Graph;
 use ps_fairness::{Edge, fair_cycle, walk_to};
 use ps_simulate::{is_in_list, proposition_of};
 use ps_tableau::Tableau;
@@ -41,9 +36,6 @@ pub fn agreed(
     automaton: &Automaton,
     sentence: Sentence,
 ) -> Result<Agreement, AgreementFault>
-    requires few { length sentence.names.now ≤ 64 }
-    requires distinct { AreDistinct (map bytes_of sentence.names.now) }
-    requires root { sentence.root < length sentence.formulas.now }
     ensures agreed { IfOk result (λ agreement. (file : FileData) (chain : Chain) →
         IsBuiltFrom file chain automaton.now → IsAgreementOf file (named_formula sentence.entry) agreement) }
     ensures refused { IfErr result (IsAgreementRefusal automaton.now.names automaton.now.controllable
@@ -69,7 +61,6 @@ fn places_of(
     automaton: &Automaton,
     sentence: Sentence,
 ) -> Result<Option<Vec<u32>>, AllocError>
-    requires { length sentence.names.now ≤ 64 }
     ensures some { IfOk result (λ found. IfSome found (λ places. ArePlaces automaton.now.names
         automaton.now.controllable (named_formula sentence.entry) places.items)) }
     ensures none { IfOk result (λ found. IfNone found (¬ ArePropositionsOf automaton.now.names
@@ -132,8 +123,6 @@ fn difference(
 
 /// The product of the automaton and the tableau of the formula, or of its negation. Fails if out of memory.
 fn product(plan: JointPlan, sentence: Sentence, negated: bool) -> Result<JointGraph, AllocError>
-    requires plan { IsJointPlan plan }
-    requires root { sentence.root < length sentence.formulas.now }
     ensures { IfOk result (IsJointOf (auto_of plan.entry.automaton.now) (read_by plan.entry.places.now)
         (2 ^ plan.entry.count) (cond negated
         (not_of (formula_at sentence.entry.formulas.now sentence.entry.root))
@@ -146,7 +135,6 @@ fn product(plan: JointPlan, sentence: Sentence, negated: bool) -> Result<JointGr
 /// A lasso of the product on which each until is fulfilled, and whose greatest repeated priority is even, or odd. Fails
 /// if out of memory.
 fn lasso_of(alloc: Global, graph: &JointGraph, even: bool) -> Result<Option<Lasso>, AllocError>
-    requires { AllJoined graph.now }
     ensures { IfOk result (IsLassoTold graph.now even) }
 {
     let priorities = graph.priorities(alloc)?;
@@ -167,7 +155,6 @@ fn lasso_if(
     priority: u64,
     even: bool,
 ) -> Result<Option<Lasso>, AllocError>
-    requires { AllJoined graph.now }
     ensures { IfOk result (IsLassoIf graph.now even priority) }
 {
     let is_even = priority % 2 == 0;
@@ -180,29 +167,25 @@ fn lasso_if(
 /// A lasso of the product on which each until is fulfilled, and whose greatest repeated priority is the given one.
 /// Fails if out of memory.
 fn lasso_at(alloc: Global, graph: &JointGraph, priority: u64) -> Result<Option<Lasso>, AllocError>
-    requires { AllJoined graph.now }
     ensures { IfOk result (λ found. MatchOption found (HasNoCycle graph.now priority)
         (IsLassoAt graph.now priority)) }
 {
-    let Some(cycle) = fair_cycle(alloc, &Capped { graph, priority })? else {
+    let capped = Capped { graph, priority };
+    let Some(cycle) = fair_cycle(alloc, &capped)? else {
         return Ok(None);
     };
-    let lasso = lasso_along(alloc, graph, priority, &cycle)?;
+    let lasso = lasso_along(alloc, capped, &cycle)?;
     Ok(Some(lasso))
 }
 
 /// The letters on a way from the first vertex to a cycle, and along the cycle. Fails if out of memory.
-fn lasso_along(
-    alloc: Global,
-    graph: &JointGraph,
-    priority: u64,
-    cycle: &[Edge],
-) -> Result<Lasso, AllocError>
-    requires reached { AllJoined graph.now }
-    requires cycle { IsFairCycle (capped_graph graph.now priority) (marks_at graph.now priority) cycle.now }
-    ensures { IfOk result (IsLassoAt graph.now priority) }
+fn lasso_along(alloc: Global, capped: Capped, cycle: &[Edge]) -> Result<Lasso, AllocError>
+    requires { IsFairCycle (capped_graph capped.graph.now capped.priority) (marks_at capped.graph.now capped.priority)
+        cycle.now }
+    ensures { IfOk result (IsLassoAt capped.entry.graph.now capped.entry.priority) }
 {
-    let _ = (graph.count(), priority);
+    let graph = capped.graph;
+    graph.parts_fit();
     let Some(walk) = walk_to(alloc, graph, 0, cycle[0].vertex)? else {
         unreachable!()
     };

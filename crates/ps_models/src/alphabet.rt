@@ -1,12 +1,11 @@
 //! Diagrams of propositions over the letters of a formula, by which an automaton reads these letters.
 
 ghost use Rattle.std.specs.Prelude.{◌≡◌, ◌^◌, ◌<◌, ◌≤◌, All, IfOk, OnOk, length, map, slice_index};
-ghost use Rattle.ps_diagram.specs.Table.{IsNode, Keeps, Table};
-ghost use Rattle.ps_models.specs.Inner.Alphabets.{AreBitNodes, AreMet, IsAlphabet};
-ghost use Rattle.ps_models.specs.Inner.Joining.{IsJointPlan};
+ghost use Rattle.ps_diagram.specs.Table.{Keeps, Table};
+ghost use Rattle.ps_models.specs.Inner.Alphabets.{AreBitNodes, AreMet, CanMeet, IsAlphabet};
 
 use crate::composed::Composed;
-use crate::joining::JointPlan;
+use crate::joint_plan::JointPlan;
 use crate::meetings::{Meetings, copy_of};
 use ps_diagram::{Node, Store};
 use std::alloc::{AllocError, Global};
@@ -30,11 +29,10 @@ pub(crate) struct Alphabet {
 impl Alphabet {
     /// The diagrams of the propositions of the formula and of the automaton. Fails if out of memory.
     pub(crate) fn new(plan: JointPlan) -> Result<Self, AllocError>
-        requires { IsJointPlan plan }
         ensures { IfOk result (λ alphabet. (guards : Table) → guards.propositions ≡ 64 →
             IsAlphabet plan.entry guards alphabet) }
     {
-        let _ = plan.automaton.states();
+        plan.automaton.parts_fit();
         let mut store = Store::new(plan.alloc, plan.count);
         let whole = whole_nodes(plan.alloc, &mut store)?;
         let own = nodes_at(plan.alloc, &whole, plan.places)?;
@@ -58,9 +56,7 @@ impl Alphabet {
         guard: Node,
         own: u32,
     ) -> Result<Vec<(u64, u64)>, AllocError>
-        requires alphabet { IsAlphabet plan guards.now self.old }
-        requires guard { IsNode guards.now guard }
-        requires own { own ≤ plan.automaton.now.states }
+        requires { CanMeet plan guards.now guard own self.old }
         ensures alphabet { OnOk result (IsAlphabet plan.entry guards.now self.new) }
         ensures met { IfOk result (λ found. AreMet (2 ^ plan.entry.count) plan.entry.places.now
             plan.entry.automaton.now own guards.now guard found.items) }
@@ -82,9 +78,7 @@ impl Alphabet {
         guard: Node,
         own: u32,
     ) -> Result<Vec<(u64, u64)>, AllocError>
-        requires alphabet { IsAlphabet plan guards.now self.old }
-        requires guard { IsNode guards.now guard }
-        requires own { own ≤ plan.automaton.now.states }
+        requires { CanMeet plan guards.now guard own self.old }
         ensures alphabet { OnOk result (IsAlphabet plan.entry guards.now self.new) }
         ensures met { IfOk result (λ found. AreMet (2 ^ plan.entry.count) plan.entry.places.now
             plan.entry.automaton.now own guards.now guard found.items) }

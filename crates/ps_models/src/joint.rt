@@ -52,6 +52,13 @@ impl JointGraph {
         JointGraph { tableau, rows }
     }
 
+    /// The parts fit: each edge leads to a vertex, and each vertex is reached from the first. The prover learns it here.
+    pub(crate) fn parts_fit(&self)
+        ensures { IsJointStored self.now }
+    {
+        self.rows.len();
+    }
+
     /// The edge in a slot of a vertex.
     fn edge(&self, vertex: usize, slot: usize) -> JointEdge
         requires vertex { vertex < length self.now.rows }

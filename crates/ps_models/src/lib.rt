@@ -36,6 +36,7 @@ mod exploring;
 mod graph;
 mod joining;
 mod joint;
+mod joint_plan;
 pub mod laws;
 mod meetings;
 mod plan;

@@ -1,17 +1,17 @@
 //! Judges a circuit by a formula.
 
-ghost use Rattle.std.specs.Prelude.{◌≡◌, ◌<◌, ◌≤◌, IfErr, IfOk, cond, length, map};
+ghost use Rattle.std.specs.Prelude.{◌≡◌, IfErr, IfOk, cond, map};
 ghost use Rattle.ps_fairness.specs.Marks.{IsFairCycle};
 ghost use Rattle.ps_formula.specs.Formulas.{Formula, formula_at, not_of};
 ghost use Rattle.ps_hoa.specs.Memory.{bytes_of};
 ghost use Rattle.ps_product.specs.ProductFaults.{IsRefusalFor};
 ghost use Rattle.ps_product.specs.Roles.{AreRoles};
-ghost use Rattle.ps_simulate.specs.Symbols.{AreDistinct, HasSymbols};
+ghost use Rattle.ps_simulate.specs.Symbols.{HasSymbols};
 ghost use Rattle.ps_traces.specs.Shapes.{IsInTimeWhereReached};
 ghost use Rattle.ps_machine.specs.declared.key.Order.{Order};
-ghost use Rattle.ps_models.specs.Inner.Graphs.{AllReached, IsModelGraph, graph_of, marks_of};
+ghost use Rattle.ps_models.specs.Inner.Graphs.{IsModelGraph, graph_of, marks_of};
 ghost use Rattle.ps_models.specs.Inner.Judging.{IsRefutation, IsTold};
-ghost use Rattle.ps_models.specs.Inner.Plans.{IsSoundPlan, scene_of};
+ghost use Rattle.ps_models.specs.Inner.Plans.{scene_of};
 ghost use Rattle.ps_models.specs.Judgements.{IsJudgementFor};
 ghost use Rattle.ps_models.specs.Products.{opposed};
 ghost use Rattle.ps_models.specs.Sentences.{named_formula};
@@ -22,7 +22,6 @@ use crate::plan::Plan;
 use crate::readings::stimulus_along;
 use crate::sentence::Sentence;
 use ps_circuit::Circuit;
-use ps_components::Graph;
 use ps_cone::reduced;
 use ps_fairness::{Edge, fair_cycle, walk_to};
 use ps_machine::Order;
@@ -50,15 +49,12 @@ pub fn satisfied(
     order: Order,
     role: Role,
 ) -> Result<Judgement, ProductFault>
-    requires few { length sentence.names.now ≤ 64 }
-    requires distinct { AreDistinct (map bytes_of sentence.names.now) }
-    requires root { sentence.root < length sentence.formulas.now }
     ensures judged { IfOk result (IsJudgementFor order role (named_formula sentence.entry) circuit.now) }
     ensures refused { IfErr result (IsRefusalFor order role (map bytes_of sentence.entry.names.now)
         sentence.entry.controllable.now circuit.now) }
 {
     circuit_has_one_values();
-    let _ = circuit.latches();
+    circuit.parts_fit();
     let part = reduced(alloc, circuit)?;
     satisfied_by_all(alloc, &part, sentence, order, role)
 }
@@ -71,14 +67,11 @@ fn satisfied_by_all(
     order: Order,
     role: Role,
 ) -> Result<Judgement, ProductFault>
-    requires few { length sentence.names.now ≤ 64 }
-    requires distinct { AreDistinct (map bytes_of sentence.names.now) }
-    requires root { sentence.root < length sentence.formulas.now }
     ensures judged { IfOk result (IsJudgementFor order role (named_formula sentence.entry) circuit.now) }
     ensures refused { IfErr result (IsRefusalFor order role (map bytes_of sentence.entry.names.now)
         sentence.entry.controllable.now circuit.now) }
 {
-    let _ = circuit.latches();
+    circuit.parts_fit();
     let names = sentence.names;
     let Some(roles) = roles_for(alloc, circuit, names, sentence.controllable, role)? else {
         return Err(ProductFault::Symbols);
@@ -98,15 +91,13 @@ fn judged(
     roles: &Roles,
     role: Role,
 ) -> Result<Judgement, AllocError>
-    requires distinct { AreDistinct (map bytes_of sentence.names.now) }
-    requires root { sentence.root < length sentence.formulas.now }
     requires roles { AreRoles (map bytes_of sentence.names.now) circuit.now roles.now }
     requires symbols { HasSymbols role (map bytes_of sentence.names.now) sentence.controllable.now circuit.now }
     ensures { IfOk result (λ judgement. (order : Order) → IsInTimeWhereReached order role circuit.now →
         IsJudgementFor order role (named_formula sentence.entry) circuit.now judgement) }
 {
     fair_cycle_decides();
-    let _ = circuit.latches();
+    circuit.parts_fit();
     let plan = Plan {
         alloc,
         circuit,
@@ -118,9 +109,7 @@ fn judged(
 }
 
 /// The product of the circuit and the tableau of the formula that a counterexample satisfies. Fails if out of memory.
-fn product(plan: Plan, sentence: Sentence, role: Role) -> Result<ModelGraph, AllocError>
-    requires plan { IsSoundPlan plan }
-    requires root { sentence.root < length sentence.formulas.now }
+fn product<'a>(plan: Plan<'a>, sentence: Sentence, role: Role) -> Result<ModelGraph<'a>, AllocError>
     ensures { IfOk result (IsModelGraph (scene_of plan.entry).names plan.entry.circuit.now
         (opposed role (formula_at sentence.entry.formulas.now sentence.entry.root))) }
 {
@@ -142,7 +131,6 @@ fn opposes(role: Role) -> bool
 /// Whether the product has no fair cycle; if it has one, the stimulus that the circuit reads on the way there and along
 /// it. Fails if out of memory.
 fn told(alloc: Global, graph: &ModelGraph) -> Result<Judgement, AllocError>
-    requires { AllReached graph.now }
     ensures { IfOk result (IsTold graph.now) }
 {
     let Some(cycle) = fair_cycle(alloc, graph)? else {
@@ -155,11 +143,10 @@ fn told(alloc: Global, graph: &ModelGraph) -> Result<Judgement, AllocError>
 /// The stimulus that the circuit reads on a way from the first vertex to a fair cycle, and along the cycle. Fails if
 /// out of memory.
 fn refutation(alloc: Global, graph: &ModelGraph, cycle: &[Edge]) -> Result<Stimulus, AllocError>
-    requires reached { AllReached graph.now }
-    requires cycle { IsFairCycle (graph_of graph.now) (marks_of graph.now) cycle.now }
+    requires { IsFairCycle (graph_of graph.now) (marks_of graph.now) cycle.now }
     ensures { IfOk result (IsRefutation graph.now) }
 {
-    let _ = graph.count();
+    graph.parts_fit();
     let Some(stem) = walk_to(alloc, graph, 0, cycle[0].vertex)? else {
         unreachable!()
     };

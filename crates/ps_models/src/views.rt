@@ -5,7 +5,7 @@ ghost use Rattle.ps_diagram.specs.Table.{IsNode, Keeps};
 ghost use Rattle.ps_product.specs.Truths.{IsOutcome, IsTruth};
 ghost use Rattle.std.specs.Prelude.{All, map};
 ghost use Rattle.ps_hoa.specs.Memory.{bytes_of};
-ghost use Rattle.ps_models.specs.Inner.Plans.{IsSoundPlan, scene_of};
+ghost use Rattle.ps_models.specs.Inner.Plans.{scene_of};
 ghost use Rattle.ps_models.specs.Inner.Views.{ArePadded, IsView};
 
 use crate::plan::Plan;
@@ -44,14 +44,13 @@ impl<'a> Plan<'a> {
         store: Store,
         latches: &[bool],
     ) -> Result<View, AllocError>
-        requires plan { IsSoundPlan self }
         requires evaluator { evaluator.old ≡ self.circuit.now }
         requires store { store.propositions ≡ length self.names.now }
         requires latches { length latches.now ≡ length self.circuit.now.latches }
         ensures evaluator { evaluator.new ≡ evaluator.old }
         ensures view { IfOk result (IsView (scene_of self.entry) latches.now) }
     {
-        let _ = self.circuit.latches();
+        self.circuit.parts_fit();
         let evaluated = self.evaluated(evaluator, store, latches)?;
         self.diagrams(evaluated)
     }
@@ -63,7 +62,6 @@ impl<'a> Plan<'a> {
         store: Store,
         latches: &[bool],
     ) -> Result<Evaluated, AllocError>
-        requires plan { IsSoundPlan self }
         requires evaluator { evaluator.old ≡ self.circuit.now }
         requires store { store.propositions ≡ length self.names.now }
         requires latches { length latches.now ≡ length self.circuit.now.latches }
@@ -72,7 +70,7 @@ impl<'a> Plan<'a> {
         ensures outcome { IfOk result (λ e. IsOutcome self.entry.circuit.now self.entry.roles.now.inputs.items
             latches.now e.store e.outcome.outputs.items e.outcome.nexts.items) }
     {
-        let _ = self.circuit.latches();
+        self.circuit.parts_fit();
         let mut truths = Truths::new(store)?;
         let outcome = evaluator.at(&self.roles.inputs, latches, &mut truths)?;
         Ok(Evaluated {
@@ -83,7 +81,6 @@ impl<'a> Plan<'a> {
 
     /// The diagrams of a step, from the functions of the outputs and the next latches. Fails if out of memory.
     fn diagrams(self, evaluated: Evaluated) -> Result<View, AllocError>
-        requires plan { IsSoundPlan self }
         requires store { evaluated.store.propositions ≡ length self.names.now }
         requires outputs { All (IsTruth evaluated.store) evaluated.outcome.outputs.items }
         requires nexts { All (IsTruth evaluated.store) evaluated.outcome.nexts.items }
@@ -93,7 +90,7 @@ impl<'a> Plan<'a> {
             evaluated.outcome.outputs.items evaluated.outcome.nexts.items → IsView (scene_of self.entry) latches v) }
     {
         outcome_is_the_step();
-        let _ = self.circuit.latches();
+        self.circuit.parts_fit();
         let Evaluated { mut store, outcome } = evaluated;
         let Outcome { outputs, nexts } = outcome;
         let nodes = self.nodes(&mut store, &outputs)?;
@@ -109,7 +106,6 @@ impl<'a> Plan<'a> {
 
     /// The diagram of each proposition of guards: one without a name is false at each letter. Fails if out of memory.
     fn nodes(self, store: &mut Store, outputs: &[Truth]) -> Result<Vec<Node>, AllocError>
-        requires plan { IsSoundPlan self }
         requires store { store.old.propositions ≡ length self.names.now }
         requires outputs { All (IsTruth store.old) outputs.now }
         requires one_each { length outputs.now ≡ length self.roles.now.outputs.items }

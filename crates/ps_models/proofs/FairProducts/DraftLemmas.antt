@@ -12,14 +12,14 @@ use Rattle.ps_product.specs.Words.{HasGrown}
 use Rattle.ps_product.proofs.ExploredProducts.WordNumbers.{still_there}
 use Rattle.ps_simulate.proofs.NamingLemmas.{some_same}
 use Rattle.ps_tableau.specs.declared.edge.Edge.{Edge}
-use Rattle.ps_models.specs.BoardStates.{edges_of_state}
 use Rattle.ps_models.specs.Inner.Exploring.{AddsCover, AreProper, DraftData, IsExplored, IsMadeUpTo, IsProper}
 use Rattle.ps_models.specs.Inner.Exploring.{circuit_kind, first_of}
 use Rattle.ps_models.specs.Inner.Rows.{HasEachStep, LeadsBy, VerticesGrow, covers_at}
-use Rattle.ps_models.specs.Inner.States.{AreStates, StatesData, StatesGrow}
+use Rattle.ps_models.specs.Inner.States.{AreStates, StatesData}
 use Rattle.ps_models.specs.Inner.Views.{Scene}
 use Rattle.ps_models.specs.declared.graph.Passage.{Passage}
-use Rattle.ps_models.proofs.FairProducts.Drafts.{IsSteady, adds_grow, adds_none, adds_on, explored_first}
+use Rattle.ps_models.proofs.FairProducts.Drafts.{IsSteady, adds_grow, adds_none, adds_on, explored_first, same_covers}
+use Rattle.ps_models.proofs.FairProducts.Drafts.{still_explored}
 use Rattle.ps_models.proofs.FairProducts.RowLemmas.{row_kept, row_more, whole_row_kept}
 
 -- ## Proper vertices
@@ -76,8 +76,7 @@ made_none {s} {d} are v there = record {
 }
 
 module _ {s : Scene} {base old new : DraftData} {vertex : ℕ} {cover : Edge} {row made : List Passage} {done : ℕ}
-    (sound : AreStates base.states) (is : IsMadeUpTo s base old vertex row done)
-    (adds : AddsCover s old new vertex cover row made)
+    (is : IsMadeUpTo s base old vertex row done) (adds : AddsCover s old new vertex cover row made)
     (explored : is.at.state < length base.states.edges) where
   at_old : slice_get old.vertices vertex ≡ Some is.at
   at_old = still_there vertex is.adds.vertices.grown is.there
@@ -85,21 +84,14 @@ module _ {s : Scene} {base old new : DraftData} {vertex : ℕ} {cover : Edge} {r
   same_vertex : adds.at ≡ is.at
   same_vertex = some_same adds.at is.at (sym adds.there ∙ at_old)
 
-  explored_old : is.at.state < length old.states.edges
-  explored_old = subst (λ (es : List (List Edge)). is.at.state < length es) (sym is.adds.edges) explored
-
-  grow_now : StatesGrow old.states new.states
-  grow_now = adds_grow is.adds.are_fit.states adds.adds
-
-  covers_now : covers_at new.states is.at ≡ covers_at old.states is.at
-  covers_now = ap (λ (es : List (List Edge)). edges_of_state es is.at.state) adds.adds.edges
-
   pub made_more : slice_get (covers_at old.states is.at) done ≡ Some cover →
       IsMadeUpTo s base new vertex made (done + 1)
   made_more here =
-      let kept = row_kept s is.at is.adds.are_fit.states grow_now adds.adds.vertices.grown explored_old is.made in
+      let grow = adds_grow is.adds.are_fit.states adds.adds in
+      let kept = row_kept s is.at is.adds.are_fit.states grow adds.adds.vertices.grown
+      (still_explored is.adds explored) is.made in
       let there : slice_get (covers_at new.states is.at) done ≡ Some cover =
-      ap (λ (l : List Edge). slice_get l done) covers_now ∙ here in
+      ap (λ (l : List Edge). slice_get l done) (same_covers is.at.state adds.adds) ∙ here in
       record {
         adds = adds_on adds.more adds.made_is is.adds adds.adds;
         at = is.at;

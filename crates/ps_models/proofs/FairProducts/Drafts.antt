@@ -10,9 +10,10 @@ use Rattle.ps_simulate.proofs.NamingLemmas.{some_same}
 use Rattle.ps_tableau.specs.Boards.{Grows}
 use Rattle.ps_tableau.specs.declared.board.Board.{Board}
 use Rattle.ps_tableau.specs.declared.edge.Edge.{Edge}
-use Rattle.ps_tableau.proofs.BoardLemmas.{grows_refl}
-use Rattle.ps_models.specs.Inner.Drafts.{AddsTo, AreFit, DraftOf, IsExploredTo, ProductKind, MakesRow}
-use Rattle.ps_models.specs.Inner.States.{AreStates, HaveMoreEdges, StatesData, StatesGrow}
+use Rattle.ps_tableau.proofs.BoardLemmas.{grows_refl, grows_trans}
+use Rattle.ps_models.specs.BoardStates.{edges_of_state}
+use Rattle.ps_models.specs.Inner.Drafts.{AddsTo, AreFit, DraftOf, EndsIn, GoesOn, IsExploredTo, MakesRow, ProductKind}
+use Rattle.ps_models.specs.Inner.States.{AreStates, HaveAllEdges, HaveMoreEdges, StatesData, StatesGrow}
 use Rattle.ps_models.proofs.FairProducts.GrowingRows.{each_now, led_more, new_row, old_row, one_row_more, vertices_none}
 use Rattle.ps_models.proofs.FairProducts.GrowingRows.{vertices_on}
 
@@ -59,9 +60,18 @@ module _ {V X : Type 0} {k : ProductKind V X} where
     vertices = vertices_on more e first.vertices second.vertices;
   }
 
+  pub still_explored : {old new : DraftOf V X} {row : List X} {state : ℕ} → AddsTo k old new row →
+      state < length old.states.edges → state < length new.states.edges
+  still_explored {state = state} adds explored =
+      subst (λ (es : List (List Edge)). state < length es) (sym adds.edges) explored
+
+  pub same_covers : {old new : DraftOf V X} {row : List X} (state : ℕ) → AddsTo k old new row →
+      edges_of_state new.states.edges state ≡ edges_of_state old.states.edges state
+  same_covers state adds = ap (λ (es : List (List Edge)). edges_of_state es state) adds.edges
+
   -- ## More states have their edges
 
-  pub states_reached : IsSteady k → {d : DraftOf V X} {count : ℕ} {states : StatesData} → IsExploredTo k d count →
+  states_reached : IsSteady k → {d : DraftOf V X} {count : ℕ} {states : StatesData} → IsExploredTo k d count →
       HaveMoreEdges d.states states →
       IsExploredTo k (record { states = states; vertices = d.vertices; rows = d.rows }) count
   states_reached steady {d} {count} {states} x more =
@@ -84,9 +94,22 @@ module _ {V X : Type 0} {k : ProductKind V X} where
         led = x.led;
       }
 
+  pub goes_on : IsSteady k → {d : DraftOf V X} {count : ℕ} {states : StatesData} → IsExploredTo k d count →
+      HaveMoreEdges d.states states →
+      GoesOn k d (record { states = states; vertices = d.vertices; rows = d.rows }) count
+  goes_on steady x more = record { explored = states_reached steady x more; grows = more.grow.board }
+
+  pub ends_in : IsSteady k → {old d : DraftOf V X} {states : StatesData} → IsExploredTo k d (length d.vertices) →
+      Grows old.states.board d.states.board → HaveAllEdges d.states states →
+      EndsIn k old (record { states = states; vertices = d.vertices; rows = d.rows })
+  ends_in steady x grows have = record {
+    whole = record { explored = states_reached steady x have.more; covers = have.all };
+    grows = grows_trans grows have.more.grow.board;
+  }
+
   -- ## One vertex more
 
-  pub explored_more : IsSteady k → {old mid : DraftOf V X} {vertex : ℕ} {row : List X} {rows : List (List X)} →
+  explored_more : IsSteady k → {old mid : DraftOf V X} {vertex : ℕ} {row : List X} {rows : List (List X)} →
       IsExploredTo k old vertex → (made : MakesRow k old mid vertex row) →
       k.state made.at < length old.states.edges → rows ≡ mid.rows ++ row ∷ [] →
       IsExploredTo k (record { states = mid.states; vertices = mid.vertices; rows = rows }) (vertex + 1)
@@ -119,6 +142,15 @@ module _ {V X : Type 0} {k : ProductKind V X} where
             (subst (k.HasRow mid.states mid.vertices made.at) (sym (new_row old.rows row all x.rows_each)) made.made);
         led = led_more made.adds.vertices all x.rows_each few x.led;
       }
+
+  pub goes_one_on : IsSteady k → {old mid : DraftOf V X} {vertex : ℕ} {row : List X} {rows : List (List X)} →
+      IsExploredTo k old vertex → (made : MakesRow k old mid vertex row) →
+      k.state made.at < length old.states.edges → rows ≡ mid.rows ++ row ∷ [] →
+      GoesOn k old (record { states = mid.states; vertices = mid.vertices; rows = rows }) (vertex + 1)
+  goes_one_on steady x made covers pushed = record {
+    explored = explored_more steady x made covers pushed;
+    grows = (adds_grow x.are_fit.states made.adds).board;
+  }
 
   -- ## The first vertex
 

@@ -297,7 +297,6 @@ module _ {s : Scene} {d : DraftData} (x : IsExplored s d (length d.vertices))
         let z = stands e w is in
         z.is.reads ∙ ap (λ (y : Passage). bits_at s.inputs y.letter)
         (sym (get_or_from_slice_get (row_at d.rows e.vertex) e.slot z.passage no_passage z.there));
-    reached = all_reached (λ (y : Passage). y.to) d.rows (λ v positive lt. x.led v positive (omega (arith, lt, x.rows_each)));
   }
 
   pub is_stored : ((i p : ℕ) → i < length s.inputs → get_or s.inputs i p < 64) → IsStored g
@@ -308,4 +307,5 @@ module _ {s : Scene} {d : DraftData} (x : IsExplored s d (length d.vertices))
     held = λ v k y there.
         let lt = row_low d.rows v k y there in held_at v k (get_or d.vertices v (first_of s)) y (vertex_there v lt) there;
     named = λ i p lt. named i p lt;
+    reached = all_reached (λ (y : Passage). y.to) d.rows (λ v positive lt. x.led v positive (omega (arith, lt, x.rows_each)));
   }

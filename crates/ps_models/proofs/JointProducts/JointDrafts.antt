@@ -5,12 +5,12 @@ use Rattle.std.specs.List.{slice_get}
 use Rattle.std.proofs.lemmas.Option.{slice_get_within}
 use Rattle.ps_product.specs.Words.{HasGrown}
 use Rattle.ps_tableau.specs.declared.edge.Edge.{Edge}
-use Rattle.ps_models.specs.BoardStates.{edges_of_state}
 use Rattle.ps_models.specs.Inner.Joining.{AddsJointCover, ArePaired, IsJointExplored, IsJointMadeUpTo, IsPaired}
 use Rattle.ps_models.specs.Inner.Joining.{JointDraftData, Pairing, joint_covers, pair_kind}
-use Rattle.ps_models.specs.Inner.States.{AreStates, StatesData, StatesGrow}
+use Rattle.ps_models.specs.Inner.States.{AreStates, StatesData}
 use Rattle.ps_models.specs.declared.joint.JointEdge.{JointEdge}
-use Rattle.ps_models.proofs.FairProducts.Drafts.{IsSteady, adds_grow, adds_none, adds_on, explored_first}
+use Rattle.ps_models.proofs.FairProducts.Drafts.{IsSteady, adds_grow, adds_none, adds_on, explored_first, same_covers}
+use Rattle.ps_models.proofs.FairProducts.Drafts.{still_explored}
 use Rattle.ps_models.proofs.JointProducts.JointRows.{joint_row_kept, joint_row_more, whole_joint_kept}
 
 -- ## Vertices
@@ -41,23 +41,16 @@ joint_made_none {s} {d} are v = record {
 }
 
 module _ {s : Pairing} {base old new : JointDraftData} {v : ℕ × ℕ} {cover : Edge} {row made : List JointEdge} {done : ℕ}
-    (sound : AreStates base.states) (is : IsJointMadeUpTo s base old v row done)
-    (adds : AddsJointCover s old new v cover row made) (explored : v.1 < length base.states.edges) where
-  explored_old : v.1 < length old.states.edges
-  explored_old = subst (λ (es : List (List Edge)). v.1 < length es) (sym is.adds.edges) explored
-
-  grow_now : StatesGrow old.states new.states
-  grow_now = adds_grow is.adds.are_fit.states adds.adds
-
-  covers_now : joint_covers new.states v ≡ joint_covers old.states v
-  covers_now = ap (λ (es : List (List Edge)). edges_of_state es v.1) adds.adds.edges
-
+    (is : IsJointMadeUpTo s base old v row done) (adds : AddsJointCover s old new v cover row made)
+    (explored : v.1 < length base.states.edges) where
   pub joint_made_more : slice_get (joint_covers old.states v) done ≡ Some cover →
       IsJointMadeUpTo s base new v made (done + 1)
   joint_made_more here =
-      let kept = joint_row_kept s v is.adds.are_fit.states grow_now adds.adds.vertices.grown explored_old is.made in
+      let grow = adds_grow is.adds.are_fit.states adds.adds in
+      let kept = joint_row_kept s v is.adds.are_fit.states grow adds.adds.vertices.grown
+      (still_explored is.adds explored) is.made in
       let there : slice_get (joint_covers new.states v) done ≡ Some cover =
-      ap (λ (l : List Edge). slice_get l done) covers_now ∙ here in
+      ap (λ (l : List Edge). slice_get l done) (same_covers v.1 adds.adds) ∙ here in
       record {
         adds = adds_on adds.more adds.made_is is.adds adds.adds;
         made = joint_row_more adds.more kept adds.made_is adds.lead cover there adds.whole;

@@ -225,7 +225,6 @@ module _ {s : Pairing} {d : JointDraftData} (x : IsJointExplored s d (length d.v
     is_for = is_tableau_for are_states f is_of x.initial;
     vertex = vertex;
     is_product = is_product;
-    joined = all_reached (λ (y : JointEdge). y.to) d.rows (λ v positive lt. x.led v positive (omega (arith, lt, x.rows_each)));
   }
 
   pub joint_stored : IsJointStored (record { board = d.states.board; rows = d.rows })
@@ -233,4 +232,5 @@ module _ {s : Pairing} {d : JointDraftData} (x : IsJointExplored s d (length d.v
     board_is = states.board;
     stays = λ v k y there. to_low v k y (row_low d.rows v k y there) there;
     held = λ v k y there. held_at v k y (row_low d.rows v k y there) there;
+    joined = all_reached (λ (y : JointEdge). y.to) d.rows (λ v positive lt. x.led v positive (omega (arith, lt, x.rows_each)));
   }

@@ -5,41 +5,17 @@ use Rattle.std.proofs.Common.{◌∙◌, arith, suc, zero}
 use Rattle.ps_fairness.specs.Marks.{IsFairCycle, Leads}
 use Rattle.ps_fairness.specs.declared.edge.Edge.{Edge}
 use Rattle.ps_circuit.specs.Circuits.{CircuitData}
-use Rattle.ps_circuit.specs.Values.{Moment}
 use Rattle.ps_machine.specs.declared.key.Order.{Order}
-use Rattle.ps_product.specs.Roles.{AreRoles}
-use Rattle.ps_product.specs.declared.roles.Roles.{Roles}
-use Rattle.ps_simulate.specs.Lassos.{AreLetters, IsLetterOf}
-use Rattle.ps_simulate.specs.Symbols.{AreDistinct, HasSymbols}
 use Rattle.ps_simulate.specs.declared.role.Role.{Role}
 use Rattle.ps_traces.specs.Inputs.{inputs_of}
-use Rattle.ps_traces.proofs.StepLetters.{letters_there}
 use Rattle.ps_verify.specs.declared.judgement.Judgement.{Judgement}
 use Rattle.ps_verify.specs.declared.judgement.Judgement.TheVariants.{Wins, Loses}
 use Rattle.ps_models.specs.Inner.Graphs.{GraphData, IsModelGraph, graph_of, inputs_along, marks_of}
 use Rattle.ps_models.specs.Inner.Judging.{IsTold}
 use Rattle.ps_models.specs.Inner.Readings.{IsSlotOf}
-use Rattle.ps_models.specs.Inner.Views.{IsScene}
 use Rattle.ps_models.specs.Judgements.{IsJudgementFor, IsLosingFor, IsWinningFor, NamedFormula}
 use Rattle.ps_models.specs.ProductGraphs.{ProductGraph, edges_in}
 use Rattle.ps_models.specs.Products.{edge_moments, opposed, stimulus_of}
-
--- ## Scenes
-
-first_letter : {names : List (List ℕ)} {c : CircuitData} {m : Moment} (letters : List ℕ) →
-    AreLetters names c (m ∷ []) letters → (letter : ℕ) × IsLetterOf names c m letter
-first_letter [] are = absurd are
-first_letter (letter ∷ letters) are = (letter, are.0)
-
-pub is_scene : {role : Role} {names : List (List ℕ)} {controllable : List ℕ} {c : CircuitData} {roles : Roles} →
-    AreDistinct names → HasSymbols role names controllable c → AreRoles names c roles →
-    IsScene (record { names = names; circuit = c; inputs = roles.inputs.items }) roles
-is_scene {names = names} {c = c} distinct symbols are = record {
-  distinct = distinct;
-  roles = are;
-  inputs_are = refl;
-  letters = λ m. let h = letters_there distinct symbols (m ∷ []) in first_letter h.letters h.are_letters;
-}
 
 -- ## Judgements
 

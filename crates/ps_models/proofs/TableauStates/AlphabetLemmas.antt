@@ -23,7 +23,7 @@ use Rattle.ps_models.specs.Inner.Alphabets.{AreBitNodes, AreMeetings, AreMet, Ar
 use Rattle.ps_models.specs.Inner.Composing.{AreComposed}
 use Rattle.ps_models.specs.Inner.Joints.{read_by}
 use Rattle.ps_models.specs.declared.alphabet.Alphabet.{Alphabet}
-use Rattle.ps_models.specs.declared.joining.JointPlan.{JointPlan}
+use Rattle.ps_models.specs.declared.joint_plan.JointPlan.{JointPlan}
 use Rattle.ps_models.specs.declared.meetings.Meetings.{Meetings}
 use Rattle.ps_models.proofs.TableauStates.ComposedLemmas.{composed_kept}
 use Rattle.ps_models.proofs.MeetingLemmas.{meetings_kept}

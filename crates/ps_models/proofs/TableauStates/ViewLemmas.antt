@@ -28,7 +28,8 @@ use Rattle.ps_product.proofs.CircuitFunctions.TruthNodes.{node_for_kept, nodes_h
 use Rattle.ps_product.proofs.CircuitFunctions.GroupLemmas.{bits_same}
 use Rattle.ps_simulate.specs.Lassos.{IsLetterOf}
 use Rattle.ps_simulate.specs.Symbols.{IsSymbol}
-use Rattle.ps_models.specs.Inner.Views.{ArePadded, AreViews, CanTell, HasStepAt, IsOwnStep, IsScene, Scene, moment_of}
+use Rattle.ps_models.specs.Inner.Views.{ArePadded, AreViews, CanTell, HasStepAt, IsOwnStep, Scene, moment_of}
+use Rattle.ps_models.proofs.TableauStates.Scenes.{IsScene}
 
 -- ## Views stay when a store grows
 

@@ -1,5 +1,5 @@
 -- Diagrams of propositions over the letters of a formula, by which an automaton reads these letters.
-use Rattle.std.specs.Prelude.{◌≡◌, ℕ, ◌<◌, All, List, Some, false, if◌then◌else◌, is_some, length, nat_lt}
+use Rattle.std.specs.Prelude.{◌≡◌, ℕ, ◌<◌, ◌≤◌, All, List, Some, false, if◌then◌else◌, is_some, length, nat_lt}
 use Rattle.std.specs.Prelude.{Vec, ◌^◌, slice_get, slice_index, true}
 use Rattle.std.specs.Global.{Global}
 use Rattle.ps_automaton.specs.Automata.{AutomatonData, node_of}
@@ -8,7 +8,7 @@ use Rattle.ps_label.specs.Truth.{is_in}
 use Rattle.ps_models.specs.Inner.Composing.{AreComposed}
 use Rattle.ps_models.specs.Inner.Joints.{read_by}
 use Rattle.ps_models.specs.declared.alphabet.Alphabet.{Alphabet}
-use Rattle.ps_models.specs.declared.joining.JointPlan.{JointPlan}
+use Rattle.ps_models.specs.declared.joint_plan.JointPlan.{JointPlan}
 use Rattle.ps_models.specs.declared.meetings.Meetings.{Meetings}
 
 -- the node has a leaf at the letters in which a proposition below `count` is true, and none if it is not below
@@ -61,3 +61,9 @@ pub record IsAlphabet (plan : JointPlan) (guards : Table) (a : Alphabet) : Type 
   pub of_guards : AreComposed a.store guards a.guards
   pub of_steps : AreComposed a.store plan.automaton.now.store a.steps
   pub of_pairs : AreMeetings (2 ^ plan.count) plan.places.now plan.automaton.now guards a.meetings
+
+-- the node is one of a guard, and the number that of one of the automaton's states, or of its sink
+pub record CanMeet (plan : JointPlan) (guards : Table) (guard own : ℕ) (a : Alphabet) : Type 0 where
+  pub alphabet : IsAlphabet plan guards a
+  pub is_node : IsNode guards guard
+  pub within : own ≤ plan.automaton.now.states

@@ -2,18 +2,16 @@
 use Rattle.std.specs.Prelude.{◌≡◌, ℕ, ◌<◌, Bool, None, Option, Some, List, [], false, length, map, slice_index, true}
 use Rattle.std.specs.Prelude.{slice_index_or}
 use Rattle.ps_hoa.specs.Files.{FileData, is_among}
-use Rattle.ps_hoa.specs.Memory.{bytes_of}
 use Rattle.ps_automaton.specs.Chains.{is_even}
 use Rattle.ps_fairness.specs.Marks.{IsFairCycle, Leads}
 use Rattle.ps_fairness.specs.declared.edge.Edge.{Edge}
-use Rattle.ps_simulate.specs.Symbols.{AreDistinct, IsPropositionOf}
+use Rattle.ps_simulate.specs.Symbols.{IsPropositionOf}
 use Rattle.ps_models.specs.Agreements.{AcceptsByName, IsAcceptedWrongly, IsLassoOver, IsRejectedWrongly}
 use Rattle.ps_models.specs.Inner.JointGraphs.{JointData, capped_graph, joint_graph, letter_along, marks_at}
-use Rattle.ps_models.specs.Inner.Joining.{IsJointPlan}
 use Rattle.ps_models.specs.Judgements.{IsSatisfied, NamedFormula}
 use Rattle.ps_models.specs.Sentences.{named_formula}
 use Rattle.ps_models.specs.declared.agreement.Lasso.{Lasso}
-use Rattle.ps_models.specs.declared.joining.JointPlan.{JointPlan}
+use Rattle.ps_models.specs.declared.joint_plan.JointPlan.{JointPlan}
 use Rattle.ps_models.specs.declared.sentence.Sentence.{Sentence}
 
 -- the numbers that the automaton's first propositions have in the formula, where they have the same names and players
@@ -26,14 +24,11 @@ pub record ArePlacesUpTo (own : List (List ℕ)) (own_controllable : List ℕ) (
 abbrev pub ArePlaces : List (List ℕ) → List ℕ → NamedFormula → List ℕ → Type 0
 ArePlaces own own_controllable f places = ArePlacesUpTo own own_controllable f places (length own)
 
--- the automaton's propositions have their numbers in the sentence, whose propositions differ in their names
+-- the automaton's propositions have their numbers in the sentence
 pub record IsComparison (plan : JointPlan) (sentence : Sentence) : Type 0 where
-  pub is_plan : IsJointPlan plan
   pub count : plan.count ≡ length sentence.names.now
   pub places : ArePlaces plan.automaton.now.names plan.automaton.now.controllable (named_formula sentence)
       plan.places.now
-  pub distinct : AreDistinct (map bytes_of sentence.names.now)
-  pub root : sentence.root < length sentence.formulas.now
 
 -- the letters along a fair cycle of edges whose priorities are at most d, and along a walk to it from the first vertex
 pub record IsLassoAt (g : JointData) (d : ℕ) (lasso : Lasso) : Type 0 where

@@ -1,11 +1,15 @@
 -- A product in the making: the states of the tableau and the vertices that were found, and a row of edges for each of
 -- the first vertices.
 -- - `ProductKind V X`: what the vertices and the edges are
+-- - `IsBlank d`: the initial state was found, and no vertices
 -- - `IsExploredTo k d count`: the first `count` vertices that were found have been explored
+-- - `GoesOn k old new count`: the same of the new draft, whose tableau keeps what the old one has
 -- - `IsWholeDraft k d`: all vertices have been explored, and all states have their edges
+-- - `EndsIn k old new`: the same of the new draft, whose tableau keeps what the old one has
 -- - `AddsTo k old new row`: states and vertices were added, to which edges of the row lead
-use Rattle.std.specs.Prelude.{◌≡◌, ℕ, ◌<◌, ◌≤◌, List, [], Some, length, slice_get, slice_index_or}
+use Rattle.std.specs.Prelude.{◌≡◌, ℕ, ◌<◌, ◌≤◌, List, [], ◌∷◌, Some, length, slice_get, slice_index_or}
 use Rattle.ps_product.specs.Words.{HasGrown}
+use Rattle.ps_tableau.specs.Boards.{Grows}
 use Rattle.ps_models.specs.Inner.Growing.{GrowsBy, IsLedInto}
 use Rattle.ps_models.specs.Inner.States.{AreStates, StatesData}
 
@@ -28,6 +32,12 @@ pub record AreFit {V X : Type 0} (k : ProductKind V X) (d : DraftOf V X) : Type 
   pub states : AreStates d.states
   pub each : (i : ℕ) (v : V) → slice_get d.vertices i ≡ Some v → k.Fits d.states v
 
+pub record IsBlank {V X : Type 0} (d : DraftOf V X) : Type 0 where
+  pub states : AreStates d.states
+  pub sets : d.states.sets ≡ d.states.board.initial ∷ []
+  pub vertices : d.vertices ≡ []
+  pub rows : d.rows ≡ []
+
 -- The first `count` vertices that were found have been explored: each has its edges. Each vertex except the first is
 -- led to by an earlier explored one.
 pub record IsExploredTo {V X : Type 0} (k : ProductKind V X) (d : DraftOf V X) (count : ℕ) : Type 0 where
@@ -42,9 +52,17 @@ pub record IsExploredTo {V X : Type 0} (k : ProductKind V X) (d : DraftOf V X) (
       k.HasRow d.states d.vertices v (slice_index_or d.rows i [])
   pub led : (i : ℕ) → 0 < i → i < length d.vertices → IsLedInto k.to d.rows i
 
+pub record GoesOn {V X : Type 0} (k : ProductKind V X) (old new : DraftOf V X) (count : ℕ) : Type 0 where
+  pub explored : IsExploredTo k new count
+  pub grows : Grows old.states.board new.states.board
+
 pub record IsWholeDraft {V X : Type 0} (k : ProductKind V X) (d : DraftOf V X) : Type 0 where
   pub explored : IsExploredTo k d (length d.vertices)
   pub covers : length d.states.sets ≤ length d.states.edges
+
+pub record EndsIn {V X : Type 0} (k : ProductKind V X) (old new : DraftOf V X) : Type 0 where
+  pub whole : IsWholeDraft k new
+  pub grows : Grows old.states.board new.states.board
 
 -- states and vertices were added, to which edges of the row lead; nothing else changed
 pub record AddsTo {V X : Type 0} (k : ProductKind V X) (old new : DraftOf V X) (row : List X) : Type 0 where

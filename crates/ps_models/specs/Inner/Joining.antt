@@ -6,15 +6,17 @@ use Rattle.ps_automaton.specs.Automata.{AutomatonData, pair_of, step_of}
 use Rattle.ps_product.specs.Words.{HasGrown}
 use Rattle.ps_tableau.specs.declared.edge.Edge.{Edge}
 use Rattle.ps_models.specs.BoardStates.{edges_of_state}
-use Rattle.ps_models.specs.Inner.Drafts.{AddsTo, AreFit, DraftOf, IsExploredTo, IsWholeDraft, MakesRow, ProductKind}
+use Rattle.ps_models.specs.Inner.Alphabets.{IsAlphabet}
+use Rattle.ps_models.specs.Inner.Drafts.{AddsTo, AreFit, DraftOf, EndsIn, GoesOn, IsExploredTo, IsWholeDraft, ProductKind}
 use Rattle.ps_models.specs.Inner.Growing.{GrowsBy}
 use Rattle.ps_models.specs.Inner.Joints.{read_by}
 use Rattle.ps_models.specs.Inner.Rows.{ServesFor}
 use Rattle.ps_models.specs.Inner.States.{StatesData, states_data}
+use Rattle.ps_models.specs.declared.alphabet.Alphabet.{Alphabet}
 use Rattle.ps_models.specs.declared.joining.JointDraft.{JointDraft}
-use Rattle.ps_models.specs.declared.joining.JointPlan.{JointPlan}
 use Rattle.ps_models.specs.declared.joining.Visit.{Visit}
 use Rattle.ps_models.specs.declared.joint.JointEdge.{JointEdge}
+use Rattle.ps_models.specs.declared.joint_plan.JointPlan.{JointPlan}
 
 -- the automaton, the number of letters, and the numbers of the automaton's propositions in the formula
 pub record Pairing : Type 0 where
@@ -24,12 +26,6 @@ pub record Pairing : Type 0 where
 
 abbrev pub pairing_of : JointPlan → Pairing
 pairing_of plan = record { own = plan.automaton.now; few = 2 ^ plan.count; places = plan.places.now }
-
--- each proposition of the automaton has a number in the formula
-pub record IsJointPlan (plan : JointPlan) : Type 0 where
-  pub few : plan.count ≤ 64
-  pub places : All (λ p. p < plan.count) plan.places.now
-  pub one_each : length plan.places.now ≡ length plan.automaton.now.names
 
 abbrev pub JointDraftData : Type 0
 JointDraftData = DraftOf (ℕ × ℕ) JointEdge
@@ -110,23 +106,31 @@ ArePaired s d = AreFit (pair_kind s) d
 abbrev pub IsJointExplored : Pairing → JointDraftData → (count : ℕ) → Type 0
 IsJointExplored s d count = IsExploredTo (pair_kind s) d count
 
+abbrev pub ExploresJoint : Pairing → (old new : JointDraftData) → (count : ℕ) → Type 0
+ExploresJoint s old new count = GoesOn (pair_kind s) old new count
+
 abbrev pub IsFullJointDraft : Pairing → JointDraftData → Type 0
 IsFullJointDraft s d = IsWholeDraft (pair_kind s) d
 
+abbrev pub CompletesJoint : Pairing → (old new : JointDraftData) → Type 0
+CompletesJoint s old new = EndsIn (pair_kind s) old new
+
 -- ## One vertex
-
--- the state of the vertex has its edges
-abbrev pub HasCoversFor : JointDraftData → ℕ → Type 0
-HasCoversFor d vertex = (v : ℕ × ℕ) → slice_get d.vertices vertex ≡ Some v → v.1 < length d.states.edges
-
--- a pair of states, of which that of the tableau has its edges
-pub record IsVisit (s : Pairing) (d : JointDraftData) (v : Visit) : Type 0 where
-  pub paired : ArePaired s d
-  pub own : v.own ≤ s.own.states
-  pub covers : v.state < length d.states.edges
 
 abbrev pub visited : Visit → ℕ × ℕ
 visited v = (v.own, v.state)
+
+-- the vertex with a number, whose state of the tableau has its edges
+pub record IsVisitOf (d : JointDraftData) (vertex : ℕ) (v : Visit) : Type 0 where
+  pub there : slice_get d.vertices vertex ≡ Some (visited v)
+  pub covers : v.state < length d.states.edges
+
+-- a pair of states, of which that of the tableau has its edges; and diagrams for its steps
+pub record IsVisit (plan : JointPlan) (d : JointDraftData) (a : Alphabet) (v : Visit) : Type 0 where
+  pub paired : ArePaired (pairing_of plan) d
+  pub own : v.own ≤ plan.automaton.now.states
+  pub covers : v.state < length d.states.edges
+  pub alphabet : IsAlphabet plan d.states.board.guards a
 
 abbrev pub AddsJoints : Pairing → (old new : JointDraftData) → List JointEdge → Type 0
 AddsJoints s old new row = AddsTo (pair_kind s) old new row
@@ -150,9 +154,6 @@ pub record IsJointMadeUpTo (s : Pairing) (old new : JointDraftData) (v : ℕ × 
 pub record IsJointMadeFor (s : Pairing) (old new : JointDraftData) (v : ℕ × ℕ) (row : List JointEdge) : Type 0 where
   pub adds : AddsJoints s old new row
   pub made : IsJointRow s new.states new.vertices v row
-
-abbrev pub IsJointMadeRow : Pairing → (old new : JointDraftData) → (vertex : ℕ) → List JointEdge → Type 0
-IsJointMadeRow s old new vertex row = MakesRow (pair_kind s) old new vertex row
 
 -- ## One cover
 

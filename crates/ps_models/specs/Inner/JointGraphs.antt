@@ -74,24 +74,24 @@ capped_graph g d = capped (joint_product g no_vertex) d
 abbrev pub marks_at : JointData → ℕ → Marks
 marks_at g d = capped_marks (joint_product g no_vertex) d
 
--- each edge leads to a vertex, and has a cover of the board
+abbrev pub AllJoined : JointData → Type 0
+AllJoined g = (v : ℕ) → v < length g.rows → SameOrWay (joint_graph g) 0 v
+
+-- each edge leads to a vertex, and has a cover of the board; each vertex is reached from the first
 pub record IsJointStored (g : JointData) : Type 0 where
   pub board_is : IsBoard g.board
   pub stays : (v k : ℕ) (x : JointEdge) → slice_get (joint_row g.rows v) k ≡ Some x → x.to < length g.rows
   pub held : (v k : ℕ) (x : JointEdge) → slice_get (joint_row g.rows v) k ≡ Some x → IsEdgeOf g.board x.cover
-
-abbrev pub AllJoined : JointData → Type 0
-AllJoined g = (v : ℕ) → v < length g.rows → SameOrWay (joint_graph g) 0 v
+  pub joined : AllJoined g
 
 -- the edge's vertex is one of the graph, and has the edge's slot
 pub record IsJointSlot (g : JointData) (e : Edge) : Type 0 where
   pub vertex : e.vertex < length g.rows
   pub slot : e.slot < length (joint_row g.rows e.vertex)
 
--- the stored graph is the product of the automaton and a tableau of the formula; each vertex is reached from the first
+-- the stored graph is the product of the automaton and a tableau of the formula
 pub record IsJointOf (a : Auto) (read : ℕ → ℕ) (few : ℕ) (f : Formula) (g : JointData) : Type 0 where
   pub tableau_is : Tableau
   pub is_for : IsTableauFor tableau_is 0 f
   pub vertex : ℕ → JointVertex
   pub is_product : IsJointProduct a read few tableau_is (joint_product g vertex)
-  pub joined : AllJoined g

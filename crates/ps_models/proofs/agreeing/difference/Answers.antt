@@ -19,5 +19,5 @@ returns c = ok_map _ _ c.lasso_of.result c.lasso_of.ensures (λ told is file cha
     c.requires.count ∙ sym (length-map c.args.sentence.names.now bytes_of) in
     let made = subst (λ (n : ℕ). IsJointOf (auto_of own) (read_by places) (2 ^ n)
     (cond c.args.accepts (not_of f.formula) f.formula) c.in_ok-graph.graph) count c.in_ok-graph.ensures in
-    half_told built.is_chain built.auto c.requires.distinct
+    half_told built.is_chain built.auto c.args.sentence.distinct
     (built_places file chain own f places built c.requires.places) c.args.accepts told made is)

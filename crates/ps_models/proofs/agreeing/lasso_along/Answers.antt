@@ -11,9 +11,9 @@ no_edge = record { vertex = 0; slot = 0 }
 
 pub walk_to-requires : goal.walk_to-requires
 walk_to-requires c =
-    let cycle = c.requires.cycle in
+    let cycle = c.requires in
     let first =
-    first_on (capped_graph c.args.graph.now c.args.priority) cycle.start cycle.start c.args.cycle.now no_edge
+    first_on (capped_graph c.args.capped.graph.now c.args.capped.priority) cycle.start cycle.start c.args.cycle.now no_edge
     cycle.some cycle.returns in
     omega (arith, first.1)
 
@@ -21,18 +21,18 @@ pub letters-requires : goal.letters-requires
 letters-requires c =
     let found = rw c.in-Some.is at c.in_ok-walk.ensures.found in
     rw c.deref.ensures.value
-    (joint_slots c.args.graph.now 0 (get_or c.args.cycle.now 0 no_edge).vertex c.in-Some.walk.items found)
+    (joint_slots c.args.capped.graph.now 0 (get_or c.args.cycle.now 0 no_edge).vertex c.in-Some.walk.items found)
 
 pub letters-requires-2 : goal.letters-requires-2
 letters-requires-2 c =
-    let cycle = c.requires.cycle in
-    capped_slots c.args.graph.now c.args.priority cycle.start cycle.start c.args.cycle.now cycle.returns
+    let cycle = c.requires in
+    capped_slots c.args.capped.graph.now c.args.capped.priority cycle.start cycle.start c.args.cycle.now cycle.returns
 
 pub returns : goal.returns
 returns c =
-    let g = c.args.graph.now in
-    let cycle = c.requires.cycle in
-    let first = first_on (capped_graph g c.args.priority) cycle.start cycle.start c.args.cycle.now no_edge cycle.some
+    let g = c.args.capped.graph.now in
+    let cycle = c.requires in
+    let first = first_on (capped_graph g c.args.capped.priority) cycle.start cycle.start c.args.cycle.now no_edge cycle.some
     cycle.returns in
     let stem = c.in-Some.walk.items in
     let found = rw c.in-Some.is at c.in_ok-walk.ensures.found in
@@ -49,9 +49,9 @@ returns c =
 
 pub unreachable-requires : goal.unreachable-requires
 unreachable-requires c =
-    let g = c.args.graph.now in
-    let cycle = c.requires.cycle in
-    let first = first_on (capped_graph g c.args.priority) cycle.start cycle.start c.args.cycle.now no_edge cycle.some
+    let g = c.args.capped.graph.now in
+    let cycle = c.requires in
+    let first = first_on (capped_graph g c.args.capped.priority) cycle.start cycle.start c.args.cycle.now no_edge cycle.some
     cycle.returns in
     let none = rw c.in_default.is at c.in_ok-walk.ensures.none in
-    none (c.requires.reached (get_or c.args.cycle.now 0 no_edge).vertex first.1)
+    none (c.parts_fit.ensures.joined (get_or c.args.cycle.now 0 no_edge).vertex first.1)

@@ -11,7 +11,7 @@ no_edge = record { vertex = 0; slot = 0 }
 
 pub walk_to-requires : goal.walk_to-requires
 walk_to-requires c =
-    let cycle = c.requires.cycle in
+    let cycle = c.requires in
     let first = first_of_walk c.args.graph.now cycle.start cycle.start c.args.cycle.now no_edge cycle.some cycle.returns
     in
     omega (arith, first.1)
@@ -23,12 +23,12 @@ stimulus_along-requires-clause-stem c =
 
 pub stimulus_along-requires-clause-lap : goal.stimulus_along-requires-clause-lap
 stimulus_along-requires-clause-lap c =
-    let cycle = c.requires.cycle in slots_of cycle.start cycle.start c.args.cycle.now cycle.returns
+    let cycle = c.requires in slots_of cycle.start cycle.start c.args.cycle.now cycle.returns
 
 pub returns : goal.returns
 returns c =
     let g = c.args.graph.now in
-    let cycle = c.requires.cycle in
+    let cycle = c.requires in
     let first = first_of_walk g cycle.start cycle.start c.args.cycle.now no_edge cycle.some cycle.returns in
     let stem = c.in-Some.stem.items in
     let found = rw c.in-Some.is at c.in_ok-stem.ensures.found in

@@ -27,7 +27,7 @@ pub diagram-requires-2 : goal.diagram-requires-2
 diagram-requires-2 c = record {
   composed = composed_kept c.args.self.now.guards c.in_ok-steps.ensures.keeps (keeps_refl c.args.guards.now)
       c.requires.alphabet.of_guards;
-  node = c.requires.guard;
+  node = c.requires.is_node;
 }
 
 pub returns-clause-alphabet : goal.returns-clause-alphabet
@@ -88,4 +88,4 @@ returns-clause-met c =
     (leaf_of a.store (node_of a c.args.own) (read_by places letter)) o) (third.leaf letter) in
     ok_map _ _ c.leaves.result c.leaves.ensures (λ found leaves.
     are_met t count places a c.args.own guards c.args.guard c.in_ok-met.met found.items c.store-store.ensures.whole
-    c.requires.own (all.propositions ∙ is_alphabet.propositions) is leaves)
+    c.requires.within (all.propositions ∙ is_alphabet.propositions) is leaves)

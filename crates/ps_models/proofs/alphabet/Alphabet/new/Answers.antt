@@ -15,17 +15,17 @@ returns c = λ guards many.
     let own_is = c.new-steps.ensures.truths in
     let bits = subst (λ (n : ℕ). AreBitNodes t n c.in_ok-whole.whole.items) c.new-store.ensures.propositions
     c.in_ok-whole.ensures.nodes in
-    let places = alphabet_made c.requires.few each bits c.requires.places
+    let places = alphabet_made plan.few each bits plan.known
     (rw c.deref.ensures.value at c.in_ok-own.ensures) in
     let whole = subst (λ (nodes : Vec ℕ Global). AreBitNodes t plan.count nodes.items) (sym whole_is) bits in
     let own = subst (λ (nodes : Vec ℕ Global). ArePlaceNodes t plan.places.now nodes.items) (sym own_is) places in
     let for_guards : guards.propositions ≤ length c.new-guards.result.truths.items =
     subst (λ (nodes : Vec ℕ Global). guards.propositions ≤ length nodes.items) (sym whole_is) (omega (arith, each, many))
     in
-    let letters = c.states.ensures.whole.letters in
+    let letters = c.parts_fit.ensures.letters in
     let for_steps : plan.automaton.now.store.propositions ≤ length c.new-steps.result.truths.items =
     subst (λ (nodes : Vec ℕ Global). plan.automaton.now.store.propositions ≤ length nodes.items) (sym own_is)
-    (omega (arith, letters, c.requires.one_each, places.one_each)) in
+    (omega (arith, letters, plan.one_each, places.one_each)) in
     record {
       propositions = c.whole_nodes.ensures.keeps.propositions ∙ c.new-store.ensures.propositions;
       whole = whole;

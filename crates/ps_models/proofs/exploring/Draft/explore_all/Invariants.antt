@@ -1,13 +1,11 @@
 use Rattle.std.proofs.Common.{◌≡◌, ◌-◌, length}
-use Rattle.ps_tableau.specs.Boards.{Grows}
-use Rattle.ps_models.specs.Inner.Exploring.{IsExplored, draft_data}
+use Rattle.ps_models.specs.Inner.Exploring.{Explores, draft_data}
 use Rattle.ps_models.specs.Inner.Plans.{scene_of}
 use Rattle.ps_models.proofs.exploring.Draft.explore_all.Given as goal
 
 abbrev pub invariant-loop-vertex : goal.invariant-loop-vertex
 invariant-loop-vertex l = record {
-  explored : IsExplored (scene_of l.plan) (draft_data l.self) l.vertex;
-  grows : Grows l.fn.self.states.tableau l.self.states.tableau;
+  goes_on : Explores (scene_of l.plan) (draft_data l.fn.self) (draft_data l.self) l.vertex;
   evaluator : l.evaluator ≡ l.plan.circuit.now;
   store : l.store.propositions ≡ length l.plan.names.now;
 }

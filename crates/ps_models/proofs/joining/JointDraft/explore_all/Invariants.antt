@@ -1,13 +1,11 @@
 use Rattle.std.proofs.Common.{◌-◌}
-use Rattle.ps_tableau.specs.Boards.{Grows}
 use Rattle.ps_models.specs.Inner.Alphabets.{IsAlphabet}
-use Rattle.ps_models.specs.Inner.Joining.{IsJointExplored, joint_draft, pairing_of}
+use Rattle.ps_models.specs.Inner.Joining.{ExploresJoint, joint_draft, pairing_of}
 use Rattle.ps_models.proofs.joining.JointDraft.explore_all.Given as goal
 
 abbrev pub invariant-loop-vertex : goal.invariant-loop-vertex
 invariant-loop-vertex l = record {
-  explored : IsJointExplored (pairing_of l.plan) (joint_draft l.self) l.vertex;
-  grows : Grows l.fn.self.states.tableau l.self.states.tableau;
+  goes_on : ExploresJoint (pairing_of l.plan) (joint_draft l.fn.self) (joint_draft l.self) l.vertex;
   alphabet : IsAlphabet l.plan l.self.states.tableau.guards l.alphabet;
 }
 

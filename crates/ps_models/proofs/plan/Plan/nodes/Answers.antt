@@ -1,11 +1,13 @@
 use Rattle.std.proofs.Common.{◌<◌, ◌≤◌, ap, arith, length, sym, ◌∙◌}
 use Rattle.std.specs.Prelude.{is_some}
-use Rattle.std.proofs.lemmas.List.{length-map}
-use Rattle.ps_hoa.specs.Memory.{bytes_of}
 use Rattle.ps_product.specs.Groups.{StandFor}
 use Rattle.ps_product.proofs.CircuitFunctions.TruthNodes.{stand_kept, truths_kept}
 use Rattle.ps_models.proofs.TableauStates.ViewLemmas.{padding_done, padding_first, padding_more}
+use Rattle.ps_models.proofs.TableauStates.Scenes.{roles_given}
 use Rattle.ps_models.proofs.plan.Plan.nodes.Goals as goal
+
+pub nodes_of-requires-clause-different : goal.nodes_of-requires-clause-different
+nodes_of-requires-clause-different c = rw c.deref.ensures.value (roles_given c.args.self.cast).outputs_differ
 
 pub loop-none-init : goal.loop-none-init
 loop-none-init c =
@@ -16,9 +18,8 @@ loop-none-init c =
     rw c.deref.ensures.value at c.in_ok-nodes.ensures.nodes in
     let stand : StandFor c.none.new.self list outs nodes = stand_kept list outs (sym c.requires.one_each)
     (truths_kept outs c.nodes_of.ensures.keeps c.requires.outputs) c.none.ensures.keeps nodes first in
-    let few : length c.args.self.names.now ≤ 64 =
-    (let f = c.requires.plan.roles.few in omega (arith, f, length-map c.args.self.names.now bytes_of)) in
-    padding_first nodes (length c.args.self.names.now) (c.in_ok-nodes.ensures.count ∙ c.requires.store) few stand
+    padding_first nodes (length c.args.self.names.now) (c.in_ok-nodes.ensures.count ∙ c.requires.store) c.args.self.few
+    stand
 
 pub loop-none-preserved : goal.loop-none-preserved
 loop-none-preserved c =

@@ -1,5 +1,6 @@
 use Rattle.std.proofs.Common.{sym, ◌∙◌}
 use Rattle.ps_product.proofs.CircuitFunctions.TimingLemmas.{truths_are}
+use Rattle.ps_models.proofs.TableauStates.Scenes.{roles_given}
 use Rattle.ps_models.proofs.plan.Plan.view.Goals as goal
 
 pub diagrams-requires-clause-outputs : goal.diagrams-requires-clause-outputs
@@ -12,6 +13,6 @@ diagrams-requires-clause-nexts c = truths_are c.in_ok-evaluated.evaluated.outcom
 
 pub diagrams-requires-clause-one_each : goal.diagrams-requires-clause-one_each
 diagrams-requires-clause-one_each c =
-    let is = c.latches.ensures.well_formed in
+    let is = c.parts_fit.ensures in
     c.in_ok-evaluated.ensures.outcome.outputs_are.one_each ∙ sym is.draft.outputs_named
-    ∙ sym c.requires.plan.roles.outputs_each
+    ∙ sym (roles_given c.args.self.cast).outputs_each

@@ -8,15 +8,14 @@ use Rattle.ps_models.specs.BoardStates.{edges_of_state}
 use Rattle.ps_models.specs.Inner.Joining.{IsJointMadeUpTo, joint_draft, pairing_of, visited}
 use Rattle.ps_models.specs.declared.joint.JointEdge.{JointEdge}
 use Rattle.ps_models.proofs.JointProducts.JointDrafts.{joint_made_more, joint_made_none}
-use Rattle.ps_models.proofs.joining.JointDraft.row_of.Goals as goal
+use Rattle.ps_models.proofs.joining.JointDraft.row.Goals as goal
 
 pub loop-k-init : goal.loop-k-init
 loop-k-init c = record {
   made = subst (λ (row : List JointEdge). IsJointMadeUpTo (pairing_of c.args.plan) (joint_draft c.args.self.now)
       (joint_draft c.args.self.now) (visited c.args.visit.now) row 0) (sym c.new-row.ensures.items)
-      (joint_made_none c.requires.visit.paired (visited c.args.visit.now));
-  alphabet = c.requires.alphabet;
-  visit = c.requires.visit;
+      (joint_made_none c.requires.paired (visited c.args.visit.now));
+  visit = c.requires;
 }
 
 pub edges-requires : goal.edges-requires
@@ -42,11 +41,11 @@ loop-k-preserved c =
     let there : slice_get (edges_of_state now.edges state) k ≡ Some cover =
     slice_get-get_or (edges_of_state now.edges state) k cover low ∙ ap (λ (e : Edge). Some e) read in
     record {
-      made = joint_made_more c.requires.visit.paired.states inv.made add.adds c.requires.visit.covers there;
-      alphabet = add.alphabet;
+      made = joint_made_more inv.made add.adds c.requires.covers there;
       visit = record {
         paired = add.adds.adds.are_fit;
         own = inv.visit.own;
         covers = subst (λ (es : List (List Edge)). state < length es) (sym add.adds.adds.edges) inv.visit.covers;
+        alphabet = add.alphabet;
       };
     }
