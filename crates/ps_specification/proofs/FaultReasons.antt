@@ -13,7 +13,7 @@ use Rattle.ps_hoa.specs.Files.{FileData}
 use Rattle.ps_hoa.specs.Texts.{ReadsFile}
 use Rattle.ps_hoa.specs.declared.fault.HoaCause.{HoaCause}
 use Rattle.ps_hoa.specs.declared.fault.HoaCause.TheVariants as causes
-use Rattle.ps_machine.specs.Solvers.{MayAnswer}
+use Rattle.ps_solver.specs.Solvers.{MayAnswer}
 use Rattle.ps_simulate.specs.declared.role.Role.{Role}
 use Rattle.ps_synthesis.specs.Stages.{IsTextFault}
 use Rattle.ps_synthesis.specs.SynthFaults as synthesis

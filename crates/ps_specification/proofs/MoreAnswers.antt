@@ -1,7 +1,7 @@
 -- A reason for a fault by the answers of one solver is a reason by those of another, if the other may give each of
 -- them.
 use Rattle.std.proofs.Common.{ℕ, List, None, Option, Some, inl, inr}
-use Rattle.ps_machine.specs.Solvers.{MayAnswer}
+use Rattle.ps_solver.specs.Solvers.{MayAnswer}
 use Rattle.ps_synthesis.proofs.ReportOutcomes.{AnswersMore, fault_more, winners_more}
 use Rattle.ps_tlsf.specs.Specifications.{Specification}
 use Rattle.ps_specification.specs.Faults.{IsFaultBy, IsFaultGiven, IsSpecificationFault, IsUnfit, OfTranslation}

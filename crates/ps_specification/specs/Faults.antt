@@ -11,8 +11,8 @@
 use Rattle.std.specs.Prelude.{◌≡◌, ◌⊎◌, ⊤, ℕ, List, Option, None, Some, Ok, Err}
 use Rattle.ps_hoa.specs.declared.fault.HoaCause.{HoaCause}
 use Rattle.ps_hoa.specs.declared.fault.HoaCause.TheVariants as causes
-use Rattle.ps_machine.specs.Solvers.{MayAnswer}
-use Rattle.ps_machine.specs.Solving.{winner_at_start}
+use Rattle.ps_solver.specs.Solvers.{MayAnswer}
+use Rattle.ps_solver.specs.Solving.{winner_at_start}
 use Rattle.ps_models.specs.Judgements.{IsWinningFor}
 use Rattle.ps_synthesis.specs.Promises.{SynthesisData}
 use Rattle.ps_synthesis.specs.Reports.{IsWinnersSynthesis}

@@ -1,25 +1,22 @@
 //! From a specification's text to a circuit.
 
-ghost use Rattle.std.specs.Prelude.{◌≡◌, ◌<◌, ◌↔◌, ◌⊎◌, ℕ, true, IsTrue, List, length, map, IfErr, IfOk, IfSome, Ok};
+ghost use Rattle.std.specs.Prelude.{◌≡◌, ◌<◌, ◌↔◌, ◌⊎◌, ℕ, true, IsTrue, List, length, IfErr, IfOk, IfSome, Ok};
 ghost use Rattle.std.specs.Prelude.{if◌then◌else◌};
 ghost use Rattle.ps_circuit.specs.Circuits.{IsCircuit};
-ghost use Rattle.ps_machine.specs.Solvers.{Answered, IsKept};
-ghost use Rattle.ps_machine.specs.Solving.{winner_at_start};
+ghost use Rattle.ps_solver.specs.Solvers.{Answered, IsKept};
+ghost use Rattle.ps_solver.specs.Solving.{winner_at_start};
 ghost use Rattle.ps_machine.specs.declared.key.Order.{Order};
 ghost use Rattle.ps_models.specs.Judgements.{IsWinningFor};
-ghost use Rattle.ps_simulate.specs.Symbols.{AreDistinct};
 ghost use Rattle.ps_simulate.specs.declared.role.Role.TheVariants.{Controller, Environment};
 ghost use Rattle.ps_synthesis.specs.Problems.{IsProblemOf};
 ghost use Rattle.ps_synthesis.specs.Stages.{IsTextFault};
 ghost use Rattle.ps_synthesis.specs.SynthFaults as synthesis;
 ghost use Rattle.ps_synthesis.specs.SynthFaults.{IsSynthFault};
-ghost use Rattle.ps_tlsf.specs.NameViews.{name_data};
-ghost use Rattle.ps_tlsf.specs.Names.{names_in};
 ghost use Rattle.ps_tlsf.specs.Reading.{answer_of};
-ghost use Rattle.ps_tlsf.specs.SpecificationViews.{HasRoots, specification_data};
+ghost use Rattle.ps_tlsf.specs.SpecificationViews.{specification_data};
 ghost use Rattle.ps_traces.specs.Answers.{role_of};
 ghost use Rattle.ps_specification.specs.Faults.{IsFaultBy, IsSpecificationFault, IsSureSpecificationFault};
-ghost use Rattle.ps_specification.specs.Inner.Steps.{IsPassFault, IsReadFault, IsWonBy};
+ghost use Rattle.ps_specification.specs.Inner.Steps.{IsPassFault, IsReadFault, IsSound, IsWonBy};
 ghost use Rattle.ps_specification.specs.Promises.{IsAnswerTo, KeepsSpecification};
 ghost use Rattle.ps_specification.specs.Requirements.{order_in, requirement_of};
 
@@ -74,8 +71,7 @@ pub fn synthesise_specification<T: Translator, S: Solver>(
 
 pub(crate) fn read(alloc: Global, text: &[u8]) -> Result<Specification, SpecificationFault>
     ensures specification { IfOk result (λ s. answer_of text.now ≡ Ok (specification_data s)) }
-    ensures roots { IfOk result HasRoots }
-    ensures distinct { IfOk result (λ s. AreDistinct (names_in (map name_data s.propositions.items))) }
+    ensures sound { IfOk result IsSound }
     ensures refused { IfErr result (IsReadFault text.now) }
 {
     ps_tlsf::names_differ();
@@ -88,8 +84,7 @@ fn by_automaton<S: Solver>(
     hoa: &[u8],
     solver: &mut S,
 ) -> Result<Winner, SpecificationFault>
-    requires roots { HasRoots specification.now }
-    requires distinct { AreDistinct (names_in (map name_data specification.now.propositions.items)) }
+    requires { IsSound specification.now }
     ensures answer { IfOk result (λ winner. IsAnswerTo (specification_data specification.now) winner.role
         winner.circuit) }
     ensures refused { IfErr result (IsFaultBy (Answered (S.known solver.old) (S.known solver.new))
@@ -176,7 +171,7 @@ fn won<S: Solver>(alloc: Global, problem: &Problem, solver: &mut S) -> Result<Wi
     ensures sure { (S.known solver.old).is_sure ≡ true → IfErr result synthesis.IsSureFault }
     ensures kept { IsKept (S.known solver.old) (S.known solver.new) }
 {
-    let _ = problem.game();
+    problem.parts_fit();
     let synthesis = problem.solve(alloc, solver)?;
     let role = role_at_start(&synthesis.certificate);
     let Synthesis {
@@ -209,8 +204,7 @@ fn passed(
     specification: &Specification,
     winner: Winner,
 ) -> Result<Winner, SpecificationFault>
-    requires roots { HasRoots specification.now }
-    requires distinct { AreDistinct (names_in (map name_data specification.now.propositions.items)) }
+    requires sound { IsSound specification.now }
     requires circuit { IsCircuit winner.circuit }
     ensures answer { IfOk result (λ passed. IsAnswerTo (specification_data specification.now) passed.role
         passed.circuit) }
@@ -224,8 +218,7 @@ fn passed(
 }
 
 fn wins(alloc: Global, specification: &Specification, winner: &Winner) -> Result<bool, AllocError>
-    requires roots { HasRoots specification.now }
-    requires distinct { AreDistinct (names_in (map name_data specification.now.propositions.items)) }
+    requires { IsSound specification.now }
     ensures { IfOk result (λ wins. IsTrue wins ↔ IsWinningFor (order_in (specification_data specification.now))
         winner.now.role (requirement_of (specification_data specification.now)) winner.now.circuit) }
 {

@@ -1,13 +1,12 @@
 //! From a specification's text to an automaton.
 
-ghost use Rattle.std.specs.Prelude.{◌≡◌, ◌↔◌, IfErr, IfOk, IsTrue, map};
+ghost use Rattle.std.specs.Prelude.{◌≡◌, ◌↔◌, IfErr, IfOk, IsTrue, Ok};
 ghost use Rattle.ps_automaton.specs.Automata.{IsBuiltFrom};
 ghost use Rattle.ps_automaton.specs.Chains.{Chain};
 ghost use Rattle.ps_hoa.specs.Files.{FileData};
-ghost use Rattle.ps_simulate.specs.Symbols.{AreDistinct};
-ghost use Rattle.ps_tlsf.specs.NameViews.{name_data};
-ghost use Rattle.ps_tlsf.specs.Names.{names_in};
+ghost use Rattle.ps_tlsf.specs.Reading.{answer_of};
 ghost use Rattle.ps_tlsf.specs.SpecificationViews.{HasRoots, specification_data};
+ghost use Rattle.ps_specification.specs.Inner.Steps.{IsSound};
 ghost use Rattle.ps_specification.specs.Promises.{HasItsPropositions, IsTranslation, IsTranslationOf};
 ghost use Rattle.ps_specification.specs.Promises.{KeepsTranslation};
 ghost use Rattle.ps_specification.specs.Translating.{IsBeyondLimits};
@@ -35,11 +34,28 @@ pub fn translate_specification<T: Translator>(
     ensures refused { IfErr result (IsTranslationFault (T.may_give translator.now) text.now) }
 {
     let specification = read(alloc, text)?;
-    let title = title_in(text, &specification);
-    let Some(hoa) = translator.translate(alloc, &specification, title)? else {
+    let hoa = translated(alloc, text, &specification, translator);
+    drop(specification);
+    hoa
+}
+
+/// The same, for the specification that was read.
+fn translated<T: Translator>(
+    alloc: Global,
+    text: &[u8],
+    specification: &Specification,
+    translator: &T,
+) -> Result<Vec<u8>, SpecificationFault>
+    requires reads { answer_of text.now ≡ Ok (specification_data specification.now) }
+    requires sound { IsSound specification.now }
+    ensures promise { IfOk result (λ hoa. KeepsTranslation text.now hoa.items) }
+    ensures refused { IfErr result (IsTranslationFault (T.may_give translator.now) text.now) }
+{
+    let title = title_in(text, specification);
+    let Some(hoa) = translator.translate(alloc, specification, title)? else {
         return Err(SpecificationFault::NotTranslated);
     };
-    passed(alloc, &specification, hoa)
+    passed(alloc, specification, hoa)
 }
 
 /// A specification's title, with its quotes.
@@ -53,8 +69,7 @@ fn passed(
     specification: &Specification,
     hoa: Vec<u8>,
 ) -> Result<Vec<u8>, SpecificationFault>
-    requires roots { HasRoots specification.now }
-    requires distinct { AreDistinct (names_in (map name_data specification.now.propositions.items)) }
+    requires { IsSound specification.now }
     ensures translation { IfOk result (λ passed. IsTranslationOf (specification_data specification.now) passed.items) }
     ensures refused { IfErr result (IsTranslationFaultBy (specification_data specification.now) hoa.items) }
 {
@@ -70,8 +85,7 @@ fn is_translation(
     specification: &Specification,
     hoa: &[u8],
 ) -> Result<bool, SpecificationFault>
-    requires roots { HasRoots specification.now }
-    requires distinct { AreDistinct (names_in (map name_data specification.now.propositions.items)) }
+    requires { IsSound specification.now }
     ensures translation { IfOk result (λ is. IsTrue is ↔ IsTranslationOf (specification_data specification.now)
         hoa.now) }
     ensures within { IfOk result (λ _. ¬ IsBeyondLimits hoa.now) }
@@ -89,8 +103,7 @@ fn agrees(
     specification: &Specification,
     automaton: &Automaton,
 ) -> Result<bool, AllocError>
-    requires roots { HasRoots specification.now }
-    requires distinct { AreDistinct (names_in (map name_data specification.now.propositions.items)) }
+    requires { IsSound specification.now }
     ensures { IfOk result (λ agrees. (file : FileData) (chain : Chain) → IsBuiltFrom file chain automaton.now →
         IsTrue agrees ↔ IsTranslation (specification_data specification.now) file) }
 {

@@ -1,5 +1,5 @@
 use Rattle.std.proofs.Common.{subst}
-use Rattle.ps_machine.specs.Solvers.{Answered, MayAnswer}
+use Rattle.ps_solver.specs.Solvers.{Answered, MayAnswer}
 use Rattle.ps_machine.specs.declared.key.Order.{Order}
 use Rattle.ps_synthesis.proofs.Reporting.{err_all}
 use Rattle.ps_tlsf.specs.SpecificationViews.{specification_data}

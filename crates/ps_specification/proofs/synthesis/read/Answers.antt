@@ -4,8 +4,11 @@ use Rattle.ps_tlsf.specs.SpecificationViews.{specification_data}
 use Rattle.ps_specification.proofs.DistinctNames.{are_distinct}
 use Rattle.ps_specification.proofs.synthesis.read.Goals as goal
 
-pub returns-clause-distinct : goal.returns-clause-distinct
-returns-clause-distinct c =
+pub returns-clause-sound : goal.returns-clause-sound
+returns-clause-sound c =
     let spec = specification_data c.in_ok-read.field-0 in
-    are_distinct (names_in spec.names)
-    (c.names_differ.ensures.distinct c.args.text.now spec (sym c.in_ok-read.ensures.answer))
+    record {
+      roots = c.in_ok-read.ensures.roots;
+      distinct = are_distinct (names_in spec.names)
+          (c.names_differ.ensures.distinct c.args.text.now spec (sym c.in_ok-read.ensures.answer));
+    }

@@ -1,5 +1,5 @@
 use Rattle.std.proofs.Common.{Some, subst, sym, ℕ, List}
-use Rattle.ps_machine.specs.Solvers.{Answered, MayAnswer}
+use Rattle.ps_solver.specs.Solvers.{Answered, MayAnswer}
 use Rattle.ps_synthesis.proofs.Reporting.{err_all}
 use Rattle.ps_tlsf.specs.SpecificationViews.{specification_data}
 use Rattle.ps_specification.specs.Faults.{IsFaultBy, IsSpecificationFault}
