@@ -1,5 +1,5 @@
 -- The two given solvers, on which the program's answer depends.
-use Rattle.ps_machine.specs.Solvers.{SolverData}
+use Rattle.ps_solver.specs.Solvers.{SolverData}
 
 -- the first solver solves games, and the second is used for certificates in the input
 pub record Solvers : Type 1 where

@@ -1,7 +1,7 @@
 //! Laws on answers; what one command prints, another reads.
 
 ghost use Rattle.std.specs.Prelude.{ℕ, List, []};
-ghost use Rattle.ps_machine.specs.Solving.{own_solver, replay_of};
+ghost use Rattle.ps_solver.specs.Solving.{own_solver, replay_of};
 ghost use Rattle.ps_program.specs.Laws.Answered.{MayCertify, MayReplay};
 ghost use Rattle.ps_program.specs.Laws.Answered.{ArePrinted, HasSomeAnswer, HasSomeLine, HasSomeSolved};
 ghost use Rattle.ps_program.specs.Laws.Answered.{HasSomeSynthesis};

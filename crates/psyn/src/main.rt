@@ -8,7 +8,7 @@
 #![tactic(auto)]
 
 ghost use Rattle.std.specs.Prelude.{◌≡◌, ◌+◌, false, []};
-ghost use Rattle.ps_machine.specs.Solving.{own_solver, replay_of};
+ghost use Rattle.ps_solver.specs.Solving.{own_solver, replay_of};
 ghost use Rattle.ps_program.specs.Input.{ConsumesAtMost, input_limit};
 ghost use Rattle.ps_program.specs.Program.{Replies, Writes};
 ghost use Rattle.ps_program.specs.Replies.{Reply};

@@ -2,7 +2,7 @@
 
 ghost use Rattle.std.specs.Prelude.{◌≡◌, true, IfOk, IfErr};
 ghost use Rattle.ps_hoa.specs.Files.{FileData};
-ghost use Rattle.ps_machine.specs.Solvers.{Answered, IsKept};
+ghost use Rattle.ps_solver.specs.Solvers.{Answered, IsKept};
 ghost use Rattle.ps_synthesis.specs.Promises.{IsAcceptedText};
 ghost use Rattle.ps_synthesis.specs.Reports.{IsReport};
 ghost use Rattle.ps_synthesis.specs.SynthFaults.{IsReportOrFault, IsSynthFault};

@@ -29,7 +29,7 @@ use Rattle.ps_machine.specs.Behaviours.{Behaviour, IsMachine}
 use Rattle.ps_machine.specs.Extracting.{HasPropositions, IsMachineOf}
 use Rattle.ps_machine.specs.FileGames.{IsGameOfFile, board_of_file}
 use Rattle.ps_machine.specs.Keys.{mover_of}
-use Rattle.ps_machine.specs.Solving.{IsCertified, winner_at_start}
+use Rattle.ps_solver.specs.Solving.{IsCertified, winner_at_start}
 use Rattle.ps_machine.specs.declared.key.Order.{Order}
 use Rattle.ps_pgsolver.specs.Reading.{Answer}
 use Rattle.ps_pgsolver.specs.declared.fault.PgCause.{PgCause}

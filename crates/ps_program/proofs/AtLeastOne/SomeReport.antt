@@ -22,9 +22,9 @@ use Rattle.ps_hoa.specs.Texts.{ReadsFile}
 use Rattle.ps_hoa.specs.declared.fault.HoaCause.{HoaCause}
 use Rattle.ps_machine.specs.Behaviours.{Behaviour}
 use Rattle.ps_machine.specs.FileGames.{IsGameOfFile}
-use Rattle.ps_machine.specs.Solvers.{SolverData, answers_now, once_fed}
-use Rattle.ps_machine.specs.Solving.{IsCertified}
-use Rattle.ps_machine.specs.declared.fault.SolveFault.TheVariants as solver_fault
+use Rattle.ps_solver.specs.Solvers.{SolverData, answers_now, once_fed}
+use Rattle.ps_solver.specs.Solving.{IsCertified}
+use Rattle.ps_solver.specs.declared.fault.SolveFault.TheVariants as solver_fault
 use Rattle.ps_machine.specs.declared.key.Order.{Order}
 use Rattle.ps_synthesis.specs.Promises.{IsAcceptedText}
 use Rattle.ps_synthesis.specs.Reports.{IsWinners, IsWinnersCircuit}

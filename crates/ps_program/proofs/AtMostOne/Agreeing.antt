@@ -13,10 +13,10 @@ use Rattle.ps_hoa.specs.Texts.{ReadsFile}
 use Rattle.ps_hoa.specs.declared.fault.HoaCause.{HoaCause}
 use Rattle.ps_machine.specs.FileGames.{IsGameOfFile}
 use Rattle.ps_machine.specs.Keys.{mover_of, owner_of_key}
-use Rattle.ps_machine.specs.Solving.{IsCertified, winner_at_start}
+use Rattle.ps_solver.specs.Solving.{IsCertified, winner_at_start}
 use Rattle.ps_machine.specs.declared.key.Key.{Key}
 use Rattle.ps_machine.specs.declared.key.Order.{Order}
-use Rattle.ps_machine.specs.Solvers.{MayAnswer}
+use Rattle.ps_solver.specs.Solvers.{MayAnswer}
 use Rattle.ps_synthesis.specs.Promises.{IsSynthesis, SynthesisData}
 use Rattle.ps_program.specs.Laws.Determined.{AgreeInWinners}
 use Rattle.ps_program.specs.Replies.{Reply, text_reply}

@@ -2,7 +2,7 @@
 use Rattle.std.proofs.Common.{rules, ◌≡◌, ◌⊎◌, ◌∙◌, ℕ, Bool, true, false, List, length, Result, Ok, Err, refl, sym, ap}
 use Rattle.std.proofs.Common.{inl, inr, arith, subst}
 use Rattle.ps_game.specs.Games.{ParityGame, NamedGameData}
-use Rattle.ps_machine.specs.Solvers.{SolverData, answers_now, once_fed}
+use Rattle.ps_solver.specs.Solvers.{SolverData, answers_now, once_fed}
 use Rattle.ps_pgsolver.specs.Written.{game_text}
 use Rattle.ps_certificate.specs.Certificates.{CertificateData}
 use Rattle.ps_circuit.specs.CauseNames as circuit_names
@@ -56,7 +56,7 @@ use Rattle.ps_program.proofs.AtMostOne.OneLine.{is_line_one}
 use Rattle.ps_program.proofs.AtMostOne.OneSatisfaction.{OneWord, lasso_tlsf_one}
 use Rattle.ps_program.proofs.AtMostOne.CompareDetermined.{agree_one_or}
 use Rattle.ps_program.proofs.AtMostOne.TranslateDetermined.{translate_one_or}
-use Rattle.ps_machine.proofs.Machines.CertificateThere.{NoCycle, NoFlaw}
+use Rattle.ps_solver.proofs.CertificateThere.{NoCycle, NoFlaw}
 use Rattle.ps_program.proofs.ByCommand.JudgeLemmas.{OneSolution, OneJudged, OneLoser, NoFlawAndCycle}
 use Rattle.ps_program.proofs.ByCommand.JudgeLemmas.{judges_one_or}
 use Rattle.ps_solution.specs.Solved.{SolutionData}

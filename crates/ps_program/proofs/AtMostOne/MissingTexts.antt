@@ -28,7 +28,7 @@ use Rattle.ps_program.specs.Replies.{Reply, text_reply}
 use Rattle.ps_program.specs.Commands.Satisfying.{AnswersLassoTlsf, RunsSpecified}
 use Rattle.ps_program.specs.Solvers.{Solvers}
 use Rattle.ps_program.specs.Commands.Synthesis.{AnswersBy, AnswersReport}
-use Rattle.ps_machine.specs.Solvers.{once_fed}
+use Rattle.ps_solver.specs.Solvers.{once_fed}
 use Rattle.ps_program.specs.Texts.{CutsInTwo, CutsInThree, ReadsCertificateText, ReadsCertified, ReadsCircuitText}
 use Rattle.ps_program.specs.Texts.{ReadsForGame}
 use Rattle.ps_program.specs.Texts.{ReadsGameText, ReadsSimulated, ReadsSpecificationText, ReadsStimulusText}

@@ -12,10 +12,10 @@ use Rattle.ps_game.specs.Games.{NamedGameData}
 use Rattle.ps_hoa.specs.Files.{FileData}
 use Rattle.ps_machine.specs.Behaviours.{Behaviour}
 use Rattle.ps_machine.specs.FileGames.{IsGameOfFile}
-use Rattle.ps_machine.specs.Solvers.{SolverData, answers_now, once_fed}
-use Rattle.ps_machine.specs.Solving.{IsCertified, Replays}
-use Rattle.ps_machine.specs.declared.fault.SolveFault.{SolveFault}
-use Rattle.ps_machine.specs.declared.fault.SolveFault.TheVariants as solver_fault
+use Rattle.ps_solver.specs.Solvers.{SolverData, answers_now, once_fed}
+use Rattle.ps_solver.specs.Solving.{IsCertified, Replays}
+use Rattle.ps_solver.specs.declared.fault.SolveFault.{SolveFault}
+use Rattle.ps_solver.specs.declared.fault.SolveFault.TheVariants as solver_fault
 use Rattle.ps_machine.specs.declared.key.Order.{Order}
 use Rattle.ps_synthesis.specs.Promises.{IsAcceptedText, SynthesisData}
 use Rattle.ps_synthesis.specs.Reports.{IsWinners, IsWinnersCircuit, IsWinnersSynthesis}

@@ -4,7 +4,7 @@ use Rattle.std.proofs.Common.{rules, ◌≡◌, ◌≢◌, ◌⊎◌, ◌∙◌,
 use Rattle.std.proofs.Common.{sym, ap, inl, inr, arith}
 use Rattle.ps_text.specs.Answers.{Found}
 use Rattle.ps_game.specs.Games.{ParityGame, NamedGameData, IsGame}
-use Rattle.ps_machine.specs.Solvers.{SolverData, answers_now}
+use Rattle.ps_solver.specs.Solvers.{SolverData, answers_now}
 use Rattle.ps_pgsolver.specs.Reading.{Answer}
 use Rattle.ps_pgsolver.specs.declared.fault.PgCause.{PgCause}
 use Rattle.ps_certificate.specs.Certificates.{CertificateData, IsFirstFlaw}

@@ -3,7 +3,7 @@ use Rattle.std.proofs.Common.{◌≡◌, ◌⊎◌, ◌∙◌, ℕ, List, Result
 use Rattle.std.proofs.Common.{sym}
 use Rattle.ps_text.specs.Answers.{Found}
 use Rattle.ps_circuit.specs.Circuits.{CircuitData}
-use Rattle.ps_machine.specs.Solvers.{SolverData, answers_now}
+use Rattle.ps_solver.specs.Solvers.{SolverData, answers_now}
 use Rattle.ps_simulate.specs.declared.role.Role.{Role}
 use Rattle.ps_simulate.specs.declared.role.Role.TheVariants.{Controller, Environment}
 use Rattle.ps_specification.specs.Faults.{IsSpecificationFault}

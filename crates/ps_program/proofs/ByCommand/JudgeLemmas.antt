@@ -15,7 +15,7 @@ use Rattle.ps_certificate.specs.declared.fault.CertCause.{CertCause}
 use Rattle.ps_referee.specs.declared.fault.JudgeFault.{JudgeFault}
 use Rattle.ps_referee.specs.declared.fault.JudgeFault.TheVariants.{Unclosed, BadCycle, OutOfMemory}
 use Rattle.ps_referee.specs.Solutions.{claimed, IsCertificateOf, IsCycleOf, IsRefusal, IsSolution}
-use Rattle.ps_machine.proofs.Machines.CertificateThere.{NoCycle, NoFlaw}
+use Rattle.ps_solver.proofs.CertificateThere.{NoCycle, NoFlaw}
 use Rattle.ps_referee.proofs.Claims.{choice_is}
 use Rattle.ps_solution.specs.Reading.{ReadsSolution}
 use Rattle.ps_solution.specs.Solved.{SolutionData}

@@ -2,7 +2,7 @@
 use Rattle.std.proofs.Common.{arith, ◌≡◌, Bool, true, false, Err}
 use Rattle.ps_game.specs.Games.{NamedGameData}
 use Rattle.ps_certificate.specs.Certificates.{CertificateData}
-use Rattle.ps_machine.specs.Solvers.{SolverData, answers_now}
+use Rattle.ps_solver.specs.Solvers.{SolverData, answers_now}
 use Rattle.ps_synthesis.specs.Stages.{IsSolverFault}
 use Rattle.ps_synthesis.specs.declared.fault.SynthFault.{SynthFault}
 use Rattle.ps_synthesis.specs.declared.fault.SynthFault.TheVariants.{OutOfMemory}

@@ -10,8 +10,8 @@ use Rattle.ps_circuit.specs.Written.{text_of}
 use Rattle.ps_machine.specs.declared.key.Order.{Order}
 use Rattle.ps_synthesis.specs.Reports.{IsWinnersSynthesis}
 use Rattle.ps_synthesis.specs.Stages.{IsTextFault}
-use Rattle.ps_machine.specs.Solvers.{Answered, IsKept, SolverData, answers_now}
-use Rattle.ps_machine.specs.Solving.{winner_at_start}
+use Rattle.ps_solver.specs.Solvers.{Answered, IsKept, SolverData, answers_now}
+use Rattle.ps_solver.specs.Solving.{winner_at_start}
 use Rattle.ps_synthesis.specs.Printing.{PrintsCircuit}
 use Rattle.ps_synthesis.specs.Promises.{SynthesisData}
 use Rattle.ps_synthesis.specs.ShortAnswers.{IsShortOf}

@@ -1,6 +1,6 @@
 -- The result of synthesis for a specification determines the possible results of the command `synth --tlsf`.
 use Rattle.std.proofs.Common.{◌≡◌, ℕ, true, List, Err, refl, inl}
-use Rattle.ps_machine.specs.Solvers.{SolverData, answers_now}
+use Rattle.ps_solver.specs.Solvers.{SolverData, answers_now}
 use Rattle.ps_specification.specs.Faults.{IsSpecificationFault, IsSureSpecificationFault}
 use Rattle.ps_specification.specs.Translating.{MayGive}
 use Rattle.ps_specification.specs.declared.fault.SpecificationFault.{SpecificationFault}

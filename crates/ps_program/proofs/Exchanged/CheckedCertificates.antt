@@ -4,7 +4,7 @@ use Rattle.std.specs.Prelude.{codes}
 use Rattle.ps_certificate.specs.Certificates.{CertificateData, Fits, IsValid}
 use Rattle.ps_certificate.specs.Written.{HasWords, text_in}
 use Rattle.ps_game.specs.Games.{IsNamedGame, NamedGameData}
-use Rattle.ps_machine.specs.Solving.{IsCertified}
+use Rattle.ps_solver.specs.Solving.{IsCertified}
 use Rattle.ps_synthesis.specs.Printing.{PrintsCertificate}
 use Rattle.ps_program.specs.Commands.Checks.{AnswersCheck, Tests}
 use Rattle.ps_program.specs.Laws.Exchanged.{ChecksCertificates}

@@ -5,7 +5,7 @@ use Rattle.std.specs.Prelude.{◌≡◌, ℕ, Bool, List, Result, Ok, Err}
 use Rattle.ps_game.specs.Games.{NamedGameData}
 use Rattle.ps_hoa.specs.Files.{FileData}
 use Rattle.ps_machine.specs.FileGames.{IsGameOfFile}
-use Rattle.ps_machine.specs.Solvers.{SolverData}
+use Rattle.ps_solver.specs.Solvers.{SolverData}
 use Rattle.ps_machine.specs.declared.key.Order.{Order}
 use Rattle.ps_pgsolver.specs.Written.{game_text}
 use Rattle.ps_program.specs.Automata.{ReadsAutomaton}

@@ -3,8 +3,8 @@ use Rattle.std.specs.Prelude.{◌≡◌, ℕ, Bool, false, List, Some, Result, O
 use Rattle.ps_game.specs.Games.{NamedGameData}
 use Rattle.ps_certificate.specs.Certificates.{CertificateData}
 use Rattle.ps_certificate.specs.Written.{text_in}
-use Rattle.ps_machine.specs.Solvers.{SolverData, answers_now}
-use Rattle.ps_machine.specs.Solving.{IsCertified}
+use Rattle.ps_solver.specs.Solvers.{SolverData, answers_now}
+use Rattle.ps_solver.specs.Solving.{IsCertified}
 use Rattle.ps_synthesis.specs.Stages.{IsSolverFault}
 use Rattle.ps_synthesis.specs.declared.fault.SynthFault.{SynthFault}
 use Rattle.ps_program.specs.Outcomes.{Then}

@@ -8,8 +8,8 @@ use Rattle.ps_certificate.specs.Certificates.{CertificateData}
 use Rattle.ps_certificate.specs.Written.{text_in}
 use Rattle.ps_circuit.specs.Written.{text_of}
 use Rattle.ps_game.specs.Games.{NamedGameData}
-use Rattle.ps_machine.specs.Solvers.{SolverData, answers_now, once_fed}
-use Rattle.ps_machine.specs.Solving.{winner_at_start}
+use Rattle.ps_solver.specs.Solvers.{SolverData, answers_now, once_fed}
+use Rattle.ps_solver.specs.Solving.{winner_at_start}
 use Rattle.ps_machine.specs.declared.key.Order.{Order}
 use Rattle.ps_pgsolver.specs.Written.{game_text}
 use Rattle.ps_synthesis.specs.Printing.{PrintsCertificate, PrintsCircuit, PrintsGame}

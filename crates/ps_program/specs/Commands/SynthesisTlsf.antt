@@ -4,7 +4,7 @@
 use Rattle.std.specs.Prelude.{◌≡◌, ℕ, Bool, true, false, List, [], ◌++◌, Option, None, Some, Result, Ok, Err}
 use Rattle.ps_circuit.specs.Circuits.{CircuitData}
 use Rattle.ps_circuit.specs.Written.{text_of}
-use Rattle.ps_machine.specs.Solvers.{SolverData, answers_now}
+use Rattle.ps_solver.specs.Solvers.{SolverData, answers_now}
 use Rattle.ps_simulate.specs.declared.role.Role.{Role}
 use Rattle.ps_simulate.specs.declared.role.Role.TheVariants.{Controller, Environment}
 use Rattle.ps_specification.specs.FaultNames.{fault_name, fault_number}

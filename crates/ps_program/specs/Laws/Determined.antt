@@ -35,9 +35,9 @@ use Rattle.ps_specification.specs.Promises.{KeepsSpecification, KeepsTranslation
 use Rattle.ps_tlsf.specs.Specifications.{Specification}
 use Rattle.ps_hoa.specs.Files.{FileData}
 use Rattle.ps_machine.specs.FileGames.{IsGameOfFile}
-use Rattle.ps_machine.specs.Solvers.{SolverData}
-use Rattle.ps_machine.specs.Solving.{IsCertified, Replays, winner_at_start}
-use Rattle.ps_machine.specs.declared.fault.SolveFault.{SolveFault}
+use Rattle.ps_solver.specs.Solvers.{SolverData}
+use Rattle.ps_solver.specs.Solving.{IsCertified, Replays, winner_at_start}
+use Rattle.ps_solver.specs.declared.fault.SolveFault.{SolveFault}
 use Rattle.ps_machine.specs.declared.key.Order.{Order}
 use Rattle.ps_synthesis.specs.Promises.{IsAcceptedText, SynthesisData}
 use Rattle.ps_program.specs.CommandLine.{Usage, IsLine, commands}

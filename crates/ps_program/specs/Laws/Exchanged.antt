@@ -16,8 +16,8 @@ use Rattle.ps_circuit.specs.Circuits.{CircuitData}
 use Rattle.ps_circuit.specs.Written.{text_of}
 use Rattle.ps_game.specs.Games.{IsNamedGame, NamedGameData}
 use Rattle.ps_hoa.specs.Files.{FileData}
-use Rattle.ps_machine.specs.Solvers.{SolverData}
-use Rattle.ps_machine.specs.Solving.{IsCertified}
+use Rattle.ps_solver.specs.Solvers.{SolverData}
+use Rattle.ps_solver.specs.Solving.{IsCertified}
 use Rattle.ps_machine.specs.declared.key.Order.{Order}
 use Rattle.ps_simulate.specs.Lassos.{IsWordOf}
 use Rattle.ps_simulate.specs.Stimuli.{StimulusData}

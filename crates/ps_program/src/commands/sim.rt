@@ -59,9 +59,10 @@ fn write_step(
 pub(crate) fn write_bits(text: &mut Vec<u8>, bits: &[bool], end: u8) -> Result<(), AllocError>
     ensures { OnOk result (text.new.items ≡ text.old.items ++ digits_of bits.now ++ end ∷ []) }
 {
+    text.reserve(bits.len() + 1)?;
     for &bit in bits {
-        text.push(if bit { b'1' } else { b'0' })?;
+        text.push_reserved(if bit { b'1' } else { b'0' });
     }
-    text.push(end)?;
+    text.push_reserved(end);
     Ok(())
 }

@@ -1,6 +1,6 @@
 use Rattle.std.proofs.Common.{◌≡◌, ℕ, List, [], None, Some, ap, subst}
 use Rattle.std.specs.Prelude.{Option}
-use Rattle.ps_machine.specs.Solving.{own_solver, replay_of}
+use Rattle.ps_solver.specs.Solving.{own_solver, replay_of}
 use Rattle.ps_program.specs.Program.{Replies, Writes}
 use Rattle.ps_program.specs.Replies.{Reply}
 use Rattle.ps_program.specs.Solvers.{solvers_of}

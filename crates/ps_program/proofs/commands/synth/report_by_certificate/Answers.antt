@@ -1,5 +1,5 @@
 use Rattle.std.proofs.Common.{ℕ, List}
-use Rattle.ps_machine.specs.Solvers.{once_fed}
+use Rattle.ps_solver.specs.Solvers.{once_fed}
 use Rattle.ps_program.specs.Replies.{reply_of}
 use Rattle.ps_program.specs.Commands.Synthesis.{AnswersReport}
 use Rattle.ps_program.specs.Texts.{CutsInTwo}

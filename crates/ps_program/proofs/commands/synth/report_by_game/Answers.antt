@@ -1,5 +1,5 @@
 use Rattle.std.proofs.Common.{ℕ, ◌≡◌, List, Result, Ok}
-use Rattle.ps_machine.specs.Solvers.{MayAnswer, SolverData, answers_now}
+use Rattle.ps_solver.specs.Solvers.{MayAnswer, SolverData, answers_now}
 use Rattle.ps_synthesis.specs.Promises.{SynthesisData}
 use Rattle.ps_synthesis.proofs.SynthesiseLemmas.{text_fault}
 use Rattle.ps_program.specs.declared.answer.Refusal.{Refusal}

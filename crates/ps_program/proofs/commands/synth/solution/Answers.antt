@@ -1,6 +1,6 @@
 use Rattle.std.proofs.Common.{ℕ, ◌≡◌, List, Result, Ok, ap, inr, subst}
 use Rattle.ps_game.specs.Games.{NamedGameData}
-use Rattle.ps_machine.specs.Solvers.{Answered, MayAnswer, SolverData, answers_now}
+use Rattle.ps_solver.specs.Solvers.{Answered, MayAnswer, SolverData, answers_now}
 use Rattle.ps_synthesis.specs.Promises.{SynthesisData}
 use Rattle.ps_synthesis.proofs.ReportOutcomes.{fault_more, winners_more}
 use Rattle.ps_program.specs.declared.answer.Refusal.{Refusal}

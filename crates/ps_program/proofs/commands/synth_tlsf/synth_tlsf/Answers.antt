@@ -1,5 +1,5 @@
 use Rattle.std.proofs.Common.{Ok, ap, inr}
-use Rattle.ps_machine.specs.Solvers.{Answered, MayAnswer, SolverData, answers_now}
+use Rattle.ps_solver.specs.Solvers.{Answered, MayAnswer, SolverData, answers_now}
 use Rattle.ps_specification.proofs.MoreAnswers.{specification_more}
 use Rattle.ps_specification.specs.Translating.{MayGive}
 use Rattle.ps_program.specs.declared.answer.Refusal.{Refusal}
