@@ -37,7 +37,7 @@ TOP = os.path.dirname(BENCH)
 sys.dont_write_bytecode = True
 sys.path.insert(0, BENCH)
 from sources import copy_program  # noqa: E402
-BELOW = ("ps_components", "ps_game", "ps_measure")
+BELOW = ("ps_attractor", "ps_components", "ps_game", "ps_measure")
 WIDE = ["random 100000 2 1000 1", "random 20000 2 1000 1"]
 
 

@@ -28,10 +28,10 @@ FAMILIES = {
     "what products have of words of latches, and of groups of letters": "AreDifferent AreOnce IsRead IsWhole",
     "letters over a mask, and formulas over propositions; what stands behind a letter, and in a text": "IsBehind IsOver",
     "classes of letters that are known, and covers of sets that are known": "AreKnown",
+    "bits of a letter, of a state of latches, and of a machine's letter, which diagrams give": "bits_at bits_of",
 }
-# Acceptance marks are those of HOA texts; a fair cycle has marks of any kind on its edges, and in ps_tableau a set that
-# is known to be reduced is marked.
-WITH_MARKS = ("ps_hoa", "ps_automaton", "ps_automaton_tests", "ps_fairness", "ps_game_tests", "ps_mixing", "ps_models", "ps_tableau", "ps_translation")
+# Acceptance marks are those of HOA texts; a fair cycle has marks of any kind on its edges, a circuit's variables have some.
+WITH_MARKS = ("ps_hoa", "ps_automaton", "ps_automaton_tests", "ps_circuit", "ps_fairness", "ps_game_tests", "ps_mixing", "ps_models", "ps_translation")
 PLAYER = re.compile(r"\b(?:player|owner|winner)s?: u8\b|\((?:player|owner|winner)\b[^)]*\): \(u8\b")
 NUMBERS_OF_PLAYERS = {
     "ps_game/src/builder.rt": "`GameBuilder::vertex` takes the number of an owner",
@@ -50,6 +50,8 @@ SAME_LEMMA_FILES = {
     "Orders.antt": "ps_brief ps_zielonka: the order of the second player's moves; lists by priority",
     "StepLemmas.antt": "ps_models ps_simulate: steps with covers; steps of lanes",
     "ValueLemmas.antt": "ps_simulate ps_timing: values of variables; values of Boolean functions",
+    "BitLists.antt": "ps_diagram ps_simulate: the bits of a least letter; letters as lists of bits",
+    "Rising.antt": "ps_circuit ps_machine: gates above all that they read; lists of propositions that rise",
     "Bits.antt": "ps_automaton ps_formula: sets that are numbers; one bit of the rows of truths",
     "Building.antt": "ps_automaton ps_tlsf: the automaton of a draft; tables of formulas that grow",
     "Forms.antt": "ps_tlsf ps_zielonka: the formulas that operators form; one iteration of the solver",

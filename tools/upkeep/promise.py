@@ -38,7 +38,7 @@ ENDS = {
     "ps_automaton/specs/Chains.antt: has_complement": "whether an acceptance condition names a complemented set",
     "ps_synthesis/specs/Reports.antt: IsWinnersCircuit": "the circuit is that of the winner's machine, gate by gate",
     "ps_machine/specs/KeyNames.antt: AreNamed": "vertex v has the id v, and a name that tells its state and its letter or priority",
-    "ps_machine/specs/Solving.antt: IsCertified": "the certificate fits the game and is valid ([CERTIFICATES.md](CERTIFICATES.md))",
+    "ps_solver/specs/Solving.antt: IsCertified": "the certificate fits the game and is valid ([CERTIFICATES.md](CERTIFICATES.md))",
 }
 STD = [
     ("ℕ Bool List", "the natural numbers, the truth values, lists"),
