@@ -125,10 +125,10 @@ class Names(unittest.TestCase):
 
     def test_figures_of_the_gate_are_the_same(self):
         told = {name: " ".join(documents.read(name)) for name in ("README.md", "CONTRIBUTING.md", "docs/TESTED.md")}
-        gate = re.search(r"At \w+ the whole gate passed\. .*? (\d+) minutes on four processors, and (\d+) processor minutes", told["docs/TESTED.md"])
+        gate = re.search(r"At \w+ `rt ci` passed, .*? (\d+) processor minutes, .*? took (\d+) minutes on four processors", told["docs/TESTED.md"])
         self.assertTrue(gate)
-        self.assertIn(f"{gate[2]} processor minutes ({gate[1]} on four)", told["README.md"])
-        self.assertIn(f"{gate[1]} minutes on four processors, {gate[2]} processor minutes", told["CONTRIBUTING.md"])
+        self.assertIn(f"{gate[1]} processor minutes ({gate[2]} on four,", told["README.md"])
+        self.assertIn(f"{gate[2]} minutes on four processors, {gate[1]} processor minutes", told["CONTRIBUTING.md"])
         edits = glob.glob(os.path.join(TOP, "crates", "*", "must-fail", "*.edit"))
         crates = {path.split(os.sep)[-3] for path in edits}
         self.assertIn(f"{len(edits)} edits in {len(crates)} crates", told["docs/TESTED.md"])
