@@ -13,6 +13,7 @@
 //! | `Vertices::know_successors`, `resolve` | whether all successors are known ids; replaces each id by its index |
 //! | `Vertices::into_game` | the game with these vertices, in which a repeated successor counts once |
 //! | `NamedGame::new`, `game`, `id`, `name` | a game with ids and optional names |
+//! | `NamedGame::parts_fit` | a fact: the game is well formed, its ids differ, and no name has a quote |
 //! | `NamedGame::with_first_names`, `with_names` | the same with names for the first vertices only, or for all |
 //! | `Names::with_capacity`, `push`, `get` | a list of names in one buffer; adds a name; the name with an index |
 //! | `FlatGame::of` | the same game in four arrays, two of them of 4 or 8 bytes; also an `Arena` |

@@ -105,6 +105,13 @@ impl NamedGame {
         &self.game
     }
 
+    /// The parts fit: the game is well formed, its ids differ, and no name has a quote. The prover learns it here.
+    pub fn parts_fit(&self)
+        ensures { IsNamedGame self.now }
+    {
+        self.game();
+    }
+
     /// The id of a vertex.
     pub fn id(&self, vertex: usize) -> u64
         requires { vertex < vertex_count self.now.game }

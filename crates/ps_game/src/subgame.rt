@@ -56,7 +56,6 @@ impl Subgame {
         requires subgame { IsSubgame (A.game arena.now) (has region) }
         ensures { result ≡ region }
     {
-        let _ = arena;
         Subgame { region }
     }
 
