@@ -9,6 +9,7 @@ pub mod FieldExits
 pub mod FieldLemmas
 pub mod Judges
 pub mod LineLemmas
+pub mod NearAndFar
 pub mod NumberLemmas
 pub mod OneCircuitReading
 pub mod ReadingLemmas
@@ -17,4 +18,3 @@ pub mod SomeCircuitReading
 pub mod SoundParts
 pub mod SoundTexts
 pub mod SymbolLemmas
-pub mod Marks

@@ -3,6 +3,6 @@
 pub mod Cursors
 pub mod GateGraphs
 pub mod Names
+pub mod NearAndFar
 pub mod Reading
 pub mod RisingGates
-pub mod Marks

@@ -21,7 +21,7 @@ use crate::variables::Variables;
 use ps_text::cursor::Cursor;
 use std::alloc::Global;
 
-/// A text has a mark for each of its variables, if they are not more than its bytes and this many.
+/// A text has a bit for each of its variables, if they are not more than its bytes and this many.
 const LEAST_LIMIT: usize = 4096;
 
 /// The parts that a text states, and what was noted for checks.

@@ -2,18 +2,18 @@
 
 ghost use Rattle.std.specs.Prelude.{◌≡◌, ◌==◌, ◌≤◌, ◌++◌, ◌∷◌, ℕ, List, [], Contains, IfOk, OnErr, OnOk, length};
 ghost use Rattle.std.specs.List.{list_any};
-ghost use Rattle.ps_circuit.specs.Inner.Marks.{AreKept};
+ghost use Rattle.ps_circuit.specs.Inner.NearAndFar.{AreKept};
 
 use ps_ids::Ids;
 use std::alloc::{AllocError, Global};
 use std::marker::Model;
 
-/// Distinct variables in text order, with a mark for each that is below a limit: a mark is found faster than an index.
+/// Distinct variables in text order, with a bit for each that is below a limit: a bit is found faster than an index.
 #[derive(Drop)]
 pub struct Variables {
     list: Vec<u64>,
     /// For each variable below the limit, whether it is in the list.
-    marks: Vec<bool>,
+    near: Vec<bool>,
     /// The other variables of the list.
     far: Ids,
 }
@@ -23,7 +23,7 @@ impl Model for Variables {
 
     ghost view = { λ v. v.list.items };
 
-    ghost invariant = { λ v. AreKept v.list.items v.marks.items v.far };
+    ghost invariant = { λ v. AreKept v.list.items v.near.items v.far };
 }
 
 impl Variables {
@@ -31,10 +31,10 @@ impl Variables {
     pub fn new(alloc: Global, limit: usize) -> Result<Self, AllocError>
         ensures { IfOk result (λ variables. variables ≡ []) }
     {
-        let marks = vec![in alloc; false; limit]?;
+        let near = vec![in alloc; false; limit]?;
         Ok(Variables {
             list: Vec::new(alloc),
-            marks,
+            near,
             far: Ids::new(alloc),
         })
     }
@@ -44,8 +44,8 @@ impl Variables {
     pub fn has(&self, variable: u64) -> bool
         ensures { result ≡ list_any (λ other. variable == other) self.now }
     {
-        if variable < self.marks.len() as u64 {
-            return self.marks[variable as usize];
+        if variable < self.near.len() as u64 {
+            return self.near[variable as usize];
         }
         self.far.has(variable)
     }
@@ -57,22 +57,22 @@ impl Variables {
         ensures err { OnErr result (self.new ≡ self.old) }
     {
         self.list.reserve(1)?;
-        record(&mut self.marks, &mut self.far, variable)?;
+        record(&mut self.near, &mut self.far, variable)?;
         self.list.push_reserved(variable);
         Ok(())
     }
 }
 
-/// Marks a variable, or else adds it to the others.
-fn record(marks: &mut Vec<bool>, far: &mut Ids, variable: u64) -> Result<(), AllocError>
-    requires { length marks.old.items ≤ variable → Contains far.old variable → ⊥ }
-    ensures ok { OnOk result ((list : List ℕ) → AreKept list marks.old.items far.old →
-        AreKept (list ++ variable ∷ []) marks.new.items far.new) }
-    ensures err { OnErr result ((list : List ℕ) → AreKept list marks.old.items far.old →
-        AreKept list marks.new.items far.new) }
+/// Sets a variable's bit, or else adds it to the others.
+fn record(near: &mut Vec<bool>, far: &mut Ids, variable: u64) -> Result<(), AllocError>
+    requires { length near.old.items ≤ variable → Contains far.old variable → ⊥ }
+    ensures ok { OnOk result ((list : List ℕ) → AreKept list near.old.items far.old →
+        AreKept (list ++ variable ∷ []) near.new.items far.new) }
+    ensures err { OnErr result ((list : List ℕ) → AreKept list near.old.items far.old →
+        AreKept list near.new.items far.new) }
 {
-    if variable < marks.len() as u64 {
-        marks[variable as usize] = true;
+    if variable < near.len() as u64 {
+        near[variable as usize] = true;
         return Ok(());
     }
     far.push(variable)?;

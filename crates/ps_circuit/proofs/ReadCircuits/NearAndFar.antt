@@ -1,4 +1,4 @@
--- The marks of the variables that are in a list, and the list of the others, when a variable is added.
+-- Which variables below a limit are in a list, and which others, when a variable is added.
 use Rattle.std.proofs.Common.{◌≡◌, ◌≢◌, ◌∙◌, ℕ, ◌<◌, ◌≤◌, ◌||◌, inl, inr, Bool, true, false, List, [], ◌∷◌, ◌++◌}
 use Rattle.std.proofs.Common.{length}
 use Rattle.std.proofs.Common.{get_or, refl, ap, sym, length-set, get_or-set_same, get_or-set_other, nat_eq}
@@ -8,7 +8,7 @@ use Rattle.std.specs.List.{list_any}
 use Rattle.std.proofs.lemmas.Bool.{cases_eq, ne_eqb}
 use Rattle.std.proofs.lemmas.List.{get_or-replicate, length-replicate}
 use Rattle.std.proofs.lemmas.List.Folds.{list_any-append}
-use Rattle.ps_circuit.specs.Inner.Marks.{AreKept}
+use Rattle.ps_circuit.specs.Inner.NearAndFar.{AreKept}
 
 or_false : (a : Bool) → (a || false) ≡ a
 or_false true = refl
@@ -35,30 +35,30 @@ has-other v variables w differ =
 
 pub kept_none : (limit : ℕ) → AreKept [] (replicate limit false) []
 kept_none limit = record {
-  near = λ v lt. get_or-replicate {A = Bool} limit v false false
+  below = λ v lt. get_or-replicate {A = Bool} limit v false false
       (omega (arith, lt, length-replicate {A = Bool} limit false));
-  others = λ v le. refl;
+  above = λ v le. refl;
 }
 
-module _ (variables : List ℕ) {marks : List Bool} {far : List ℕ} (w : ℕ) (kept : AreKept variables marks far) where
-  pub kept_near : w < length marks → AreKept (variables ++ w ∷ []) (slice_set marks w true) far
+module _ (variables : List ℕ) {near : List Bool} {far : List ℕ} (w : ℕ) (kept : AreKept variables near far) where
+  pub kept_near : w < length near → AreKept (variables ++ w ∷ []) (slice_set near w true) far
   kept_near within = record {
-    near = λ v lt. elim (cases_eq v w) [
-      | inl same ↦ ap (λ (k : ℕ). get_or (slice_set marks w true) k false) same
-          ∙ get_or-set_same marks w true false within ∙ sym (has-here v variables w same)
-      | inr differ ↦ get_or-set_other marks w v true false differ
-          ∙ kept.near v (omega (arith, lt, length-set marks w true)) ∙ sym (has-other v variables w differ)
+    below = λ v lt. elim (cases_eq v w) [
+      | inl same ↦ ap (λ (k : ℕ). get_or (slice_set near w true) k false) same
+          ∙ get_or-set_same near w true false within ∙ sym (has-here v variables w same)
+      | inr differ ↦ get_or-set_other near w v true false differ
+          ∙ kept.below v (omega (arith, lt, length-set near w true)) ∙ sym (has-other v variables w differ)
     ];
-    others = λ v le. (
-        let behind : length marks ≤ v = omega (arith, le, length-set marks w true) in
-        kept.others v behind ∙ sym (has-other v variables w (λ same. absurd (omega (arith, same, within, behind)))));
+    above = λ v le. (
+        let behind : length near ≤ v = omega (arith, le, length-set near w true) in
+        kept.above v behind ∙ sym (has-other v variables w (λ same. absurd (omega (arith, same, within, behind)))));
   }
 
-  pub kept_far : length marks ≤ w → AreKept (variables ++ w ∷ []) marks (far ++ w ∷ [])
+  pub kept_far : length near ≤ w → AreKept (variables ++ w ∷ []) near (far ++ w ∷ [])
   kept_far behind = record {
-    near = λ v lt. kept.near v lt
+    below = λ v lt. kept.below v lt
         ∙ sym (has-other v variables w (λ same. absurd (omega (arith, same, lt, behind))));
-    others = λ v le. list_any-append (λ other. nat_eq v other) far (w ∷ [])
-        ∙ ap (λ (b : Bool). b || has v (w ∷ [])) (kept.others v le)
+    above = λ v le. list_any-append (λ other. nat_eq v other) far (w ∷ [])
+        ∙ ap (λ (b : Bool). b || has v (w ∷ [])) (kept.above v le)
         ∙ sym (list_any-append (λ other. nat_eq v other) variables (w ∷ []));
   }
