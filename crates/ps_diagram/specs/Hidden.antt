@@ -3,15 +3,13 @@
 -- - `IsClear mask x`: no proposition of the mask is true in the letter x
 -- - `HasLeafBehind t node mask x y`: y is a letter over the mask, and the node has a leaf at the letter x + y
 -- - `IsProjection s t node mask made`: the diagram `made` has the leaf 1 at each x behind which there is such a y
--- - `AreLeastLetters s t node mask made`: the leaf of the diagram `made` at x is the least such y
 -- - `IsBehind s t node mask x made`: the leaf of the diagram `made` at a letter y is the node's at x + y, for a letter
--- x
---   over the mask
+--   x over the mask
 --
 -- The node is in the table s; the diagram `made` is in the table t.
 use Rattle.std.specs.Prelude.{◌≡◌, ℕ, ◌+◌, ◌^◌, ◌<◌, true, false, cond, nat_eq, Option, Some, None, IsSome, MatchOption}
 use Rattle.ps_label.specs.Truth.{is_in}
-use Rattle.ps_diagram.specs.Letters.{AgreeOff, IsLeastLetter}
+use Rattle.ps_diagram.specs.Letters.{AgreeOff}
 use Rattle.ps_diagram.specs.Table.{Table, leaf_of}
 
 -- the leaf 1 if the argument is the leaf `value`, and otherwise None
@@ -46,12 +44,6 @@ pub record IsProjection (s t : Table) (node mask made : ℕ) : Type 0 where
   pub others : (u v : ℕ) → AgreeOff mask u v → leaf_of t made u ≡ leaf_of t made v
   pub leaf : (x : ℕ) → IsClear mask x →
       MatchOption (leaf_of t made x) (HasNoLeafBehind s node mask x) (IsLeafBehind s node mask x)
-
--- the same, where the leaf is the least letter
-pub record AreLeastLetters (s t : Table) (node mask made : ℕ) : Type 0 where
-  pub others : (u v : ℕ) → AgreeOff mask u v → leaf_of t made u ≡ leaf_of t made v
-  pub leaf : (x : ℕ) → IsClear mask x →
-      MatchOption (leaf_of t made x) (HasNoLeafBehind s node mask x) (IsLeastLetter (HasLeafBehind s node mask x))
 
 -- x is a letter over the mask; the diagram depends only on propositions outside the mask
 pub record IsBehind (s t : Table) (node mask x made : ℕ) : Type 0 where

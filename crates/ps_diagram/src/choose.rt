@@ -34,12 +34,23 @@ impl Store {
             (λ letter. chosen (leaf_of self.old truth letter) (leaf_of self.old one letter)
             (leaf_of self.old other letter)) }
     {
+        self.taken(truth, one, other)
+    }
+
+    /// The same, in terms of trees.
+    pub(crate) fn taken(&mut self, truth: Node, one: Node, other: Node) -> Result<Node, AllocError>
+        requires truth { IsNode self.old truth }
+        requires one { IsNode self.old one }
+        requires other { IsNode self.old other }
+        ensures { MakesTree self.old self.new result
+            (IsChosen (tree_of self.old truth) (tree_of self.old one) (tree_of self.old other)) }
+    {
         let mut known = Memo::new(self.allocator());
         self.chosen(truth, one, other, &mut known)
     }
 
     /// The same, by the results that `known` has.
-    pub(crate) fn chosen(
+    fn chosen(
         &mut self,
         truth: Node,
         one: Node,

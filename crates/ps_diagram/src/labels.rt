@@ -1,11 +1,12 @@
 //! The diagrams of labels.
 
-ghost use Rattle.std.specs.Prelude.{◌≡◌, ℕ, ◌<◌, All, Bool, List, IfOk, length};
+ghost use Rattle.std.specs.Prelude.{◌≡◌, ℕ, ◌<◌, All, Bool, List, IfOk, cond, length};
 ghost use Rattle.ps_label.specs.Expression.{AreOverFrom, Expression, IsOver, expression};
 ghost use Rattle.ps_label.specs.Truth.{expressions, is_in, label_truth, truth};
 ghost use Rattle.ps_diagram.specs.Table.{IsNode, Keeps, MakesDiagram, MakesNode, leaf_of};
 ghost use Rattle.ps_diagram.specs.Labels.{AreNodesOf, HaveTruths, leaf_where, one_where};
-ghost use Rattle.ps_diagram.specs.Inner.Unions.{IsTruth, first_leaf, leaves_of};
+ghost use Rattle.ps_diagram.specs.Inner.Unions.{IsTruth, first_leaf, is_value, leaves_of};
+ghost use Rattle.ps_diagram.specs.Leaves.{opposite};
 
 use crate::store::Store;
 use crate::view::Node;
@@ -33,7 +34,7 @@ impl Store {
     {
         let mut nodes = Vec::new(self.allocator());
         for alias in labels.as_slice() {
-            let node = self.truth_by(&nodes, alias)?;
+            let node = self.truth_by(&nodes, alias, true)?;
             nodes.push(node)?;
         }
         Ok(nodes)
@@ -49,7 +50,7 @@ impl Store {
     {
         match self.of_literals(label, 1)? {
             Some(node) => Ok(node),
-            None => self.truth_by(aliases, label),
+            None => self.truth_by(aliases, label, true),
         }
     }
 
@@ -69,51 +70,58 @@ impl Store {
         match self.of_literals(label, value)? {
             Some(node) => Ok(node),
             None => {
-                let node = self.truth_by(aliases, label)?;
+                let node = self.truth_by(aliases, label, true)?;
                 self.guard(node, value)
             }
         }
     }
 
-    /// The diagram of a label, with the truth values of the aliases' nodes.
-    fn truth_by(&mut self, aliases: &[Node], label: &Label) -> Result<Node, AllocError>
+    /// The diagram of the letters at which a label has this truth value, given those of the aliases' nodes.
+    fn truth_by(&mut self, aliases: &[Node], label: &Label, value: bool) -> Result<Node, AllocError>
         requires aliases { (known : ℕ → List Bool) × HaveTruths self.old aliases.now known }
         requires within { IsOver (length aliases.now) self.old.propositions (expression label.now) }
         ensures { MakesNode self.old self.new result
             (λ node. (known : ℕ → List Bool) → HaveTruths self.old aliases.now known → (letter : ℕ) →
-            leaf_of self.new node letter ≡ one_where (truth (known letter) letter (expression label.now))) }
+            leaf_of self.new node letter ≡ one_where (is_value value (truth (known letter) letter (expression
+            label.now)))) }
     {
         match label {
-            Label::Truth(value) => self.of_truth(*value),
-            Label::Atom(proposition) => self.of_proposition(*proposition),
-            Label::Negated(proposition) => {
-                let node = self.of_proposition(*proposition)?;
-                self.negated(node)
+            Label::Truth(truth) => self.of_truth(*truth == value),
+            Label::Atom(proposition) => self.of_literal(*proposition, value),
+            Label::Negated(proposition) => self.of_literal(*proposition, !value),
+            Label::Named(alias) => self.turned(aliases[*alias], value),
+            Label::Literals(literals) => {
+                let node = self.of_conjunction(literals.as_slice())?;
+                self.turned(node, value)
             }
-            Label::Named(alias) => Ok(aliases[*alias]),
-            Label::Literals(literals) => self.of_conjunction(literals.as_slice()),
-            Label::Neg(operand) => {
-                let node = self.truth_by(aliases, operand)?;
-                self.negated(node)
-            }
+            Label::Neg(operand) => self.truth_by(aliases, operand, !value),
             Label::Both(operands) => {
                 // a conjunction is true if no operand is false
                 let mut nodes = Vec::new(self.allocator());
                 for operand in operands {
-                    let node = self.truth_by(aliases, operand)?;
-                    nodes.push(self.negated(node)?)?;
+                    nodes.push(self.truth_by(aliases, operand, false)?)?;
                 }
                 let any = self.union_of(&nodes)?;
-                self.negated(any)
+                self.turned(any, !value)
             }
             Label::Either(operands) => {
                 let mut nodes = Vec::new(self.allocator());
                 for operand in operands {
-                    nodes.push(self.truth_by(aliases, operand)?)?;
+                    nodes.push(self.truth_by(aliases, operand, true)?)?;
                 }
-                self.union_of(&nodes)
+                let any = self.union_of(&nodes)?;
+                self.turned(any, value)
             }
         }
+    }
+
+    /// The node of truth values, or if they are not `kept` that of their negations.
+    fn turned(&mut self, node: Node, kept: bool) -> Result<Node, AllocError>
+        requires { IsNode self.old node }
+        ensures { MakesDiagram self.old self.new result (λ letter. cond kept (leaf_of self.old node letter)
+            (opposite (leaf_of self.old node letter))) }
+    {
+        if kept { Ok(node) } else { self.negated(node) }
     }
 
     /// The disjunction of the nodes. Each half of the list is joined first, so that each node is in logarithmically
@@ -146,8 +154,21 @@ impl Store {
         requires named { proposition < self.old.propositions }
         ensures { MakesDiagram self.old self.new result (λ letter. one_where (is_in proposition letter)) }
     {
+        self.of_literal(proposition, true)
+    }
+
+    /// The diagram with the leaf 1 where the proposition has this truth value.
+    fn of_literal(&mut self, proposition: u32, value: bool) -> Result<Node, AllocError>
+        requires named { proposition < self.old.propositions }
+        ensures { MakesDiagram self.old self.new result
+            (λ letter. one_where (is_value value (is_in proposition letter))) }
+    {
         let none = self.constant(None)?;
         let one = self.constant(Some(1))?;
-        self.test(proposition, none, one)
+        if value {
+            self.test(proposition, none, one)
+        } else {
+            self.test(proposition, one, none)
+        }
     }
 }

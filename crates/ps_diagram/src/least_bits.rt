@@ -2,13 +2,9 @@
 
 ghost use Rattle.std.specs.Prelude.{◌≡◌, ℕ, ◌+◌, ◌<◌, IfOk, OnOk};
 ghost use Rattle.ps_diagram.specs.Bits.{AreLeastBits, AreLetterBits};
-ghost use Rattle.ps_diagram.specs.Inner.Bits.{AreBitsBelow, AreConstants, AreLetterBitsBelow, IsLeastBit, IsWhether};
-ghost use Rattle.ps_diagram.specs.Inner.Chosen.{IsChosen};
-ghost use Rattle.ps_diagram.specs.Inner.Rests.{IsCofactor};
-ghost use Rattle.ps_diagram.specs.Table.{IsNode, Keeps, MakesTree, Table, tree_of};
+ghost use Rattle.ps_diagram.specs.Inner.Bits.{AreBitsBelow, AreConstants, AreLetterBitsBelow, IsLeastBit};
+ghost use Rattle.ps_diagram.specs.Table.{IsNode, Keeps, Table, tree_of};
 
-use crate::hidden::Hiding;
-use crate::memo::Memo;
 use crate::store::Store;
 use crate::view::Node;
 use std::alloc::AllocError;
@@ -87,40 +83,6 @@ impl Store {
         let rest = self.taken(can, low, high)?;
         let bit = self.negated(can)?;
         Ok(LeastBit { bit, rest })
-    }
-
-    /// The diagram of a node, with the propositions of a mask fixed as in a letter.
-    fn fixed(&mut self, node: Node, mask: u64, letter: u64) -> Result<Node, AllocError>
-        requires held { IsNode self.old node }
-        ensures { MakesTree self.old self.new result (IsCofactor mask letter (tree_of self.old node)) }
-    {
-        let mut known = Memo::new(self.allocator());
-        self.cofactor(node, mask, letter, &mut known)
-    }
-
-    /// Whether a node has a leaf for some values of the hidden propositions.
-    fn whether(&mut self, node: Node, hidden: u64) -> Result<Node, AllocError>
-        requires held { IsNode self.old node }
-        ensures { MakesTree self.old self.new result (IsWhether hidden (tree_of self.old node)) }
-    {
-        let mut known = Memo::new(self.allocator());
-        let hiding = Hiding {
-            mask: hidden,
-            is_least: false,
-        };
-        self.hidden_by(node, hiding, &mut known)
-    }
-
-    /// The low node's diagram where `can` has a leaf, and else the high node's.
-    fn taken(&mut self, can: Node, low: Node, high: Node) -> Result<Node, AllocError>
-        requires can { IsNode self.old can }
-        requires low { IsNode self.old low }
-        requires high { IsNode self.old high }
-        ensures { MakesTree self.old self.new result
-            (IsChosen (tree_of self.old can) (tree_of self.old low) (tree_of self.old high)) }
-    {
-        let mut known = Memo::new(self.allocator());
-        self.chosen(can, low, high, &mut known)
     }
 
     /// For each proposition of the mask, ascending, the diagram that has the leaf 1 everywhere if the proposition is

@@ -27,12 +27,11 @@
 //! | `composed_from(other, node, truths)` | that of a node of another store at the letter that the truths form |
 //! | `selected(node, value)` | 1 where the node has the leaf `value`, else none |
 //! | `projected(node, hidden)` | 1 if the node has a leaf for some values of the hidden propositions, else none |
-//! | `least_letters(node, hidden)` | the least letter over the hidden propositions that gives the node a leaf; none if no letter |
 //! | `behind(node, fixed, letter)` | the node's at the letter, but with the fixed propositions as in `letter` |
 //!
 //! These calls keep every node of the store with its leaves, even if they fail (`Keeps`). So do
-//! `least_bits(node, hidden)`, which gives a diagram for each bit of the least letter of `least_letters`, in far less
-//! time where there are many such letters, and `letter_bits(letter, mask)`, which gives those of one letter, and
+//! `least_bits(node, hidden)`, which gives a diagram for each bit of the least letter over the hidden propositions that
+//! gives the node a leaf, `letter_bits(letter, mask)`, which gives those of one letter, and
 //! `classes(node, split)`, which divides the letters over the propositions of `split` into classes: two are in one
 //! exactly if the node has the same leaf for both, whatever the other propositions' values (`AreClasses`).
 //! `classes_in_copy(other, node, split)` does this for a node of a store `other` of which this one began as a copy

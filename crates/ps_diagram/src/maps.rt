@@ -1,7 +1,7 @@
 //! Replaces the leaves of diagrams by a rule.
 
 ghost use Rattle.std.specs.Prelude.{◌≡◌, ℕ, ◌+◌, ◌^◌, ◌<◌, ◌≤◌, Bool, Option, Some, None, IfOk, IfSome, length, nat_eq};
-ghost use Rattle.std.specs.Prelude.{option_map, option_and_then, unwrap_or, slice_index, is_none, cond, bit_or};
+ghost use Rattle.std.specs.Prelude.{option_map, option_and_then, unwrap_or, slice_index, is_none, cond};
 ghost use Rattle.std.specs.Option.{option_copied};
 ghost use Rattle.ps_diagram.specs.Inner.Kept.{result_for};
 ghost use Rattle.ps_diagram.specs.Tree.{leaf_at};
@@ -156,23 +156,6 @@ impl LeafRule for Selected {
     }
 }
 
-/// Each leaf, by itself with these bits.
-#[derive(Drop)]
-struct WithBits(u64);
-
-impl LeafRule for WithBits {
-    ghost fits = { λ _ _. Unit {0} };
-
-    ghost rule = { λ s leaf. option_map (λ k. bit_or k s.0) leaf };
-
-    fn changed(&self, leaf: Option<u64>) -> Option<u64> {
-        match leaf {
-            None => None,
-            Some(value) => Some(value | self.0),
-        }
-    }
-}
-
 impl Store {
     ghost use Rattle.ps_diagram.specs.Hidden.{one_for};
     ghost use Rattle.ps_diagram.specs.Leaves.{opposite};
@@ -252,15 +235,6 @@ impl Store {
         ensures { MakesDiagram self.old self.new result (λ letter. one_for value (leaf_of self.old node letter)) }
     {
         self.mapped(None, node, &Selected(value))
-    }
-
-    /// The diagram of the node's leaves, each with these bits.
-    pub(crate) fn with_bits(&mut self, node: Node, bits: u64) -> Result<Node, AllocError>
-        requires held { IsNode self.old node }
-        ensures { MakesTree self.old self.new result
-            (IsMapped (λ leaf. option_map (λ k. bit_or k bits) leaf) (tree_of self.old node)) }
-    {
-        self.mapped(None, node, &WithBits(bits))
     }
 
     /// The diagram of the indices of the node's leaves.

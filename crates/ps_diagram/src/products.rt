@@ -1,6 +1,6 @@
 //! The diagrams of products: conjunctions of literals.
 
-ghost use Rattle.std.specs.Prelude.{◌≡◌, ◌&&◌, ℕ, ◌<◌, ◌≤◌, Bool, true, false, List, IfNone, IfOk, IfSome, cond};
+ghost use Rattle.std.specs.Prelude.{◌≡◌, ◌&&◌, ◌||◌, ℕ, ◌<◌, ◌≤◌, Bool, true, false, List, IfNone, IfOk, IfSome, cond};
 ghost use Rattle.std.specs.Prelude.{is_some};
 ghost use Rattle.ps_label.specs.Expression.{AreOver, IsOver, expression, literal_expression, literal_expressions};
 ghost use Rattle.ps_label.specs.Expression.{operands_in, proposition};
@@ -44,6 +44,14 @@ impl Product {
     {
         let refused = if value { self.negative } else { self.positive };
         refused >> proposition & 1 == 0
+    }
+
+    /// Whether there is a literal on the proposition.
+    fn tests(&self, proposition: u32) -> bool
+        requires named { proposition < 64 }
+        ensures { result ≡ (is_in proposition self.now.positive || is_in proposition self.now.negative) }
+    {
+        (self.positive | self.negative) >> proposition & 1 == 1
     }
 
     /// And the proposition.
@@ -190,6 +198,9 @@ impl Store {
     {
         let mut node = hit;
         for proposition in (level..self.propositions()).rev() {
+            if !product.tests(proposition) {
+                continue;
+            }
             let low = side(product.positive, proposition, miss, node);
             let high = side(product.negative, proposition, miss, node);
             node = self.test(proposition, low, high)?;

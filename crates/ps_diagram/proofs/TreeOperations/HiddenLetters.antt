@@ -3,8 +3,7 @@ use Rattle.std.proofs.Common.{◌≡◌, ℕ, ◌+◌, Bool, true, false, refl, 
 use Rattle.std.proofs.Common.{◌^◌, bit_or, subst}
 use Rattle.std.specs.Option.{MatchOption, IsSome, option_map}
 use Rattle.ps_label.specs.Truth.{is_in}
-use Rattle.ps_diagram.specs.declared.hidden.Hiding.{Hiding}
-use Rattle.ps_diagram.specs.Hidden.{AreLeastLetters, HasLeafBehind, HasNoLeafBehind, IsBehind, IsClear, IsLeafBehind}
+use Rattle.ps_diagram.specs.Hidden.{HasLeafBehind, HasNoLeafBehind, IsBehind, IsClear, IsLeafBehind}
 use Rattle.ps_diagram.specs.Hidden.{IsOver, IsProjection}
 use Rattle.ps_diagram.specs.Inner.Hiding.{hidden_leaf, IsHidden}
 use Rattle.ps_diagram.specs.Inner.Rests.{mixed, IsCofactor}
@@ -14,15 +13,10 @@ use Rattle.ps_diagram.specs.Table.{Table, IsNode, IsSoundTable, leaf_of, tree_of
 use Rattle.ps_diagram.specs.Tree.{Tree, empty, final, choice, leaf_at}
 use Rattle.ps_diagram.proofs.Canon.{from-blind}
 use Rattle.ps_diagram.proofs.NodeTables.Cells.{bool_cases, true_is_not_false}
-use Rattle.ps_diagram.proofs.TreeOperations.Hiding.{hidden_same, least_hidden, least_over, none_some, whether_over}
+use Rattle.ps_diagram.proofs.TreeOperations.Hiding.{hidden_same, least_hidden, least_leaf, none_some}
 use Rattle.ps_diagram.proofs.TreeOperations.Hiding.{IsEarlier}
 use Rattle.ps_diagram.proofs.TreeOperations.Hiding.{IsLeastAt, LeadsNowhere}
 use Rattle.ps_diagram.proofs.ClassesOfLetters.LetterSums.{in_sum}
-
-match_weaker : (o : Option ℕ) {P Q : Type 0} {F G : ℕ → Type 0} → (P → Q) → ((x : ℕ) → F x → G x) →
-    MatchOption o P F → MatchOption o Q G
-match_weaker None none some h = none h
-match_weaker (Some x) none some h = some x h
 
 match_ones : (o : Option ℕ) {P Q : Type 0} {F : ℕ → Type 0} (G : ℕ → Type 0) → (P → Q) → ((x : ℕ) → F x → G 1) →
     MatchOption o P F → MatchOption (option_map (λ _. 1) o) Q G
@@ -37,12 +31,12 @@ one_joined p None None = refl
 
 -- the leaf 1 stands where the least letter does
 pub ones : (mask : ℕ) (a : Tree) (f : ℕ → Bool) →
-    hidden_leaf (whether_over mask) a f ≡ option_map (λ _. 1) (hidden_leaf (least_over mask) a f)
+    hidden_leaf mask a f ≡ option_map (λ _. 1) (least_leaf mask a f)
 ones mask empty f = refl
 ones mask (final k) f = refl
 ones mask (choice p low high) f = elim (bool_cases (is_in p mask)) [
   | inl is ↦ rw (is, ones mask low f, ones mask high f)
-      (one_joined p (hidden_leaf (least_over mask) low f) (hidden_leaf (least_over mask) high f))
+      (one_joined p (least_leaf mask low f) (least_leaf mask high f))
   | inr isnt ↦ elim (bool_cases (f p)) [
     | inl here ↦ rw (isnt, here) (ones mask high f)
     | inr not ↦ rw (isnt, not) (ones mask low f)
@@ -89,31 +83,16 @@ module _ {s : Table} (mask node : ℕ) (sound : IsSoundTable s) (held : IsNode s
         ];
   }
 
-  others : (t : Table) (h : Hiding) (made u v : ℕ) → IsHidden h (tree_of s node) (tree_of t made) →
-      AgreeOff h.mask u v →
-      leaf_of t made u ≡ leaf_of t made v
-  others t h made u v is off = is (assignment u)
-      ∙ hidden_same h 0 s.propositions (tree_of s node) (sound.ordered node held) (assignment u) (assignment v)
-      (λ q _ isnt. off q isnt) ∙ sym (is (assignment v))
-
-  pub are_least_letters : {t : Table} (made : ℕ) → IsHidden (least_over mask) (tree_of s node) (tree_of t made) →
-      AreLeastLetters s t node mask made
-  are_least_letters {t} made h = record {
-    others = λ u v off. others t (least_over mask) made u v h off;
-    leaf =
-        λ x clear. rw (h (assignment x)) (match_weaker (hidden_leaf (least_over mask) (tree_of s node) (assignment x))
-        (no_leaf x clear) (λ y. least x y clear)
-        (least_hidden mask 0 s.propositions (tree_of s node) (sound.ordered node held) (assignment x)));
-  }
-
   -- ## Whether there is a leaf
 
-  pub is_projection : {t : Table} (made : ℕ) → IsHidden (whether_over mask) (tree_of s node) (tree_of t made) →
+  pub is_projection : {t : Table} (made : ℕ) → IsHidden mask (tree_of s node) (tree_of t made) →
       IsProjection s t node mask made
   is_projection {t} made h = record {
-    others = λ u v off. others t (whether_over mask) made u v h off;
+    others = λ u v off. h (assignment u)
+        ∙ hidden_same mask 0 s.propositions (tree_of s node) (sound.ordered node held) (assignment u) (assignment v)
+        (λ q _ isnt. off q isnt) ∙ sym (h (assignment v));
     leaf = λ x clear. rw (h (assignment x), ones mask (tree_of s node) (assignment x))
-        (match_ones (hidden_leaf (least_over mask) (tree_of s node) (assignment x)) (IsLeafBehind s node mask x)
+        (match_ones (least_leaf mask (tree_of s node) (assignment x)) (IsLeafBehind s node mask x)
         (no_leaf x clear) (λ y l. record { one = refl; letter = y; there = there x y clear l })
         (least_hidden mask 0 s.propositions (tree_of s node) (sound.ordered node held) (assignment x)));
   }

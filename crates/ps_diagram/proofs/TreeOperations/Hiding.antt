@@ -8,10 +8,8 @@ use Rattle.std.proofs.lemmas.Nat.{or_lt, pow_below, pow_pos}
 use Rattle.std.proofs.lemmas.Nat.Bits.{bit_at-lt, shr_and_one}
 use Rattle.std.specs.Prelude.{bit_and}
 use Rattle.ps_label.specs.Truth.{is_in}
-use Rattle.ps_diagram.specs.declared.hidden.Hiding.{Hiding}
 use Rattle.ps_diagram.specs.Inner.Hiding.{hidden_leaf, IsHidden, IsHiddenTest}
 use Rattle.ps_diagram.specs.Inner.Chosen.{IsChosen}
-use Rattle.ps_diagram.specs.Inner.Known.{IsMapped}
 use Rattle.ps_diagram.specs.Inner.Parts.{IsChoice}
 use Rattle.ps_diagram.specs.Inner.Rests.{mixed}
 use Rattle.ps_diagram.specs.Leaves.{chosen, either_leaf}
@@ -28,29 +26,29 @@ use Rattle.ps_diagram.proofs.NodeTables.MadeDiagrams.{by-last, by-sides}
 -- ## The steps of the call
 
 -- the leaf with hidden propositions depends only on the propositions from `level` on that are not hidden
-pub hidden_same : (h : Hiding) (level n : ℕ) (a : Tree) → IsFrom level n a → (f g : ℕ → Bool) →
-    ((q : ℕ) → level ≤ q → is_in q h.mask ≡ false → f q ≡ g q) → hidden_leaf h a f ≡ hidden_leaf h a g
-hidden_same h level n empty o f g e = refl
-hidden_same h level n (final k) o f g e = refl
-hidden_same h level n (choice p low high) o f g e =
-    let later : (q : ℕ) → p + 1 ≤ q → is_in q h.mask ≡ false → f q ≡ g q = λ q le isnt. e q (omega (arith, o.0)) isnt in
-    let l = hidden_same h (p + 1) n low o.2 f g later in
-    let r = hidden_same h (p + 1) n high o.3 f g later in
-    elim (bool_cases (is_in p h.mask)) [
+pub hidden_same : (mask level n : ℕ) (a : Tree) → IsFrom level n a → (f g : ℕ → Bool) →
+    ((q : ℕ) → level ≤ q → is_in q mask ≡ false → f q ≡ g q) → hidden_leaf mask a f ≡ hidden_leaf mask a g
+hidden_same mask level n empty o f g e = refl
+hidden_same mask level n (final k) o f g e = refl
+hidden_same mask level n (choice p low high) o f g e =
+    let later : (q : ℕ) → p + 1 ≤ q → is_in q mask ≡ false → f q ≡ g q = λ q le isnt. e q (omega (arith, o.0)) isnt in
+    let l = hidden_same mask (p + 1) n low o.2 f g later in
+    let r = hidden_same mask (p + 1) n high o.3 f g later in
+    elim (bool_cases (is_in p mask)) [
       | inl is ↦ rw (is, l, r) refl
       | inr isnt ↦ rw (isnt, e p o.0 isnt, l, r) refl
     ]
 
-pub hidden_blind : (h : Hiding) (level n : ℕ) (a d : Tree) → IsFrom level n a → IsHidden h a d → IsBlind level d
-hidden_blind h level n a d o is f g e = is f ∙ hidden_same h level n a o f g (λ q le _. e q le) ∙ sym (is g)
+pub hidden_blind : (mask level n : ℕ) (a d : Tree) → IsFrom level n a → IsHidden mask a d → IsBlind level d
+hidden_blind mask level n a d o is f g e = is f ∙ hidden_same mask level n a o f g (λ q le _. e q le) ∙ sym (is g)
 
 -- the propositions are hidden in the low side of a test first, then in its high side, while the table grows
-pub hidden_sides : {E : Type 0} (h : Hiding) {t u v w : Table} {a p al ah low high made : ℕ} → IsChoice t a p al ah →
-    MakesTree {E = E} t u (Ok low) (IsHidden h (tree_of t al)) →
-    MakesTree {E = E} u v (Ok high) (IsHidden h (tree_of u ah)) →
-    MakesTree {E = E} v w (Ok made) (IsHiddenTest h p (tree_of v low) (tree_of v high)) →
-    MakesTree {E = E} t w (Ok made) (IsHidden h (tree_of t a))
-hidden_sides h part l g test = by-sides l g test (λ f. rw (
+pub hidden_sides : {E : Type 0} (mask : ℕ) {t u v w : Table} {a p al ah low high made : ℕ} → IsChoice t a p al ah →
+    MakesTree {E = E} t u (Ok low) (IsHidden mask (tree_of t al)) →
+    MakesTree {E = E} u v (Ok high) (IsHidden mask (tree_of u ah)) →
+    MakesTree {E = E} v w (Ok made) (IsHiddenTest mask p (tree_of v low) (tree_of v high)) →
+    MakesTree {E = E} t w (Ok made) (IsHidden mask (tree_of t a))
+hidden_sides mask part l g test = by-sides l g test (λ f. rw (
   part.tree,
   test.leaf f,
   g.keeps.same _ l.held,
@@ -67,23 +65,12 @@ first_chosen : (l h : Option ℕ) → chosen l l h ≡ either_leaf l h
 first_chosen None h = refl
 first_chosen (Some y) h = refl
 
--- the proposition of a test is hidden; the second side is as it is
-pub test_whether : {E : Type 0} {s t : Table} {result : Result ℕ E} (h : Hiding) (p low high : ℕ) →
-    is_in p h.mask ≡ true → h.is_least ≡ false →
+-- the proposition of a test is hidden
+pub test_whether : {E : Type 0} {s t : Table} {result : Result ℕ E} (mask p low high : ℕ) → is_in p mask ≡ true →
     MakesTree s t result (IsChosen (tree_of s low) (tree_of s low) (tree_of s high)) →
-    MakesTree s t result (IsHiddenTest h p (tree_of s low) (tree_of s high))
-test_whether {s = s} h p low high is isnt = by-last (keeps_refl s)
-    (λ made choice f. rw (is, isnt, choice f) (first_chosen (leaf_at (tree_of s low) f) (leaf_at (tree_of s high) f)))
-
--- the proposition of a test is hidden; the letters of the second side get its bit first
-pub test_least : {E : Type 0} {s t u : Table} {result : Result ℕ E} (h : Hiding) (p low high bits : ℕ) {raised : ℕ} →
-    is_in p h.mask ≡ true → h.is_least ≡ true → bits ≡ 2 ^ p → IsNode s low →
-    MakesTree {E = E} s t (Ok raised) (IsMapped (λ leaf. option_map (λ k. bit_or k bits) leaf) (tree_of s high)) →
-    MakesTree t u result (IsChosen (tree_of t low) (tree_of t low) (tree_of t raised)) →
-    MakesTree s u result (IsHiddenTest h p (tree_of s low) (tree_of s high))
-test_least {s = s} {t = t} h p low high bits {raised} is least bit held m = by-last m.keeps
-    (λ made choice f. rw (is, least, choice f, m.keeps.same low held, m.leaf f, bit)
-    (first_chosen (leaf_at (tree_of s low) f) (option_map (λ k. bit_or k (2 ^ p)) (leaf_at (tree_of s high) f))))
+    MakesTree s t result (IsHiddenTest mask p (tree_of s low) (tree_of s high))
+test_whether {s = s} mask p low high is = by-last (keeps_refl s)
+    (λ made choice f. rw (is, choice f) (first_chosen (leaf_at (tree_of s low) f) (leaf_at (tree_of s high) f)))
 
 -- ## The least letter
 
@@ -210,17 +197,19 @@ module _ (mask level n p : ℕ) (low high : Tree) (f : ℕ → Bool) (le : level
             (on_later e e.is_true (λ r after. refl));
       }
 
-abbrev pub least_over : ℕ → Hiding
-least_over mask = record { mask = mask; is_least = true }
-
-abbrev pub whether_over : ℕ → Hiding
-whether_over mask = record { mask = mask; is_least = false }
+-- the least letter, over the mask, that together with f leads to a leaf of the tree
+abbrev pub least_leaf : ℕ → Tree → (ℕ → Bool) → Option ℕ
+least_leaf mask empty f = None
+least_leaf mask (final k) f = Some 0
+least_leaf mask (choice p low high) f = cond (is_in p mask)
+    (either_leaf (least_leaf mask low f) (option_map (λ y. bit_or y (2 ^ p)) (least_leaf mask high f)))
+    (cond (f p) (least_leaf mask high f) (least_leaf mask low f))
 
 zero_off : (q : ℕ) → is_in q 0 ≡ false
 zero_off q = no_bit 0 0 q (omega arith) (omega arith)
 
 pub least_hidden : (mask level n : ℕ) (a : Tree) → IsFrom level n a → (f : ℕ → Bool) →
-    MatchOption (hidden_leaf (least_over mask) a f) (LeadsNowhere mask a f) (IsLeastAt mask level n a f)
+    MatchOption (least_leaf mask a f) (LeadsNowhere mask a f) (IsLeastAt mask level n a f)
 least_hidden mask level n empty o f = record { none = λ g agree. refl }
 least_hidden mask level n (final k) o f = record {
   own = λ q _. zero_off q;
@@ -233,12 +222,12 @@ least_hidden mask level n (choice p low high) o f =
     let l = least_hidden mask (p + 1) n low o.2 f in
     let h = least_hidden mask (p + 1) n high o.3 f in
     elim (bool_cases (is_in p mask)) [
-      | inl is ↦ rw is (joined mask level n p low high f o.0 o.1 o.3 (hidden_leaf (least_over mask) low f)
-          (hidden_leaf (least_over mask) high f) is l h)
+      | inl is ↦ rw is (joined mask level n p low high f o.0 o.1 o.3 (least_leaf mask low f)
+          (least_leaf mask high f) is l h)
       | inr isnt ↦ elim (bool_cases (f p)) [
         | inl here ↦ rw (isnt, here) (passed mask level n p low high f o.0 o.1 o.3 true
-            (hidden_leaf (least_over mask) high f) isnt here h)
+            (least_leaf mask high f) isnt here h)
         | inr not ↦ rw (isnt, not) (passed mask level n p low high f o.0 o.1 o.3 false
-            (hidden_leaf (least_over mask) low f) isnt not l)
+            (least_leaf mask low f) isnt not l)
       ]
     ]

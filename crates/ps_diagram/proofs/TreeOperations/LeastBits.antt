@@ -15,7 +15,7 @@ use Rattle.ps_label.specs.Truth.{is_in}
 use Rattle.ps_diagram.specs.Bits.{propositions_in}
 use Rattle.ps_diagram.specs.Inner.Bits.{Agree, IsLeastBelow, IsSet, IsWhether, LeadsAlike, LeadsSomewhere}
 use Rattle.ps_diagram.specs.Inner.Chosen.{IsChosen}
-use Rattle.ps_diagram.specs.Inner.Hiding.{IsHidden, hidden_leaf}
+use Rattle.ps_diagram.specs.Inner.Hiding.{IsHidden}
 use Rattle.ps_diagram.specs.Inner.Rests.{IsCofactor, mixed}
 use Rattle.ps_diagram.specs.Leaves.{chosen, opposite}
 use Rattle.ps_diagram.specs.Letters.{assignment}
@@ -24,8 +24,8 @@ use Rattle.ps_diagram.proofs.Canon.{from-blind}
 use Rattle.ps_diagram.proofs.Letters.{lower_bit, no_bit, top_bit}
 use Rattle.ps_diagram.proofs.NodeTables.Cells.{bool_cases, true_is_not_false}
 use Rattle.ps_diagram.proofs.TreesFromData.Literals.{in_power}
-use Rattle.ps_diagram.proofs.TreeOperations.Hiding.{IsLeastAt, LeadsNowhere, hidden_same, least_hidden, least_over}
-use Rattle.ps_diagram.proofs.TreeOperations.Hiding.{none_some, whether_over}
+use Rattle.ps_diagram.proofs.TreeOperations.Hiding.{IsLeastAt, LeadsNowhere, hidden_same, least_hidden, least_leaf}
+use Rattle.ps_diagram.proofs.TreeOperations.Hiding.{none_some}
 use Rattle.ps_diagram.proofs.TreeOperations.HiddenLetters.{ones}
 
 -- ## Trees
@@ -51,9 +51,9 @@ value_of (Some v) ne = (v, refl)
 
 -- ## Whether a leaf is there
 
-module _ (mask n : ℕ) (a d : Tree) (from : IsFrom 0 n a) (hides : IsHidden (whether_over mask) a d) where
+module _ (mask n : ℕ) (a d : Tree) (from : IsFrom 0 n a) (hides : IsHidden mask a d) where
   abbrev least : (ℕ → Bool) → Option ℕ
-  least f = hidden_leaf (least_over mask) a f
+  least f = least_leaf mask a f
 
   leaf_is : (f : ℕ → Bool) → leaf_at d f ≡ option_map (λ _. 1) (least f)
   leaf_is f = hides f ∙ ones mask a f
@@ -74,7 +74,7 @@ module _ (mask n : ℕ) (a d : Tree) (from : IsFrom 0 n a) (hides : IsHidden (wh
 
   pub whether_is : IsWhether mask a d
   whether_is = record {
-    blind = λ f g agree. hides f ∙ hidden_same (whether_over mask) 0 n a from f g (λ q _ isnt. agree q isnt)
+    blind = λ f g agree. hides f ∙ hidden_same mask 0 n a from f g (λ q _ isnt. agree q isnt)
         ∙ sym (hides g);
     some = λ f some. at_least f (least f) (least_hidden mask 0 n a from f) (some_is (sym (leaf_is f)) some);
     there = λ f g agree some. some_is (leaf_is f)

@@ -2,7 +2,7 @@
 -- and stay the same when the table grows.
 use Rattle.std.proofs.Common.{◌≡◌, ℕ, ◌+◌, ◌<◌, Bool, true, false, cond, List, [], ◌∷◌, ◌++◌, length, get_or, Option}
 use Rattle.std.proofs.Common.{refl, ap, arith, drop, drop-cons, add-one, length-append, rules}
-use Rattle.std.specs.Prelude.{option_map}
+use Rattle.std.specs.Prelude.{not, option_map}
 use Rattle.std.proofs.lemmas.List.{get_or-map, length-map}
 use Rattle.ps_label.specs.declared.label.Label.{Label}
 use Rattle.ps_label.specs.Expression.{constant, AreOrdered, expression}
@@ -13,6 +13,7 @@ use Rattle.ps_diagram.specs.Labels.{leaf_where, one_where, HaveTruths}
 use Rattle.ps_diagram.specs.Letters.{assignment}
 use Rattle.ps_diagram.specs.Tree.{leaf_at}
 use Rattle.ps_diagram.specs.Table.{Table, IsNode, Keeps, leaf_of}
+use Rattle.ps_diagram.specs.Inner.Unions.{is_value}
 use Rattle.ps_diagram.proofs.NodeTables.Cells.{push_each}
 
 pub truths_kept : {t u : Table} {nodes : List ℕ} {known : ℕ → List Bool} → Keeps t u → HaveTruths t nodes known →
@@ -30,8 +31,23 @@ leaf_one b = search rules
 pub guarded_is : (value : ℕ) (b : Bool) → option_map (λ _. value) (one_where b) ≡ leaf_where value b
 guarded_is value b = search rules
 
-pub opposite_of : (b : Bool) → opposite (one_where b) ≡ one_where (cond b false true)
-opposite_of b = search rules
+-- an expression has the other truth value where its negation has this one
+pub value_of_opposite : (value b : Bool) → is_value (not value) b ≡ is_value value (cond b false true)
+value_of_opposite true true = refl
+value_of_opposite true false = refl
+value_of_opposite false true = refl
+value_of_opposite false false = refl
+
+pub opposite_of_both : (value b : Bool) → is_value (not value) (cond b false true) ≡ is_value value b
+opposite_of_both true true = refl
+opposite_of_both true false = refl
+opposite_of_both false true = refl
+opposite_of_both false false = refl
+
+pub value_turned : (kept b : Bool) → cond kept (one_where b) (opposite (one_where b)) ≡ one_where (is_value kept b)
+value_turned true b = refl
+value_turned false true = refl
+value_turned false false = refl
 
 pub joined_of : (a b : Bool) → either_leaf (one_where a) (one_where b) ≡ one_where (cond a true b)
 joined_of a b = search rules

@@ -9,7 +9,7 @@ use Rattle.ps_label.specs.Truth.{truth, all_true, any_true}
 use Rattle.ps_diagram.specs.Labels.{HaveTruths, IsOneOrNone, one_where}
 use Rattle.ps_diagram.specs.Leaves.{either_leaf}
 use Rattle.ps_diagram.specs.Table.{Table, IsNode, Keeps, leaf_of}
-use Rattle.ps_diagram.specs.Inner.Unions.{IsTruth, first_leaf, leaves_of}
+use Rattle.ps_diagram.specs.Inner.Unions.{IsTruth, first_leaf, is_value, leaves_of}
 use Rattle.ps_diagram.proofs.NodeTables.Cells.{keeps_refl}
 use Rattle.ps_diagram.proofs.NodeTables.KnownLemmas.{keeps_trans}
 use Rattle.ps_diagram.proofs.TreeOperations.Truths.{IsDecided, decided_more, joined_of, leaf_kept, truths_kept}
@@ -161,3 +161,23 @@ operands_more any {made = made} {e = e} {rest = rest} {node = node} a v k held l
         IsDecided any old (cond b (cond any true (cond any some all)) (cond any (cond any some all) false)) whole
     by true b some all h = h
     by false b some all h = h
+
+-- ## All operands
+
+decided_by_all : (any : Bool) {leaf : Option ℕ} {whole : Bool} → IsDecided any leaf (cond any false true) whole →
+    leaf ≡ one_where (is_value any whole)
+decided_by_all true h = grind arith
+decided_by_all false h = grind arith
+
+-- once all operands were visited, the made nodes have the leaf 1 where one of them has the truth value `any`
+pub operands_done : (any : Bool) {s t : Table} {named made : List ℕ} {rest : List Expression} {label : Expression} →
+    rest ≡ [] → AreOperands any s t named made rest label → (known : ℕ → List Bool) → HaveTruths s named known →
+    (letter : ℕ) →
+    first_leaf (leaves_of t made letter) ≡ one_where (is_value any (truth (known letter) letter label))
+operands_done any none v known h letter =
+    decided_by_all any (rest_decides any (known letter) letter none (v.leaf known h letter))
+  where
+    rest_decides : (any : Bool) (values : List Bool) (x : ℕ) {es : List Expression} {leaf : Option ℕ} {whole : Bool} →
+        es ≡ [] → IsDecided any leaf (cond any (any_true values x (operands_in es))
+        (all_true values x (operands_in es))) whole → IsDecided any leaf (cond any false true) whole
+    rest_decides any values x none h = rw none at h

@@ -181,6 +181,13 @@ side_leaf : (hit miss : Tree) (b : Bool) (node side : Tree) (f : ℕ → Bool) (
 side_leaf hit miss true node side f rest e h = rw e refl
 side_leaf hit miss false node side f rest e h = rw e h
 
+no_literal : (positive negative : Bool) → (positive || negative) ≡ false → (positive ≡ false) × (negative ≡ false)
+no_literal positive negative h = grind arith
+
+same_leaf : (b : Bool) (leaf : Option ℕ) → cond b leaf leaf ≡ leaf
+same_leaf true leaf = refl
+same_leaf false leaf = refl
+
 -- A product is made into a tree: the literals on propositions from `level` on lead to the tree `hit` where they are
 -- true, and elsewhere to the tree `miss`.
 module _ {n : ℕ} {product : Product} {hit miss : Tree} (hit_constant : IsConstant hit) (miss_constant : IsConstant miss)
@@ -219,3 +226,12 @@ module _ {n : ℕ} {product : Product} {hit miss : Tree} (hit_constant : IsConst
           rw (count, next, is f, down, up) (tested (f (i - 1)) (cond (is_in (i - 1) product.negative) false true)
           (cond (is_in (i - 1) product.positive) false true) rest (leaf_at hit f) (leaf_at miss f));
     }
+
+    -- a proposition without a literal adds nothing
+    pub product_stays : {i : ℕ} (node : Tree) → 0 < i → i ≤ n → IsProduct n i product hit miss node →
+        (is_in (i - 1) product.positive || is_in (i - 1) product.negative) ≡ false →
+        IsProduct n (i - 1) product hit miss node
+    product_stays {i} node some le h none =
+        let neither = no_literal (is_in (i - 1) product.positive) (is_in (i - 1) product.negative) none in
+        product_next node node node node some le h (rw neither.0 refl) (rw neither.1 refl)
+        (λ f. sym (same_leaf (f (i - 1)) (leaf_at node f)))

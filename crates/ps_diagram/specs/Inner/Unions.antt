@@ -1,5 +1,5 @@
 -- Diagrams of truth values, in which each leaf is 1, and their disjunctions. (For private functions.)
-use Rattle.std.specs.Prelude.{◌≡◌, ℕ, Bool, List, [], ◌∷◌, Option, None, map}
+use Rattle.std.specs.Prelude.{◌≡◌, ℕ, Bool, true, false, cond, List, [], ◌∷◌, Option, None, map}
 use Rattle.ps_diagram.specs.Labels.{IsOneOrNone}
 use Rattle.ps_diagram.specs.Leaves.{either_leaf}
 use Rattle.ps_diagram.specs.Table.{Table, IsNode, leaf_of}
@@ -26,3 +26,7 @@ IsTruthTree t = (f : ℕ → Bool) → IsOneOrNone (leaf_at t f)
 -- the third tree has the leaves of the first, and those of the second where the first has none
 abbrev pub IsUnion : Tree → Tree → Tree → Type 0
 IsUnion a b c = (f : ℕ → Bool) → leaf_at c f ≡ either_leaf (leaf_at a f) (leaf_at b f)
+
+-- whether a truth value is the given one
+abbrev pub is_value : (value b : Bool) → Bool
+is_value value b = cond value b (cond b false true)

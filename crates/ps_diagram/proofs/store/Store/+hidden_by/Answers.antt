@@ -15,21 +15,21 @@ returns-in-Some-clause-made t c =
 
 pub returns-in-Leaf-clause-made : goal.returns-in-Leaf-clause-made
 returns-in-Leaf-clause-made t c = by-last (keeps_refl c.args.self.now)
-    (λ made is f. rw (c.in-Leaf.ensures.part, is f, c.leaf.ensures) refl) c.constant.ensures
+    (λ made is f. rw (c.in-Leaf.ensures.part, is f) refl) c.constant.ensures
 
 pub hidden_test-requires-clause-low_later : goal.hidden_test-requires-clause-low_later
 hidden_test-requires-clause-low_later t c =
     let low = c.in_ok-low.ensures.made in
     let part = c.in-Test.ensures.part in
     kept (IsBlind (c.in-Test.proposition + 1)) c.in_ok-high.ensures.made.keeps low.held
-    (hidden_blind c.args.hiding (c.in-Test.proposition + 1) c.args.self.now.propositions _ _ part.low_from low.leaf)
+    (hidden_blind c.args.hidden (c.in-Test.proposition + 1) c.args.self.now.propositions _ _ part.low_from low.leaf)
 
 pub hidden_test-requires-clause-high_later : goal.hidden_test-requires-clause-high_later
 hidden_test-requires-clause-high_later t c =
     let level = c.in-Test.proposition + 1 in
     let n = c.args.self.now.propositions in
     let part = c.in-Test.ensures.part in
-    hidden_blind c.args.hiding level n _ _ (kept (IsFrom level n) c.in_ok-low.ensures.made.keeps part.high_held
+    hidden_blind c.args.hidden level n _ _ (kept (IsFrom level n) c.in_ok-low.ensures.made.keeps part.high_held
     part.high_from) c.in_ok-high.ensures.made.leaf
 
 pub returns-in_err-put-clause-made : goal.returns-in_err-put-clause-made
@@ -38,12 +38,12 @@ returns-in_err-put-clause-made t c = fails
     (search rules)
 
 pub returns-clause-made : goal.returns-clause-made
-returns-clause-made t c = hidden_sides c.args.hiding c.in-Test.ensures.part c.in_ok-low.ensures.made
+returns-clause-made t c = hidden_sides c.args.hidden c.in-Test.ensures.part c.in_ok-low.ensures.made
     c.in_ok-high.ensures.made c.in_ok-made.ensures
 
 pub returns-clause-known : goal.returns-clause-known
 returns-clause-known t c =
-    let hides = IsHidden c.args.hiding in
+    let hides = IsHidden c.args.hidden in
     let mid = c.hidden_by-2.new.self in
     let last = c.hidden_test.new.self in
     let k = c.hidden_test.ensures.keeps in

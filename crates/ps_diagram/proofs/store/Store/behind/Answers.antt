@@ -5,5 +5,5 @@ use Rattle.ps_diagram.proofs.store.Store.behind.Goals as goal
 
 pub returns : goal.returns
 returns c = by-last (keeps_refl c.args.self.now)
-    (λ made h. is_behind c.args.fixed c.args.node c.allocator.ensures.sound c.requires.held c.args.letter made c.requires.over h)
-    c.cofactor.ensures.made
+    (λ made h. is_behind c.args.fixed c.args.node c.table_is_sound.ensures.sound c.requires.held c.args.letter
+    made c.requires.over h) c.fixed.ensures

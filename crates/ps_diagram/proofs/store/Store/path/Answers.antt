@@ -1,9 +1,9 @@
-use Rattle.std.proofs.Common.{arith, ◌≡◌, ◌≤◌, ◌<◌, ◌+◌, ◌-◌, cond, ℕ, Bool, true, false, refl, sym}
+use Rattle.std.proofs.Common.{arith, rules, ◌≡◌, ◌≤◌, ◌<◌, ◌+◌, ◌-◌, cond, ℕ, Bool, true, false, refl, sym, ◌∙◌}
 use Rattle.ps_label.specs.Truth.{is_in}
 use Rattle.ps_diagram.specs.Table.{Keeps, IsNode, Table, tree_of}
 use Rattle.ps_diagram.proofs.NodeTables.Cells.{keeps_refl}
 use Rattle.ps_diagram.proofs.NodeTables.KnownLemmas.{keeps_trans}
-use Rattle.ps_diagram.proofs.TreesFromData.Literals.{product_begins, product_next, side_blind}
+use Rattle.ps_diagram.proofs.TreesFromData.Literals.{product_begins, product_next, product_stays, side_blind}
 use Rattle.ps_diagram.proofs.store.Store.path.Goals as goal
 
 -- the node of a side is one of two nodes
@@ -78,6 +78,29 @@ loop-proposition-preserved c =
           c.args.miss c.loop-proposition.node c.side-high.result c.side-high.ensures c.requires.miss)
           c.in_ok-node.ensures.leaf;
     }
+
+pub loop-proposition-preserved-then-not-tests : goal.loop-proposition-preserved-then-not-tests
+loop-proposition-preserved-then-not-tests c =
+    let v = c.loop-proposition.invariant in
+    let some : 0 < c.loop-proposition.proposition = omega arith in
+    let within : c.loop-proposition.proposition ≤ c.args.self.now.propositions = omega (
+      arith,
+      c.propositions-proposition.ensures.value,
+    ) in
+    record {
+      from = omega arith;
+      keeps = v.keeps;
+      held = v.held;
+      leaf = product_stays c.requires.hit_constant c.requires.miss_constant _ some within v.leaf
+          (sym c.tests.ensures ∙ c.if-not-tests.true);
+    }
+
+pub returns-in_err-node : goal.returns-in_err-node
+returns-in_err-node c = record {
+  keeps = keeps_trans c.loop-proposition.invariant.keeps c.test.ensures.keeps;
+  held = search rules;
+  leaf = search rules;
+}
 
 pub returns : goal.returns
 returns c =

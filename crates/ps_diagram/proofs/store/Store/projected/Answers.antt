@@ -5,4 +5,5 @@ use Rattle.ps_diagram.proofs.store.Store.projected.Goals as goal
 
 pub returns : goal.returns
 returns c = by-last (keeps_refl c.args.self.now)
-    (λ made h. is_projection c.args.hidden c.args.node c.allocator.ensures.sound c.requires.held made h) c.hidden_by.ensures.made
+    (λ made h. is_projection c.args.hidden c.args.node c.table_is_sound.ensures.sound c.requires.held made h)
+    c.whether.ensures.hidden
