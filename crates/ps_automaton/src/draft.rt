@@ -20,7 +20,7 @@ ghost use Rattle.ps_automaton.specs.Inner.Views.{chain_data};
 ghost use Rattle.ps_automaton.specs.declared.targets.Target.{Target};
 
 use crate::cases::{cases_of, products_of};
-use crate::edge_labels::size_of_labels;
+use crate::edge_labels::are_labels_long;
 use crate::fault::AutomatonFault;
 use crate::guards::Guards;
 use crate::letter_rows::{edges_by_letter, leaves_of};
@@ -232,7 +232,7 @@ fn node_by_sets(pairs: &mut Pairs, source: &Source, row: &Row) -> Result<Option<
 /// Whether joining edges letter by letter takes less time than joining diagrams: there are at most 64 letters, or the
 /// labels have at least one literal or operator for each 8 letters.
 fn is_worth_letters(row: &Row, propositions: usize) -> bool {
-    propositions <= 6 || propositions < 64 && size_of_labels(row) >= 1 << (propositions - 3)
+    propositions <= 6 || propositions < 64 && are_labels_long(row, 1 << (propositions - 3))
 }
 
 /// The diagram whose leaf at a letter is the index of the step of its edge in `edges`, or 0, the step to the sink.

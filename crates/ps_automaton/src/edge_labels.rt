@@ -1,4 +1,4 @@
-//! The labels of a state's edges, and how long they are.
+//! The labels of a state's edges, and whether they are long.
 
 ghost use Rattle.std.specs.Prelude.{IfSome};
 ghost use Rattle.ps_hoa.specs.Files.{FileData};
@@ -24,29 +24,36 @@ pub(crate) fn label_of<'a>(row: &'a Row, edge: &'a Edge) -> Option<&'a Label>
     }
 }
 
-/// The number of literals and operators in the labels of a row's edges.
-pub(crate) fn size_of_labels(row: &Row) -> usize {
-    let mut size: usize = 0;
+/// Whether the labels of a row's edges have at least this many literals and operators.
+pub(crate) fn are_labels_long(row: &Row, least: usize) -> bool {
+    let mut left = least;
     for edge in &row.edges {
+        if left == 0 {
+            return true;
+        }
         if let Some(label) = label_of(row, edge) {
-            size = size.saturating_add(size_of(label));
+            left = left_behind(label, left);
         }
     }
-    size
+    left == 0
 }
 
-fn size_of(label: &Label) -> usize {
+/// The number without one for each literal and operator of a label, but at least 0.
+fn left_behind(label: &Label, left: usize) -> usize {
     match label {
-        Label::Truth(_) | Label::Atom(_) | Label::Named(_) => 1,
-        Label::Negated(_) => 2,
-        Label::Literals(literals) => size_of_literals(literals.as_slice()),
-        Label::Neg(operand) => size_of(operand).saturating_add(1),
+        Label::Truth(_) | Label::Atom(_) | Label::Named(_) => left.saturating_sub(1),
+        Label::Negated(_) => left.saturating_sub(2),
+        Label::Literals(literals) => left.saturating_sub(size_of_literals(literals.as_slice())),
+        Label::Neg(operand) => left_behind(operand, left.saturating_sub(1)),
         Label::Both(operands) | Label::Either(operands) => {
-            let mut size: usize = 1;
+            let mut left = left.saturating_sub(1);
             for operand in operands {
-                size = size.saturating_add(size_of(operand));
+                if left == 0 {
+                    return 0;
+                }
+                left = left_behind(operand, left);
             }
-            size
+            left
         }
     }
 }

@@ -52,11 +52,7 @@ fn no_edges(alloc: Global, letters: usize) -> Result<Vec<Option<usize>>, AllocEr
     ensures letters { IfOk result (λ edges. length edges.items ≡ letters) }
     ensures none { IfOk result (λ edges. (letter : ℕ) → edge_at edges.items letter ≡ None) }
 {
-    let mut edges = Vec::new(alloc);
-    for _ in 0..letters {
-        edges.push(None)?;
-    }
-    Ok(edges)
+    vec![in alloc; None; letters]
 }
 
 /// Adds the edge with the index `place` at the letters of a set. Returns false if one of them has an edge with another
@@ -94,7 +90,7 @@ pub(crate) fn leaves_of(
     requires { All (λ edge. IfSome edge (λ first. first < length places.now)) edges.now }
     ensures { IfOk result (λ leaves. leaves.items ≡ map (entry_for places.now) edges.now) }
 {
-    let mut leaves = Vec::new(alloc);
+    let mut leaves = Vec::with_capacity(alloc, edges.len())?;
     for edge in edges {
         let leaf = match edge {
             Some(first) => places[*first],

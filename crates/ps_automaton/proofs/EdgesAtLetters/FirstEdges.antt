@@ -1,7 +1,7 @@
 -- The first edge of a row at a letter is the first of the row's edges that is taken there. Lemmas about a list that has
 -- the index of the first edge at each letter, and about the list after one more edge.
 use Rattle.std.proofs.Common.{arith, ◌≡◌, ◌∙◌, ℕ, ◌+◌, ◌%◌, ◌^◌, ◌<◌, inl, inr, Bool, true, false, List, length, Option}
-use Rattle.std.proofs.Common.{Some, None, refl, sym, ap, map, take, ◌++◌, [], ◌∷◌, zero, suc}
+use Rattle.std.proofs.Common.{Some, None, replicate, refl, sym, ap, map, take, ◌++◌, [], ◌∷◌, zero, suc}
 use Rattle.std.proofs.Math.Seq.{take-append_seam}
 use Rattle.std.specs.List.{All, slice_get}
 use Rattle.std.specs.Option.{IfSome, IsSomeAnd, option_map}
@@ -28,12 +28,10 @@ AreFirsts count edges = All (λ edge. IfSome edge (λ first. first < count)) edg
 pub written_back : (new rest : List (Option ℕ)) (n : ℕ) → length new ≡ n → take n (new ++ rest) ≡ new
 written_back new rest n size = rw (sym size) (take-append_seam new rest)
 
-pub none_more : (edges : List (Option ℕ)) → ((letter : ℕ) → edge_at edges letter ≡ None) → (letter : ℕ) →
-    edge_at (edges ++ None ∷ []) letter ≡ None
-none_more [] none zero = refl
-none_more [] none (suc j) = refl
-none_more (e ∷ es) none zero = none 0
-none_more (e ∷ es) none (suc j) = none_more es (λ i. none (suc i)) j
+pub none_at : (letters letter : ℕ) → edge_at (replicate letters None) letter ≡ None
+none_at zero letter = refl
+none_at (suc n) zero = refl
+none_at (suc n) (suc j) = none_at n j
 
 pub firsts_none : (count : ℕ) (edges : List (Option ℕ)) → ((letter : ℕ) → edge_at edges letter ≡ None) →
     AreFirsts count edges

@@ -1,11 +1,6 @@
-use Rattle.std.proofs.Common.{arith}
-use Rattle.ps_automaton.proofs.EdgesAtLetters.FirstEdges.{none_more}
+use Rattle.std.proofs.Common.{rules}
+use Rattle.ps_automaton.proofs.EdgesAtLetters.FirstEdges.{none_at}
 use Rattle.ps_automaton.proofs.letter_rows.no_edges.Goals as goal
 
-pub loop-preserved : goal.loop-preserved
-loop-preserved c =
-    let letters = c.loop.invariant.letters in
-    record {
-      letters = omega (arith, c.in_ok-push.ensures.len, letters);
-      none = λ letter. rw c.in_ok-push.ensures.items (none_more c.loop.edges.items c.loop.invariant.none letter);
-    }
+pub returns-clause-none : goal.returns-clause-none
+returns-clause-none c = search (rules, none_at)
