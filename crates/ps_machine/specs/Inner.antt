@@ -11,4 +11,5 @@ pub mod Moving
 pub mod Naming
 pub mod Placing
 pub mod Planning
+pub mod Stored
 pub mod Visits

@@ -4,7 +4,7 @@ ghost use Rattle.std.specs.Prelude.{◌≡◌, ◌<◌, ◌≤◌, length, map, 
 ghost use Rattle.ps_hoa.specs.Memory.{bytes_of};
 ghost use Rattle.ps_diagram.specs.Table.{IsNode};
 ghost use Rattle.ps_machine.specs.BitMachines.{IsWholeBitMachine, bit_behaviour, bits_in};
-ghost use Rattle.ps_machine.specs.Inner.BitAssembling.{bit_machine_of};
+ghost use Rattle.ps_machine.specs.Inner.Stored.{bit_machine_of};
 
 use crate::machine::Propositions;
 use ps_diagram::{Node, Store};
@@ -28,44 +28,21 @@ pub struct BitParts {
 /// proposition that is output, another has a leaf where this proposition is true. So there may be many output letters.
 #[derive(Drop)]
 pub struct BitMachine {
-    names: Vec<Vec<u8>>,
-    inputs: Vec<u32>,
-    outputs: Vec<u32>,
     player: Player,
     moves_first: bool,
-    store: Store,
-    nodes: Vec<Node>,
-    bits: Vec<Vec<Node>>,
+    propositions: Propositions,
+    parts: BitParts,
 }
 
 impl Model for BitMachine {
-    ghost use Rattle.std.specs.Prelude.{map};
-    ghost use Rattle.ps_hoa.specs.Memory.{bytes_of};
-    ghost use Rattle.ps_machine.specs.BitMachines.{BitMachineData, IsWholeBitMachine, nodes_of};
+    ghost use Rattle.ps_machine.specs.BitMachines.{BitMachineData, IsWholeBitMachine};
+    ghost use Rattle.ps_machine.specs.Inner.Stored.{bit_machine_of};
 
     ghost Value = { BitMachineData };
 
-    ghost view = { λ m. record {
-      names = map bytes_of m.names.items;
-      inputs = m.inputs.items;
-      outputs = m.outputs.items;
-      player = m.player;
-      is_first = m.moves_first;
-      store = m.store;
-      nodes = m.nodes.items;
-      bits = map nodes_of m.bits.items;
-    } };
+    ghost view = { λ m. bit_machine_of m.player m.moves_first m.propositions m.parts };
 
-    ghost invariant = { λ m. IsWholeBitMachine (record {
-      names = map bytes_of m.names.items;
-      inputs = m.inputs.items;
-      outputs = m.outputs.items;
-      player = m.player;
-      is_first = m.moves_first;
-      store = m.store;
-      nodes = m.nodes.items;
-      bits = map nodes_of m.bits.items;
-    }) };
+    ghost invariant = { λ m. IsWholeBitMachine (bit_machine_of m.player m.moves_first m.propositions m.parts) };
 }
 
 impl BitMachine {
@@ -79,14 +56,10 @@ impl BitMachine {
         ensures { result ≡ bit_machine_of player moves_first propositions parts }
     {
         BitMachine {
-            names: propositions.names,
-            inputs: propositions.inputs,
-            outputs: propositions.outputs,
             player,
             moves_first,
-            store: parts.store,
-            nodes: parts.nodes,
-            bits: parts.bits,
+            propositions,
+            parts,
         }
     }
 
@@ -95,7 +68,7 @@ impl BitMachine {
         ensures names { map bytes_of result.now ≡ self.now.names }
         ensures machine { IsWholeBitMachine self.now }
     {
-        self.names.as_slice()
+        &self.propositions.names
     }
 
     /// The other player's propositions, which the machine reads, ascending.
@@ -103,7 +76,7 @@ impl BitMachine {
         ensures inputs { result.now ≡ self.now.inputs }
         ensures machine { IsWholeBitMachine self.now }
     {
-        self.inputs.as_slice()
+        &self.propositions.inputs
     }
 
     /// The propositions that the machine outputs, ascending.
@@ -111,7 +84,7 @@ impl BitMachine {
         ensures outputs { result.now ≡ self.now.outputs }
         ensures machine { IsWholeBitMachine self.now }
     {
-        self.outputs.as_slice()
+        &self.propositions.outputs
     }
 
     /// The machine's player: 0 is the controller, 1 the environment.
@@ -135,7 +108,7 @@ impl BitMachine {
         ensures memories { result ≡ (bit_behaviour self.now).memories }
         ensures machine { IsWholeBitMachine self.now }
     {
-        self.nodes.len()
+        self.parts.nodes.len()
     }
 
     /// The store of the diagrams.
@@ -144,7 +117,7 @@ impl BitMachine {
         ensures propositions { result.now.propositions ≡ length self.now.names }
         ensures machine { IsWholeBitMachine self.now }
     {
-        &self.store
+        &self.parts.store
     }
 
     /// The diagram of a memory state. Its leaf at an input letter is the next memory state.
@@ -153,7 +126,7 @@ impl BitMachine {
         ensures node { result ≡ slice_index self.now.nodes memory }
         ensures held { IsNode self.now.store result }
     {
-        self.nodes[memory]
+        self.parts.nodes[memory]
     }
 
     /// The diagram of a memory state for the output proposition at this place. It has a leaf at an input letter if this
@@ -164,6 +137,6 @@ impl BitMachine {
         ensures bit { result ≡ slice_index (bits_in self.now memory) place }
         ensures held { IsNode self.now.store result }
     {
-        self.bits[memory][place]
+        self.parts.bits[memory][place]
     }
 }

@@ -15,6 +15,7 @@
 //! | `machine_of_certificate`, `extract` | the machine of the winner of vertex 0, by a valid certificate |
 //! | `machine_of_bits(.., parts)` | the machine of these diagrams, one for each bit of its output letters |
 //! | `Machine::step(memory, letter)` | the next memory state, and the letter that is output |
+//! | `Machine::parts_fit` | a fact: in each memory state, each letter leads to a row |
 //! | `Machine::store`, `node`, `row`, `rows` | the diagram of a memory state, and the row that each leaf names |
 //!
 //! | Law | What it states |

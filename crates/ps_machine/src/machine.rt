@@ -3,7 +3,7 @@
 ghost use Rattle.std.specs.Prelude.{◌≡◌, ℕ, ◌<◌, ◌≤◌, IsTrue, length, map, slice_index};
 ghost use Rattle.ps_hoa.specs.Memory.{bytes_of};
 ghost use Rattle.ps_diagram.specs.Table.{IsNode};
-ghost use Rattle.ps_machine.specs.Inner.Assembling.{machine_of};
+ghost use Rattle.ps_machine.specs.Inner.Stored.{machine_of};
 ghost use Rattle.ps_machine.specs.Machines.{IsWholeMachine, behaviour, row_at_leaf, machine_row};
 
 use indexmap::IndexSet;
@@ -45,45 +45,21 @@ pub(crate) struct MachineParts {
 /// moves first, the output does not depend on the input. Each leaf of the diagrams is the index of a row.
 #[derive(Drop)]
 pub struct Machine {
-    names: Vec<Vec<u8>>,
-    inputs: Vec<u32>,
-    outputs: Vec<u32>,
     player: Player,
     moves_first: bool,
-    store: Store,
-    nodes: Vec<Node>,
-    rows: IndexSet<Row>,
+    propositions: Propositions,
+    diagrams: MachineParts,
 }
 
 impl Model for Machine {
-    ghost use Rattle.std.specs.Prelude.{map};
-    ghost use Rattle.ps_hoa.specs.Memory.{bytes_of};
+    ghost use Rattle.ps_machine.specs.Inner.Stored.{machine_of};
     ghost use Rattle.ps_machine.specs.Machines.{MachineData, IsWholeMachine};
 
     ghost Value = { MachineData };
 
-    ghost view = { λ m. record {
-      names = map bytes_of m.names.items;
-      inputs = m.inputs.items;
-      outputs = m.outputs.items;
-      player = m.player;
-      is_first = m.moves_first;
-      store = m.store;
-      nodes = m.nodes.items;
-      rows = m.rows.keys;
-    } };
+    ghost view = { λ m. machine_of m.player m.moves_first m.propositions m.diagrams };
 
-    ghost invariant = { λ m. IsWholeMachine (record {
-      names = map bytes_of m.names.items;
-      inputs = m.inputs.items;
-      outputs = m.outputs.items;
-      player =
-          m.player;
-      is_first = m.moves_first;
-      store = m.store;
-      nodes = m.nodes.items;
-      rows = m.rows.keys;
-    }) };
+    ghost invariant = { λ m. IsWholeMachine (machine_of m.player m.moves_first m.propositions m.diagrams) };
 }
 
 impl Machine {
@@ -97,14 +73,10 @@ impl Machine {
         ensures { result ≡ machine_of player moves_first propositions diagrams }
     {
         Machine {
-            names: propositions.names,
-            inputs: propositions.inputs,
-            outputs: propositions.outputs,
             player,
             moves_first,
-            store: diagrams.store,
-            nodes: diagrams.nodes,
-            rows: diagrams.rows,
+            propositions,
+            diagrams,
         }
     }
 
@@ -113,7 +85,7 @@ impl Machine {
         ensures names { map bytes_of result.now ≡ self.now.names }
         ensures machine { IsWholeMachine self.now }
     {
-        self.names.as_slice()
+        &self.propositions.names
     }
 
     /// The other player's propositions, which the machine reads, ascending.
@@ -121,7 +93,7 @@ impl Machine {
         ensures inputs { result.now ≡ self.now.inputs }
         ensures machine { IsWholeMachine self.now }
     {
-        self.inputs.as_slice()
+        &self.propositions.inputs
     }
 
     /// The propositions that the machine outputs, ascending.
@@ -129,7 +101,7 @@ impl Machine {
         ensures outputs { result.now ≡ self.now.outputs }
         ensures machine { IsWholeMachine self.now }
     {
-        self.outputs.as_slice()
+        &self.propositions.outputs
     }
 
     /// The machine's player: 0 is the controller, 1 the environment.
@@ -138,6 +110,13 @@ impl Machine {
         ensures machine { IsWholeMachine self.now }
     {
         self.player
+    }
+
+    /// The parts fit: in each memory state, each letter leads to a row. The prover learns it here.
+    pub fn parts_fit(&self)
+        ensures { IsWholeMachine self.now }
+    {
+        self.player();
     }
 
     /// Whether the machine's player moves first, so that its output does not depend on the input.
@@ -153,7 +132,7 @@ impl Machine {
         ensures memories { result ≡ (behaviour self.now).memories }
         ensures machine { IsWholeMachine self.now }
     {
-        self.nodes.len()
+        self.diagrams.nodes.len()
     }
 
     /// The store of the diagrams.
@@ -162,7 +141,7 @@ impl Machine {
         ensures propositions { result.now.propositions ≡ length self.now.names }
         ensures machine { IsWholeMachine self.now }
     {
-        &self.store
+        &self.diagrams.store
     }
 
     /// The diagram of a memory state. Its leaf at an input letter is the index of a row.
@@ -171,7 +150,7 @@ impl Machine {
         ensures node { result ≡ slice_index self.now.nodes memory }
         ensures held { IsNode self.now.store result }
     {
-        self.nodes[memory]
+        self.diagrams.nodes[memory]
     }
 
     /// The row whose index is a leaf.
@@ -180,7 +159,7 @@ impl Machine {
         ensures row { result ≡ row_at_leaf self.now leaf }
         ensures within { result.memory < (behaviour self.now).memories }
     {
-        self.rows.as_slice()[leaf as usize]
+        self.diagrams.rows.as_slice()[leaf as usize]
     }
 
     /// The rows, whose indices are the leaves of the diagrams.
@@ -188,7 +167,7 @@ impl Machine {
         ensures rows { result.now ≡ self.now.rows }
         ensures machine { IsWholeMachine self.now }
     {
-        self.rows.as_slice()
+        self.diagrams.rows.as_slice()
     }
 
     /// The row for a memory state and an input letter.
@@ -197,8 +176,12 @@ impl Machine {
         ensures step { result ≡ machine_row self.now memory letter }
         ensures within { result.memory < (behaviour self.now).memories }
     {
-        match self.store.eval(self.nodes[memory], letter) {
-            Some(leaf) => self.rows.as_slice()[leaf as usize],
+        match self
+            .diagrams
+            .store
+            .eval(self.diagrams.nodes[memory], letter)
+        {
+            Some(leaf) => self.diagrams.rows.as_slice()[leaf as usize],
             None => unreachable!(),
         }
     }

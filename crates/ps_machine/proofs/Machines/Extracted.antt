@@ -6,7 +6,8 @@ use Rattle.ps_certificate.specs.Certificates.{CertificateData, Fits, IsValid}
 use Rattle.ps_game.specs.Games.{ParityGame, vertex_count}
 use Rattle.ps_hoa.specs.Memory.{bytes_of}
 use Rattle.ps_hoa.specs.Sound.{AreNames}
-use Rattle.ps_machine.specs.Inner.Assembling.{AreDrawn, HasRoles, IsAssembled, machine_of}
+use Rattle.ps_machine.specs.Inner.Assembling.{AreDrawn, HasRoles, IsAssembled}
+use Rattle.ps_machine.specs.Inner.Stored.{machine_of}
 use Rattle.ps_machine.specs.Boards.{Board, IsGameOf}
 use Rattle.ps_machine.specs.BuiltBoards.{board_of}
 use Rattle.ps_machine.specs.Inner.Drawing.{AreMemories, AreUsed, IsPlan}

@@ -4,23 +4,19 @@
 --   machine's player and an existing memory state
 -- - `AreListedBelow n is list`: the list has the numbers less than n that pass the test `is`, ascending
 -- - `IsAssembled .. m`: the propositions of machine m satisfy `HasRoles`, and its diagrams satisfy `AreDrawn`
--- - `machine_of player is_first propositions diagrams`: the player's machine with these propositions and diagrams
 -- - `HasRoles is_first board inputs outputs`: `inputs` are the other player's propositions, which the machine reads;
 --   `outputs` are the propositions of its own player
-use Rattle.std.specs.Prelude.{◌≡◌, ℕ, ◌<◌, ◌≤◌, Bool, not, List, length, map, slice_index, IsTrue}
+use Rattle.std.specs.Prelude.{◌≡◌, ℕ, ◌<◌, ◌≤◌, Bool, not, List, length, slice_index, IsTrue}
 use Rattle.std.specs.List.{All, AllPairs}
 use Rattle.ps_certificate.specs.Certificates.{CertificateData}
 use Rattle.ps_diagram.specs.Table.{Table}
 use Rattle.ps_hoa.specs.Files.{is_among}
-use Rattle.ps_hoa.specs.Memory.{bytes_of}
 use Rattle.ps_hoa.specs.Sound.{AreNames}
 use Rattle.ps_machine.specs.Boards.{Board}
 use Rattle.ps_machine.specs.Inner.Drawing.{IsDrawn, IsRow}
 use Rattle.ps_machine.specs.Extracting.{is_others}
 use Rattle.ps_machine.specs.Machines.{MachineData}
 use Rattle.ps_machine.specs.declared.key.Key.{Key}
-use Rattle.ps_machine.specs.declared.machine.MachineParts.{MachineParts}
-use Rattle.ps_machine.specs.declared.machine.Propositions.{Propositions}
 use Rattle.ps_machine.specs.declared.machine.Row.{Row}
 
 -- each of the first n memory states has a diagram that leads each letter to a row of the machine's table with the right
@@ -41,19 +37,6 @@ pub record AreListedBelow (n : ℕ) (is : ℕ → Bool) (list : List ℕ) : Type
 pub record HasRoles (is_first : Bool) (board : Board) (inputs outputs : List ℕ) : Type 0 where
   pub read : AreListedBelow board.propositions (is_others is_first board) inputs
   pub played : AreListedBelow board.propositions (λ p. not (is_others is_first board p)) outputs
-
-abbrev pub machine_of : ℕ → Bool → Propositions → MachineParts → MachineData
-machine_of player is_first propositions diagrams =
-    record {
-      names = map bytes_of propositions.names.items;
-      inputs = propositions.inputs.items;
-      outputs = propositions.outputs.items;
-      player = player;
-      is_first = is_first;
-      store = diagrams.store;
-      nodes = diagrams.nodes.items;
-      rows = diagrams.rows.keys;
-    }
 
 -- a machine that reads the other player's propositions, outputs those of its own player, and has the certificate's
 -- diagrams, as `AreDrawn` states

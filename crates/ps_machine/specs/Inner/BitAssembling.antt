@@ -1,29 +1,11 @@
--- The diagrams and propositions from which a machine is assembled whose output letters are given bit by bit. (For
--- private functions.)
--- - `bit_machine_of player is_first propositions parts`: the player's machine with these propositions and diagrams
--- - `IsBitComposed board m`: m has propositions and diagrams that belong together
-use Rattle.std.specs.Prelude.{◌≡◌, ℕ, ◌<◌, ◌≤◌, Bool, length, map, slice_index}
-use Rattle.ps_hoa.specs.Memory.{bytes_of}
+-- `IsBitComposed board m`: the machine m, whose output letters are given bit by bit, has propositions and diagrams that
+-- belong together. (For private functions.)
+use Rattle.std.specs.Prelude.{◌≡◌, ℕ, ◌<◌, ◌≤◌, length, slice_index}
 use Rattle.ps_hoa.specs.Sound.{AreNames}
-use Rattle.ps_machine.specs.BitMachines.{BitMachineData, bits_in, nodes_of}
+use Rattle.ps_machine.specs.BitMachines.{BitMachineData, bits_in}
 use Rattle.ps_machine.specs.BitParts.{IsBitDiagram, IsNextDiagram}
 use Rattle.ps_machine.specs.Boards.{Board}
 use Rattle.ps_machine.specs.Inner.Assembling.{HasRoles}
-use Rattle.ps_machine.specs.declared.bit_machine.BitParts.{BitParts}
-use Rattle.ps_machine.specs.declared.machine.Propositions.{Propositions}
-
-abbrev pub bit_machine_of : ℕ → Bool → Propositions → BitParts → BitMachineData
-bit_machine_of player is_first propositions parts =
-    record {
-      names = map bytes_of propositions.names.items;
-      inputs = propositions.inputs.items;
-      outputs = propositions.outputs.items;
-      player = player;
-      is_first = is_first;
-      store = parts.store;
-      nodes = parts.nodes.items;
-      bits = map nodes_of parts.bits.items;
-    }
 
 -- a machine that reads the other player's propositions, outputs those of its own player, and has the diagrams of each
 -- memory state

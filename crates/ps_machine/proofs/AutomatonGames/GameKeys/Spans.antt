@@ -260,6 +260,13 @@ module _ {Divided Now : ℕ → ℕ → List ℕ → Type 0} {order : Order} {a 
   entered_divided e = rw (e, get_or-set_same n.spans.items q span no_span (omega (arith, state, were.spans.sized)))
       (some_class q were.spans state none letters still first count divided listed)
 
+  pub still_entered : {spans : List Span} → spans ≡ set n.spans.items q span → (r : ℕ) → IsEntered n.spans.items r →
+      IsEntered spans r
+  still_entered {spans} e r was = elim (cases_eq r q) [
+    | inl same ↦ subst (IsEntered spans) (sym same) (entered_divided e)
+    | inr other ↦ rw (e, get_or-set_other n.spans.items q r span no_span other) was
+  ]
+
 module _ {order : Order} {a : AutomatonData} (leaves : List ℕ) {numbers : List ℕ} where
   pub numbers_stepped : {Divided : ℕ → ℕ → List ℕ → Type 0} {n now : Numbers} → AreNumbers Divided order a n →
       GetNumbers n.keys.items (leaf_keys a leaves) numbers now.keys.items →

@@ -2,7 +2,8 @@ use Rattle.std.proofs.Common.{◌∙◌, ℕ, ◌<◌, ap, length, refl, subst, 
 use Rattle.std.proofs.lemmas.List.{length-map}
 use Rattle.ps_machine.specs.BitMachines.{BitMachineData, nodes_of}
 use Rattle.ps_machine.specs.BuiltBoards.{board_of}
-use Rattle.ps_machine.specs.Inner.BitAssembling.{IsBitComposed, bit_machine_of}
+use Rattle.ps_machine.specs.Inner.BitAssembling.{IsBitComposed}
+use Rattle.ps_machine.specs.Inner.Stored.{bit_machine_of}
 use Rattle.ps_machine.proofs.Machines.OwnPropositions.{own}
 use Rattle.ps_machine.proofs.Machines.WholeBitMachines.{is_whole}
 use Rattle.ps_machine.proofs.extracting.machine_of_bits.Goals as goal

@@ -24,12 +24,12 @@ module _ (m : BitMachineData) (bits : List (Vec ℕ Global)) (memory : ℕ) (row
 
 pub index-requires-2 : goal.index-requires-2
 index-requires-2 c =
-    let full = row_full c.args.self.now c.self.inside.bits.items c.args.memory c.index.result.now
+    let full = row_full c.args.self.now c.self.inside.parts.bits.items c.args.memory c.index.result.now
     (subst IsWholeBitMachine c.self.view_is c.self.invariant) (ap (λ (m : BitMachineData). m.bits) c.self.view_is)
     c.requires.memory c.index.ensures in
     grind (arith, full, c.requires.place)
 
 pub returns-clause-held : goal.returns-clause-held
-returns-clause-held c = held c.args.self.now c.self.inside.bits.items c.args.memory c.index.result.now
+returns-clause-held c = held c.args.self.now c.self.inside.parts.bits.items c.args.memory c.index.result.now
     (subst IsWholeBitMachine c.self.view_is c.self.invariant) (ap (λ (m : BitMachineData). m.bits) c.self.view_is)
     c.requires.memory c.index.ensures c.args.place c.index-2.result.now c.requires.place c.index-2.ensures
