@@ -5,4 +5,5 @@ pub mod ArenaMoves
 pub mod ArenaSuccessors
 pub mod ArenaVertices
 pub mod Findings
+pub mod RichGames
 pub mod WholeArenas

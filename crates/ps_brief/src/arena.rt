@@ -12,7 +12,7 @@ ghost use Rattle.ps_machine.specs.declared.key.Key.{Key};
 ghost use Rattle.ps_machine.specs.declared.key.Key.TheVariants.{First, Second};
 ghost use Rattle.ps_brief.specs.ArenaGames.{AreBases, IsArenaFor, letters_at};
 ghost use Rattle.ps_brief.specs.Listings.{IsListing, listed_keys};
-ghost use Rattle.ps_brief.specs.Settings.{Fits, board_in};
+ghost use Rattle.ps_brief.specs.Settings.{board_in};
 ghost use Rattle.ps_brief.specs.Inner.Arranging.{AreArenaKeys, AreArenaVertices, HasSuccessors};
 ghost use Rattle.ps_brief.specs.declared.listing.Listing.{Listing};
 
@@ -45,7 +45,6 @@ pub fn arena_of(
     listing: &Listing,
     bases: &Bases,
 ) -> Result<ArenaGame, AllocError>
-    requires fits { Fits setting.now store.old }
     requires listing { IsListing setting.now store.old listing.now }
     requires bases { AreBases setting.now listing.now bases.now }
     ensures keeps { Keeps store.old store.new }
@@ -71,7 +70,6 @@ fn vertices_of(
     bases: &Bases,
     keys: &ArenaKeys,
 ) -> Result<Vertices, AllocError>
-    requires fits { Fits setting.now store.old }
     requires listing { IsListing setting.now store.old listing.now }
     requires bases { AreBases setting.now listing.now bases.now }
     requires keys { AreArenaKeys listing.now bases.now keys.now (length (listed_keys listing.now)) }
@@ -156,7 +154,6 @@ impl ArenaKeys {
         key: Key,
         successors: &mut Vec<usize>,
     ) -> Result<(), AllocError>
-        requires fits { Fits setting.now store.old }
         requires listing { IsListing setting.now store.old listing.now }
         requires bases { AreBases setting.now listing.now bases.now }
         requires keys { AreArenaKeys listing.now bases.now self.now (length (listed_keys listing.now)) }
@@ -204,7 +201,6 @@ fn find_moves(
     letter: u64,
     successors: &mut Vec<usize>,
 ) -> Result<(), AllocError>
-    requires fits { Fits setting.now store.old }
     requires listing { IsListing setting.now store.old listing.now }
     requires state { (p : ℕ) × Contains (listed_keys listing.now) (First state p) }
     requires letter { IsFirstLetter (board_in setting.now) letter }

@@ -1,6 +1,7 @@
 //! Bases of states, by the minimal sets of what the second player can reach.
 
-ghost use Rattle.std.specs.Prelude.{◌≡◌, ◌≢◌, ◌+◌, ◌^◌, ◌<◌, ◌⊎◌, ℕ, true, IfOk, IfSome, None, Some, length};
+ghost use Rattle.std.specs.Prelude.{◌≡◌, ◌≢◌, ◌+◌, ◌^◌, ◌<◌, ◌⊎◌, ℕ, false, true, IfNone, IfOk, IfSome, IsSome, None};
+ghost use Rattle.std.specs.Prelude.{Some, length};
 ghost use Rattle.std.specs.List.{Contains};
 ghost use Rattle.ps_diagram.specs.Leaves.{chosen};
 ghost use Rattle.ps_diagram.specs.Reached.{LeadsToLeaf};
@@ -8,13 +9,16 @@ ghost use Rattle.ps_diagram.specs.Table.{IsNode, Keeps, leaf_of};
 ghost use Rattle.ps_machine.specs.Boards.{Board, IsClassLetter, IsFirstLetter, IsListOf};
 ghost use Rattle.ps_machine.specs.Numbering.{StandsAt};
 ghost use Rattle.ps_machine.specs.declared.key.Key.TheVariants.{First};
-ghost use Rattle.ps_basis.specs.Bases.{IsBasis, ReachesNoMore};
+ghost use Rattle.ps_basis.specs.Bases.{IsBasis, IsMinimalLetter, ReachesNoMore};
 ghost use Rattle.ps_brief.specs.ArenaGames.{AreBases, letters_at};
 ghost use Rattle.ps_brief.specs.Listings.{IsListing, listed_keys};
+ghost use Rattle.ps_brief.specs.MinimalLetters.{HasMinimalLetters, HasRichState};
 ghost use Rattle.ps_brief.specs.Settings.{Fits, board_in};
 ghost use Rattle.ps_brief.specs.Targets.{AreTargetsOf, IsTarget};
-ghost use Rattle.ps_brief.specs.Inner.Covering.{IsCovered, IsCovering, IsLow, IsMarked};
+ghost use Rattle.ps_brief.specs.Inner.Covering.{AreAlike, AreBelow, HasFound, IsApart, IsCovered, IsCovering, IsLow};
+ghost use Rattle.ps_brief.specs.Inner.Covering.{IsMarked, IsWithout};
 ghost use Rattle.ps_brief.specs.Inner.Finding.{IsFinding};
+ghost use Rattle.ps_brief.specs.declared.setting.Setting.{Setting};
 
 use crate::listing::Listing;
 use crate::setting::Setting;
@@ -37,7 +41,8 @@ pub struct Bases {
     pub of: IndexMap<u32, Basis>,
 }
 
-/// Finds a basis of each state of a listing, or `None` if one of them comes to `most` letters. Fails if out of memory.
+/// Finds a basis of each state of a listing, or `None` if one of them has at least `most` minimal letters. Fails if out
+/// of memory.
 pub fn bases_of(
     alloc: Global,
     setting: &Setting<'_>,
@@ -45,10 +50,10 @@ pub fn bases_of(
     listing: &Listing,
     most: usize,
 ) -> Result<Option<Bases>, AllocError>
-    requires fits { Fits setting.now store.old }
-    requires listing { IsListing setting.now store.old listing.now }
+    requires { IsListing setting.now store.old listing.now }
     ensures keeps { Keeps store.old store.new }
     ensures bases { IfOk result (λ found. IfSome found (AreBases setting.now listing.now)) }
+    ensures none_only { IfOk result (λ found. IfNone found (HasRichState setting.now listing.now most)) }
 {
     let mut bases = Bases {
         of: IndexMap::new(alloc),
@@ -73,7 +78,7 @@ impl Bases {
         }
     }
 
-    /// Finds a basis of a listed state that has none yet. False if the search comes to `most` letters.
+    /// Finds a basis of a listed state that has none yet. False if the state has at least `most` minimal letters.
     fn find(
         &mut self,
         alloc: Global,
@@ -83,13 +88,14 @@ impl Bases {
         state: u32,
         most: usize,
     ) -> Result<bool, AllocError>
-        requires fits { Fits setting.now store.old }
         requires listing { IsListing setting.now store.old listing.now }
         requires listed { (p : ℕ) × Contains (listed_keys listing.now) (First state p) }
         ensures keeps { Keeps store.old store.new }
         ensures found { IfOk result (λ found. found ≡ true → (n p : ℕ) →
             IsFinding setting.now listing.now self.old n → StandsAt (listed_keys listing.now) n (First state p) →
             IsFinding setting.now listing.now self.new (n + 1)) }
+        ensures false_only { IfOk result (λ found. found ≡ false →
+            HasMinimalLetters (board_in setting.now) state most) }
     {
         let is_known = self.of.contains_key(&state);
         if is_known {
@@ -106,12 +112,12 @@ impl Bases {
     }
 }
 
-/// Finds a basis of a state with less than `most` letters, or `None` if the search comes to that many. Fails if out of
-/// memory.
+/// Finds a basis of a state with less than `most` letters, or `None` if the state has at least `most` minimal letters.
+/// Fails if out of memory.
 ///
 /// While a letter is not covered, the search excludes as many targets as possible, first those that cannot be reached
-/// behind this letter. The least letter behind which no excluded target can be reached is in the basis. It covers the
-/// letters behind which all targets can be reached that can be reached behind it.
+/// behind this letter. The least letter behind which no excluded target can be reached is minimal, and in the basis. It
+/// covers the letters behind which all targets can be reached that can be reached behind it.
 pub fn basis_of(
     alloc: Global,
     setting: &Setting<'_>,
@@ -124,6 +130,8 @@ pub fn basis_of(
     ensures keeps { Keeps store.old store.new }
     ensures basis { IfOk result
         (λ found. IfSome found (λ basis. IsBasis (board_in setting.now) targets.now.state basis.letters.items)) }
+    ensures none_only { IfOk result
+        (λ found. IfNone found (HasMinimalLetters (board_in setting.now) targets.now.state most)) }
 {
     let mut cover = Cover::new(store)?;
     for _round in 0..most {
@@ -152,6 +160,8 @@ impl Cover {
         ensures keeps { Keeps store.old store.new }
         ensures covering { IfOk result (λ cover. (board : Board) (q : ℕ) →
             IsCovering board store.new q cover.uncovered cover.basis) }
+        ensures found { IfOk result (λ cover. (setting : Setting) (q : ℕ) →
+            HasFound setting store.new q cover.uncovered 0) }
     {
         let uncovered = store.leaf(1)?;
         let basis = store.none()?;
@@ -171,9 +181,12 @@ fn extended(
     requires targets { AreTargetsOf setting.now store.old targets.now }
     requires covering { IsCovering (board_in setting.now) store.old targets.now.state cover.uncovered cover.basis }
     requires letter { LeadsToLeaf store.old cover.uncovered 1 letter }
+    requires first { IsFirstLetter (board_in setting.now) letter }
     ensures keeps { Keeps store.old store.new }
     ensures covering { IfOk result (λ made. IsCovering (board_in setting.now) store.new targets.now.state made.uncovered
         made.basis) }
+    ensures found { IfOk result (λ made. (n : ℕ) → HasFound setting.now store.old targets.now.state cover.uncovered n →
+        HasFound setting.now store.new targets.now.state made.uncovered (n + 1)) }
 {
     let low = excluded(setting, store, targets, letter)?;
     let least = least_low(setting, store, targets, low)?;
@@ -189,11 +202,14 @@ fn excluded(
     targets: &Targets,
     letter: u64,
 ) -> Result<Node, AllocError>
-    requires { AreTargetsOf setting.now store.old targets.now }
+    requires targets { AreTargetsOf setting.now store.old targets.now }
+    requires first { IsFirstLetter (board_in setting.now) letter }
     ensures keeps { Keeps store.old store.new }
     ensures low { IfOk result
         (IsLow (board_in setting.now) store.new targets.now.state setting.now.second) }
     ensures letter { IfOk result (λ low. leaf_of store.new low letter ≡ Some 1) }
+    ensures below { IfOk result (λ low. (x : ℕ) → IsFirstLetter (board_in setting.now) x →
+        IsSome (leaf_of store.new low x) → ReachesNoMore (board_in setting.now) targets.now.state x letter) }
 {
     let mut low = store.leaf(1)?;
     for place in 0..targets.list.len() {
@@ -216,10 +232,14 @@ fn narrowed(
     requires place { place < length targets.now.list.items }
     requires low { IsLow (board_in setting.now) store.old targets.now.state setting.now.second low }
     requires letter { leaf_of store.old low letter ≡ Some 1 }
+    requires first { IsFirstLetter (board_in setting.now) letter }
+    requires below { AreBelow setting.now store.old targets.now.state targets.now.list.items place letter low }
     ensures keeps { Keeps store.old store.new }
     ensures low { IfOk result
         (IsLow (board_in setting.now) store.new targets.now.state setting.now.second) }
     ensures letter { IfOk result (λ made. leaf_of store.new made letter ≡ Some 1) }
+    ensures below { IfOk result
+        (AreBelow setting.now store.new targets.now.state targets.now.list.items (place + 1) letter) }
 {
     let target = targets.list[place];
     match store.eval(target.behind, letter) {
@@ -243,6 +263,7 @@ fn without(
         (IsLow (board_in setting.now) store.new targets.now.state setting.now.second) }
     ensures stays { IfOk result (λ made. (x leaf : ℕ) → leaf_of store.old target.behind x ≡ None →
         leaf_of store.old low x ≡ Some leaf → leaf_of store.new made x ≡ Some leaf) }
+    ensures without { IfOk result (IsWithout setting.now store.old store.new targets.now.state target low) }
 {
     let none = store.none()?;
     store.choose(target.behind, none, low)
@@ -262,6 +283,8 @@ fn least_low(
     requires some { (x : ℕ) × LeadsToLeaf store.old low 1 x }
     ensures keeps { Keeps store.old store.new }
     ensures class { IfOk result (IsClassLetter (board_in setting.now) targets.now.state) }
+    ensures minimal { IfOk result (IsMinimalLetter (board_in setting.now) targets.now.state) }
+    ensures within { IfOk result (λ least. IsSome (leaf_of store.old low least)) }
 {
     let mut low = low;
     for place in 0..targets.list.len() {
@@ -283,14 +306,20 @@ fn lowered(
     place: usize,
     low: Node,
 ) -> Result<Node, AllocError>
+    requires fits { Fits setting.now store.old }
     requires targets { AreTargetsOf setting.now store.old targets.now }
     requires place { place < length targets.now.list.items }
     requires low { IsLow (board_in setting.now) store.old targets.now.state setting.now.second low }
     requires some { (x : ℕ) × LeadsToLeaf store.old low 1 x }
+    requires alike { AreAlike setting.now store.old targets.now.state targets.now.list.items place low }
     ensures keeps { Keeps store.old store.new }
     ensures low { IfOk result
         (IsLow (board_in setting.now) store.new targets.now.state setting.now.second) }
     ensures some { IfOk result (λ made. (x : ℕ) × LeadsToLeaf store.new made 1 x) }
+    ensures within { IfOk result (λ made. (x : ℕ) → IsSome (leaf_of store.new made x) →
+        IsSome (leaf_of store.old low x)) }
+    ensures alike { IfOk result
+        (AreAlike setting.now store.new targets.now.state targets.now.list.items (place + 1)) }
 {
     let target = targets.list[place];
     let lower = without(setting, store, targets, target, low)?;
@@ -332,6 +361,8 @@ fn left_uncovered(
     ensures left { IfOk result (λ left. (z : ℕ) → IsFirstLetter (board_in setting.now) z →
         (leaf_of store.new left z ≡ leaf_of store.old uncovered z) ⊎
         ReachesNoMore (board_in setting.now) targets.now.state letter z) }
+    ensures apart { IfOk result
+        (IsApart setting.now store.old store.new targets.now.state letter uncovered) }
 {
     let mut covered = store.leaf(1)?;
     for place in 0..targets.list.len() {

@@ -1,6 +1,6 @@
 //! The machine of an automaton's game, without the game.
 
-ghost use Rattle.std.specs.Prelude.{IfOk, IfSome};
+ghost use Rattle.std.specs.Prelude.{IfNone, IfOk, IfSome};
 ghost use Rattle.ps_certificate.specs.Certificates.{Fits as FitsGame, IsValid};
 ghost use Rattle.ps_diagram.specs.Table.{Keeps};
 ghost use Rattle.ps_machine.specs.BitMachines.{bit_behaviour};
@@ -9,7 +9,7 @@ ghost use Rattle.ps_brief.specs.ArenaGames.{AreBases};
 ghost use Rattle.ps_brief.specs.Briefs.{IsArenaOfBoard, IsBriefMachine};
 ghost use Rattle.ps_brief.specs.Drawing.{BeginsWith};
 ghost use Rattle.ps_brief.specs.Listings.{IsListing};
-ghost use Rattle.ps_brief.specs.Settings.{Fits};
+ghost use Rattle.ps_brief.specs.MinimalLetters.{HasRichState, IsRichGame};
 
 use crate::arena::arena_of;
 use crate::bases::{Bases, bases_of};
@@ -24,17 +24,19 @@ use ps_game::Game;
 use ps_machine::{BitMachine, Key, Order, least_certificate};
 use std::alloc::{AllocError, Global};
 
-/// A state whose basis comes to so many letters is better left to the game, whose vertices are then no more.
-const MOST_LETTERS: usize = 1024;
+/// A state with so many minimal letters is better left to the game, whose vertices are then no more.
+pub const MOST_LETTERS: usize = 1024;
 
 /// The machine of the winner at the start, from a valid certificate of the automaton's game with the least counts,
-/// without the game. `None` if a state's basis would come to too many letters. Fails if out of memory.
+/// without the game. `None` if a state of the game has at least `MOST_LETTERS` minimal letters. Fails if out of memory.
 pub fn machine_without_game(
     alloc: Global,
     automaton: &Automaton,
     order: Order,
 ) -> Result<Option<BitMachine>, AllocError>
-    ensures { IfOk result (λ found. IfSome found (λ m. IsBriefMachine order automaton.now (bit_behaviour m))) }
+    ensures machine { IfOk result
+        (λ found. IfSome found (λ m. IsBriefMachine order automaton.now (bit_behaviour m))) }
+    ensures none_only { IfOk result (λ found. IfNone found (IsRichGame order automaton.now MOST_LETTERS)) }
 {
     let setting = Setting::new(automaton, order);
     let mut store = automaton.store().copy()?;
@@ -49,10 +51,10 @@ fn machine_by_listing(
     store: &mut Store,
     listing: &Listing,
 ) -> Result<Option<BitMachine>, AllocError>
-    requires fits { Fits setting.now store.old }
-    requires listing { IsListing setting.now store.old listing.now }
-    ensures { IfOk result (λ found. IfSome found (λ m. IsBriefMachine setting.now.order setting.now.automaton.now
-        (bit_behaviour m))) }
+    requires { IsListing setting.now store.old listing.now }
+    ensures machine { IfOk result (λ found. IfSome found
+        (λ m. IsBriefMachine setting.now.order setting.now.automaton.now (bit_behaviour m))) }
+    ensures none_only { IfOk result (λ found. IfNone found (HasRichState setting.now listing.now MOST_LETTERS)) }
 {
     match bases_of(alloc, setting, store, listing, MOST_LETTERS)? {
         Some(bases) => Ok(Some(machine_by_bases(alloc, setting, store, listing, &bases)?)),
@@ -68,7 +70,6 @@ fn machine_by_bases(
     listing: &Listing,
     bases: &Bases,
 ) -> Result<BitMachine, AllocError>
-    requires fits { Fits setting.now store.old }
     requires listing { IsListing setting.now store.old listing.now }
     requires bases { AreBases setting.now listing.now bases.now }
     ensures { IfOk result (λ m. IsBriefMachine setting.now.order setting.now.automaton.now
@@ -107,7 +108,6 @@ pub fn brief_machine(
     others: &[Key],
     certificate: &Certificate,
 ) -> Result<BitMachine, AllocError>
-    requires fits { Fits setting.now store.old }
     requires listing { IsListing setting.now store.old listing.now }
     requires arena { IsArenaOfBoard setting.now others.now arena.now }
     requires begins { BeginsWith others.now listing.now }

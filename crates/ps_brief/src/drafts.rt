@@ -6,9 +6,8 @@ ghost use Rattle.ps_diagram.specs.Table.{IsNode, Keeps, Table};
 ghost use Rattle.ps_game.specs.Games.{successors_of, vertex_count};
 ghost use Rattle.ps_machine.specs.Numbering.{StandsAt};
 ghost use Rattle.ps_machine.specs.declared.key.Key.TheVariants.{First};
-ghost use Rattle.ps_basis.specs.Memories.{PlayReaches};
-ghost use Rattle.ps_brief.specs.Inner.Drafts.{IsDraft, IsJoined, IsMoveLeaf, IsReady, IsSingle, NeverMoves, TriesMoves};
-ghost use Rattle.ps_brief.specs.Inner.Drafts.{play_of};
+ghost use Rattle.ps_brief.specs.Inner.Drafts.{IsDraft, IsJoined, IsMoveLeaf, IsReady, IsReadyAt, IsSingle};
+ghost use Rattle.ps_brief.specs.Inner.Drafts.{NeverMoves, TriesMoves, play_of};
 ghost use Rattle.ps_brief.specs.Inner.Playable.{IsFirstMove};
 
 use crate::listing::Listing;
@@ -56,8 +55,7 @@ pub(crate) struct Moves {
 impl Plan<'_> {
     /// The winner's moves at a vertex of the first player, which a step enters.
     pub fn draft(&self, store: &mut Store, vertex: usize, step: Step) -> Result<Draft, AllocError>
-        requires ready { IsReady self.now store.old }
-        requires reached { PlayReaches (play_of self.now) self.now.moves_first vertex step.state step.priority }
+        requires { IsReadyAt self.now store.old vertex step }
         ensures keeps { Keeps store.old store.new }
         ensures draft { IfOk result (IsDraft self.now store.new step.state step.priority) }
     {
@@ -71,8 +69,7 @@ impl Plan<'_> {
     /// The moves of a winner who moves first: one letter, and the steps behind it.
     fn first_draft(&self, store: &mut Store, vertex: usize, step: Step) -> Result<Draft, AllocError>
         requires turn { self.now.moves_first ≡ true }
-        requires ready { IsReady self.now store.old }
-        requires reached { PlayReaches (play_of self.now) self.now.moves_first vertex step.state step.priority }
+        requires at { IsReadyAt self.now store.old vertex step }
         ensures keeps { Keeps store.old store.new }
         ensures draft { IfOk result (IsDraft self.now store.new step.state step.priority) }
     {
@@ -122,8 +119,7 @@ impl Plan<'_> {
         step: Step,
     ) -> Result<Draft, AllocError>
         requires turn { self.now.moves_first ≡ false }
-        requires ready { IsReady self.now store.old }
-        requires reached { PlayReaches (play_of self.now) self.now.moves_first vertex step.state step.priority }
+        requires at { IsReadyAt self.now store.old vertex step }
         ensures keeps { Keeps store.old store.new }
         ensures draft { IfOk result (IsDraft self.now store.new step.state step.priority) }
     {
@@ -138,8 +134,7 @@ impl Plan<'_> {
     /// The steps of these moves, and the letters that make them.
     fn moves_at(&self, store: &mut Store, vertex: usize, step: Step) -> Result<Moves, AllocError>
         requires turn { self.now.moves_first ≡ false }
-        requires ready { IsReady self.now store.old }
-        requires reached { PlayReaches (play_of self.now) self.now.moves_first vertex step.state step.priority }
+        requires at { IsReadyAt self.now store.old vertex step }
         ensures keeps { Keeps store.old store.new }
         ensures tried { IfOk result (λ moves. TriesMoves self.now store.new step.state
             (successors_of self.now.arena.now vertex) (length (successors_of self.now.arena.now vertex)) moves) }

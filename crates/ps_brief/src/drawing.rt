@@ -10,10 +10,9 @@ ghost use Rattle.ps_machine.specs.Numbering.{StandsAt};
 ghost use Rattle.ps_machine.specs.declared.key.Key.TheVariants.{First};
 ghost use Rattle.ps_brief.specs.Drawing.{BeginsWith, IsCertifiedArena, order_by, play_in};
 ghost use Rattle.ps_brief.specs.Listings.{IsListing, listed_keys};
-ghost use Rattle.ps_brief.specs.Settings.{Fits, board_in};
+ghost use Rattle.ps_brief.specs.Settings.{board_in};
 ghost use Rattle.ps_brief.specs.Inner.Drafts.{AreLeavesOf, IsReady};
-ghost use Rattle.ps_brief.specs.Inner.Reaching.{IsReached};
-ghost use Rattle.ps_brief.specs.Inner.Parts.{AreNotedUpTo, AreStepsBy, HasMemories, IsDrawing};
+ghost use Rattle.ps_brief.specs.Inner.Parts.{AreNotedUpTo, AreStepsBy, IsDrawable, IsDrawing};
 ghost use Rattle.ps_brief.specs.declared.setting.Setting.{Setting};
 
 use crate::drafts::Plan;
@@ -41,7 +40,6 @@ pub fn machine_of_arena(
     others: &[Key],
     certificate: &Certificate,
 ) -> Result<BitMachine, AllocError>
-    requires fits { Fits setting.now store.old }
     requires listing { IsListing setting.now store.old listing.now }
     requires certified { IsCertifiedArena setting.now arena.now others.now certificate.now }
     requires begins { BeginsWith others.now listing.now }
@@ -128,9 +126,7 @@ fn parts_by(
     reached: &Reached,
     memories: &Memories,
 ) -> Result<BitParts, AllocError>
-    requires ready { IsReady plan.now store.old }
-    requires reached { IsReached plan.now store.old reached.now }
-    requires memories { HasMemories plan.now reached.now memories.now }
+    requires { IsDrawable plan.now store.old reached.now memories.now }
     ensures keeps { Keeps store.old store.new }
     ensures drawn { IfOk result (IsDrawing plan.now memories.now.kept.items) }
 {
@@ -150,9 +146,7 @@ fn copied(
     nodes: &[Node],
     values: &[u64],
 ) -> Result<BitParts, AllocError>
-    requires ready { IsReady plan.now store.now }
-    requires reached { IsReached plan.now store.now reached.now }
-    requires memories { HasMemories plan.now reached.now memories.now }
+    requires drawable { IsDrawable plan.now store.now reached.now memories.now }
     requires paired { (pairs : List (ℕ × ℕ)) × AreStepsBy plan.now store.now reached.now memories.now.kept.items pairs
         nodes.now values.now }
     ensures { IfOk result (IsDrawing plan.now memories.now.kept.items) }

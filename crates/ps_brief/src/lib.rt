@@ -13,7 +13,7 @@
 //! | `targets_of(setting, store, state)` | a state's targets, in the order of the least letters that lead there |
 //! | `listing_of(setting, store)` | the first player's keys in the order of the game, and the targets of their states |
 //! | `Listing::of(state)` | the targets of a listed state |
-//! | `basis_of(setting, store, targets, most)` | a basis of a state, unless the search comes to `most` letters |
+//! | `basis_of(setting, store, targets, most)` | a basis of a state, unless it has `most` or more minimal letters |
 //! | `bases_of(setting, store, listing, most)` | a basis of each state of the listing, likewise |
 //! | `Bases::letters(state)` | the letters of a state's basis |
 //! | `arena_of(setting, store, listing, bases)` | the arena for these bases, and what its vertices stand for |
@@ -42,7 +42,7 @@ mod steps;
 
 pub use arena::{ArenaGame, arena_of};
 pub use bases::{Bases, Basis, bases_of, basis_of};
-pub use brief::{brief_machine, machine_without_game};
+pub use brief::{MOST_LETTERS, brief_machine, machine_without_game};
 pub use drawing::machine_of_arena;
 pub use listing::{Listing, listing_of};
 pub use setting::Setting;

@@ -2,10 +2,9 @@
 
 ghost use Rattle.std.specs.Prelude.{◌≡◌, ◌<◌, ℕ, [], IfOk, IfSome, length};
 ghost use Rattle.std.specs.List.{All};
-ghost use Rattle.ps_diagram.specs.Table.{IsNode, Keeps, Table, leaf_of};
-ghost use Rattle.ps_brief.specs.Inner.Drafts.{IsReady};
-ghost use Rattle.ps_brief.specs.Inner.Reaching.{IsReached};
-ghost use Rattle.ps_brief.specs.Inner.Parts.{AreCopiedUpTo, AreMemoriesFor, ArePaired, AreRelabelled, HasMemories};
+ghost use Rattle.ps_diagram.specs.Pairs.{Adds, IsPaired, MeetAt};
+ghost use Rattle.ps_diagram.specs.Table.{IsNode, Keeps, MakesNode, Table, leaf_of};
+ghost use Rattle.ps_brief.specs.Inner.Parts.{AreCopiedUpTo, AreMemoriesFor, ArePaired, AreRelabelled, IsDrawable};
 ghost use Rattle.ps_brief.specs.Inner.Parts.{IsGoodLeaf, IsMemoryFor};
 ghost use Rattle.ps_brief.specs.declared.reach.Reached.{Reached};
 
@@ -25,9 +24,7 @@ pub(crate) fn paired_nodes(
     memories: &Memories,
     pairs: &mut IndexSet<(u64, u64)>,
 ) -> Result<Vec<Node>, AllocError>
-    requires ready { IsReady plan.now store.old }
-    requires reached { IsReached plan.now store.old reached.now }
-    requires memories { HasMemories plan.now reached.now memories.now }
+    requires drawable { IsDrawable plan.now store.old reached.now memories.now }
     requires none { pairs.old.keys ≡ [] }
     ensures keeps { Keeps store.old store.new }
     ensures paired { IfOk result (λ nodes. ArePaired plan.now store.new reached.now memories.now.kept.items
@@ -39,9 +36,23 @@ pub(crate) fn paired_nodes(
         let Some(draft) = reached.drafts.get(&anchor(plan.moves_first, *place, state)) else {
             unreachable!();
         };
-        nodes.push(store.both(draft.steps, draft.steps, pairs)?)?;
+        nodes.push(numbered(store, draft.steps, pairs)?)?;
     }
     Ok(nodes)
+}
+
+/// The diagram of a node with each leaf replaced by its index in `pairs`, which has each leaf twice.
+fn numbered(
+    store: &mut Store,
+    node: Node,
+    pairs: &mut IndexSet<(u64, u64)>,
+) -> Result<Node, AllocError>
+    requires { IsNode store.old node }
+    ensures made { MakesNode store.old store.new result (λ made. (letter : ℕ) → IsPaired pairs.new.keys
+        (leaf_of store.old node letter) (leaf_of store.old node letter) (leaf_of store.new made letter)) }
+    ensures adds { Adds (MeetAt store.old node node) pairs.old.keys pairs.new.keys }
+{
+    store.both(node, node, pairs)
 }
 
 impl Memories {
@@ -52,8 +63,7 @@ impl Memories {
         plan: &Plan<'_>,
         pairs: &[(u64, u64)],
     ) -> Result<Vec<u64>, AllocError>
-        requires memories { (t : Table) × (reached : Reached) × IsReady plan.now t × IsReached plan.now t reached ×
-            HasMemories plan.now reached self.now }
+        requires drawable { (t : Table) × (reached : Reached) × IsDrawable plan.now t reached self.now }
         requires good { All (IsGoodLeaf plan.now) pairs.now }
         ensures { IfOk result (λ values. AreMemoriesFor plan.now self.now.kept.items pairs.now values.items
             (length pairs.now)) }
@@ -67,8 +77,7 @@ impl Memories {
 
     /// The memory state after the step of a leaf.
     fn behind(&self, plan: &Plan<'_>, leaf: u64) -> u64
-        requires memories { (t : Table) × (reached : Reached) × IsReady plan.now t × IsReached plan.now t reached ×
-            HasMemories plan.now reached self.now }
+        requires drawable { (t : Table) × (reached : Reached) × IsDrawable plan.now t reached self.now }
         requires good { (y : ℕ) × IsGoodLeaf plan.now (leaf, y) }
         ensures { IsMemoryFor plan.now self.now.kept.items leaf result }
     {
@@ -90,9 +99,7 @@ pub(crate) fn copied_bits(
     memories: &Memories,
 ) -> Result<Vec<Vec<Node>>, AllocError>
     requires letters { store.now.propositions ≡ own.old.propositions }
-    requires ready { IsReady plan.now store.now }
-    requires reached { IsReached plan.now store.now reached.now }
-    requires memories { HasMemories plan.now reached.now memories.now }
+    requires drawable { IsDrawable plan.now store.now reached.now memories.now }
     ensures keeps { Keeps own.old own.new }
     ensures copied { IfOk result (λ all. AreCopiedUpTo plan.now store.now own.new reached.now memories.now.kept.items
         all.items (length memories.now.kept.items)) }

@@ -3,6 +3,7 @@
 ghost use Rattle.std.specs.Prelude.{◌≡◌, ◌∷◌, [], ◌+◌, ◌<◌, ℕ, IfOk, None, OnOk, Some, length, nat_eq, slice_get};
 ghost use Rattle.std.specs.List.{All};
 ghost use Rattle.indexmap.specs.IndexMap.{get};
+ghost use Rattle.indexmap.specs.IndexSet.{IsUnique};
 ghost use Rattle.ps_automaton.specs.Automata.{pair_of};
 ghost use Rattle.ps_diagram.specs.Table.{Keeps, Table};
 ghost use Rattle.ps_machine.specs.Inner.Drawing.{anchor_of};
@@ -49,7 +50,7 @@ pub(crate) fn reached_by(
         };
         reached.visit(plan, store, place)?;
     }
-    let _different = reached.places.as_slice();
+    reached.places_differ();
     Ok(reached)
 }
 
@@ -65,6 +66,13 @@ impl Reached {
             places,
             drafts: IndexMap::new(alloc),
         })
+    }
+
+    /// No place was found twice: the prover learns it here.
+    fn places_differ(&self)
+        ensures { IsUnique nat_eq self.now.places }
+    {
+        self.places.as_slice();
     }
 
     /// Drafts the moves at a key, and adds the keys to which they lead.

@@ -1,33 +1,28 @@
 -- Letters behind which fewer and fewer targets can be reached.
 -- - `all_low`, `low_more`, `low_kept`: all letters are low, and so are those behind which one more target is excluded
--- - `low_least`: the least of them is the least letter of its class
--- - `covers_more`, `covers_all`: which letters a letter of a basis covers
-use Rattle.std.specs.Prelude.{◌≡◌, ◌⊎◌, ℕ, ◌+◌, ◌^◌, ◌<◌, ◌≤◌, List, length, Option, Some, None, IsSome}
-use Rattle.std.specs.List.{Contains}
-use Rattle.std.proofs.Common.{ap, sym, ◌∙◌, subst, refl, inl, inr, arith, get_or}
-use Rattle.std.proofs.lemmas.Bool.{cases_eq}
-use Rattle.std.proofs.lemmas.List.{get_or-map, get_or_default, length-map}
+-- - `low_without`, `low_stays`: those behind which it can be reached are left out, and no others
+-- - `low_least`, `low_minimal`: the least of them is the least letter of its class, and at last minimal
+use Rattle.std.specs.Prelude.{◌≡◌, ◌⊎◌, ℕ, ◌^◌, ◌<◌, length, Option, Some, None, IsSome}
+use Rattle.std.proofs.Common.{ap, sym, ◌∙◌, subst, refl, inl, inr, get_or}
 use Rattle.ps_diagram.specs.Leaves.{chosen}
-use Rattle.ps_diagram.specs.Letters.{IsLeastLetter}
+use Rattle.ps_diagram.specs.Letters.{AgreeOff, IsBefore, IsLeastLetter}
 use Rattle.ps_diagram.specs.Reached.{LeadsToLeaf}
 use Rattle.ps_diagram.specs.Table.{Table, IsNode, Keeps, leaf_of}
 use Rattle.ps_machine.specs.Boards.{Board, IsClassLetter, IsFirstLetter}
-use Rattle.ps_machine.specs.declared.key.Key.TheVariants.{First}
-use Rattle.ps_basis.specs.Bases.{CanGoTo, ReachesNoMore}
-use Rattle.ps_basis.proofs.LetterReach.{reaches_same}
-use Rattle.ps_brief.specs.Inner.Covering.{IsCovered, IsLow, ReachesToo}
+use Rattle.ps_basis.specs.Bases.{IsMinimalLetter, ReachesNoMore}
+use Rattle.ps_basis.proofs.LetterReach.{reaches_itself, reaches_same}
+use Rattle.ps_brief.specs.Inner.Covering.{IsLow, IsWithout}
 use Rattle.ps_brief.specs.Settings.{Fits, board_in}
-use Rattle.ps_brief.specs.Targets.{AreTargetsOf, IsTarget, target_keys}
+use Rattle.ps_brief.specs.Targets.{AreTargetsOf, IsTarget}
 use Rattle.ps_brief.specs.declared.setting.Setting.{Setting}
 use Rattle.ps_brief.specs.declared.steps.Target.{Target}
 use Rattle.ps_brief.specs.declared.steps.Targets.{Targets}
 use Rattle.ps_brief.proofs.BasesOfLetters.Behind.{first_agrees, first_itself, first_of, first_part}
 use Rattle.ps_brief.proofs.ListedStates.KeptTargets.{leaf_kept}
-use Rattle.ps_brief.proofs.ListedStates.TargetLists.{key_of_target}
 
 -- ## Leaves
 
-chosen_some : (truth low : Option ℕ) → IsSome (chosen truth None low) → (truth ≡ None) × IsSome low
+pub chosen_some : (truth low : Option ℕ) → IsSome (chosen truth None low) → (truth ≡ None) × IsSome low
 chosen_some None low is = (refl, is)
 chosen_some (Some k) low is = cc
 
@@ -39,7 +34,7 @@ chosen_none : (truth low : Option ℕ) → (IsSome truth → ⊥) → chosen tru
 chosen_none None low never = refl
 chosen_none (Some k) low never = absurd (never refl)
 
-none_or_some : (o : Option ℕ) → (o ≡ None) ⊎ IsSome o
+pub none_or_some : (o : Option ℕ) → (o ≡ None) ⊎ IsSome o
 none_or_some None = inl refl
 none_or_some (Some k) = inr refl
 
@@ -47,9 +42,13 @@ pub not_both : (o : Option ℕ) → o ≡ None → IsSome o → ⊥
 not_both None e is = cc
 not_both (Some k) e is = cc
 
-both_some : (truth one : Option ℕ) → IsSome (chosen truth one None) → IsSome truth × IsSome one
+pub both_some : (truth one : Option ℕ) → IsSome (chosen truth one None) → IsSome truth × IsSome one
 both_some None one is = cc
 both_some (Some k) one is = (refl, is)
+
+pub some_both : (truth one : Option ℕ) → IsSome truth → IsSome one → IsSome (chosen truth one None)
+some_both None one is also = cc
+some_both (Some k) one is also = also
 
 pub leads_kept : {s t : Table} (node leaf x : ℕ) → Keeps s t → IsNode s node → LeadsToLeaf s node leaf x →
     LeadsToLeaf t node leaf x
@@ -103,11 +102,14 @@ module _ (setting : Setting) (q : ℕ) where
     lowered : (x : ℕ) → leaf_of t made x ≡ chosen (leaf_of s target.behind x) None (leaf_of s low x)
     lowered x = made_is x ∙ ap (λ o. chosen (leaf_of s target.behind x) o (leaf_of s low x)) (nothing x)
 
+    parts : (x : ℕ) → IsSome (leaf_of t made x) → (leaf_of s target.behind x ≡ None) × IsSome (leaf_of s low x)
+    parts x some = chosen_some (leaf_of s target.behind x) (leaf_of s low x)
+        (subst (λ (o : Option ℕ). IsSome o) (lowered x) some)
+
     down : (x y : ℕ) → IsFirstLetter board x → IsFirstLetter board y → ReachesNoMore board q y x →
         IsSome (leaf_of t made x) → IsSome (leaf_of t made y)
     down x y first other no_more some =
-        let (missing, still) = chosen_some (leaf_of s target.behind x) (leaf_of s low x)
-        (subst (λ (o : Option ℕ). IsSome o) (lowered x) some) in
+        let (missing, still) = parts x some in
         let not_there : IsSome (leaf_of s target.behind y) → ⊥ = λ there.
         not_both (leaf_of s target.behind x) missing
         ((is.is x first).1 (no_more target.state target.priority ((is.is y other).0 there))) in
@@ -125,189 +127,83 @@ module _ (setting : Setting) (q : ℕ) where
       down = down;
     }
 
+    pub low_without : {r : Table} → Keeps r s → IsNode r low → IsWithout setting r t q target low made
+    low_without keeps low_held = record {
+      still = λ x some. subst (λ (o : Option ℕ). IsSome o) (leaf_kept low x keeps low_held) (parts x some).1;
+      never = λ x first some can. not_both (leaf_of s target.behind x) (parts x some).0 ((is.is x first).1 can);
+    }
+
     -- a letter behind which the target cannot be reached stays
     pub low_stays : (x leaf : ℕ) → (IsSome (leaf_of s target.behind x) → ⊥) → leaf_of s low x ≡ Some leaf →
         leaf_of t made x ≡ Some leaf
     low_stays x leaf missing at =
         lowered x ∙ chosen_none (leaf_of s target.behind x) (leaf_of s low x) missing ∙ at
 
+  -- the leaf at a low letter is 1
+  pub low_one : {t : Table} (low : ℕ) → IsLow board t q setting.second low → (y : ℕ) → IsSome (leaf_of t low y) →
+      leaf_of t low y ≡ Some 1
+  low_one {t} low is_low y is = with_leaf (leaf_of t low y) refl is
+    where
+      with_leaf : (o : Option ℕ) → leaf_of t low y ≡ o → IsSome o → leaf_of t low y ≡ Some 1
+      with_leaf None e some = cc
+      with_leaf (Some k) e some = e ∙ ap (λ (i : ℕ). Some i) (is_low.ones y k e)
+
   -- ## The least letter
 
-  module _ {t : Table} (fits : Fits setting t) (low x : ℕ) (is_low : IsLow board t q setting.second low)
-      (least : IsLeastLetter (LeadsToLeaf t low 1) x) where
-    size : t.propositions ≡ board.propositions
-    size = fits.fit.keeps.propositions ∙ fits.fit.whole.letters
+  pub size : {t : Table} → Fits setting t → t.propositions ≡ board.propositions
+  size fits = fits.fit.keeps.propositions ∙ fits.fit.whole.letters
 
+  -- of a diagram that does not depend on the second player's propositions
+  module _ {t : Table} (fits : Fits setting t) (low x : ℕ)
+      (others : (u v : ℕ) → AgreeOff setting.second u v → leaf_of t low u ≡ leaf_of t low v)
+      (least : IsLeastLetter (LeadsToLeaf t low 1) x) where
     within : x < 2 ^ board.propositions
-    within = subst (λ (n : ℕ). x < 2 ^ n) size least.here.0
+    within = subst (λ (n : ℕ). x < 2 ^ n) (size fits) least.here.0
 
     part : ℕ
     part = first_of board setting.second fits.second x
 
-    first : IsFirstLetter board x
+    pub least_first : IsFirstLetter board x
     unfolding part
-    first = first_itself board setting.second fits.second x within (λ before. least.none_before part (
-      subst (λ (n : ℕ). part < 2 ^ n) (sym size) (first_part board setting.second fits.second x).within,
-      sym (is_low.others x part (first_agrees board setting.second fits.second x within)) ∙ least.here.1,
+    least_first = first_itself board setting.second fits.second x within (λ before. least.none_before part (
+      subst (λ (n : ℕ). part < 2 ^ n) (sym (size fits)) (first_part board setting.second fits.second x).within,
+      sym (others x part (first_agrees board setting.second fits.second x within)) ∙ least.here.1,
     ) before)
 
-    one_at : (y : ℕ) → IsSome (leaf_of t low y) → leaf_of t low y ≡ Some 1
-    one_at y is = with_leaf (leaf_of t low y) refl is
-      where
-        with_leaf : (o : Option ℕ) → leaf_of t low y ≡ o → IsSome o → leaf_of t low y ≡ Some 1
-        with_leaf None e some = cc
-        with_leaf (Some k) e some = e ∙ ap (λ (i : ℕ). Some i) (is_low.ones y k e)
+  module _ {t : Table} (fits : Fits setting t) (low x : ℕ) (is_low : IsLow board t q setting.second low)
+      (least : IsLeastLetter (LeadsToLeaf t low 1) x) where
+    first : IsFirstLetter board x
+    first = least_first fits low x is_low.others least
+
+    pub low_some : IsSome (leaf_of t low x)
+    low_some = subst (λ (o : Option ℕ). IsSome o) (sym least.here.1) refl
+
+    -- no letter before it reaches no more
+    none_less : (other : ℕ) → IsFirstLetter board other → ReachesNoMore board q other x → IsBefore other x → ⊥
+    none_less other is_first no_more before = least.none_before other (
+      subst (λ (n : ℕ). other < 2 ^ n) (sym (size fits)) is_first.within,
+      low_one low is_low other (is_low.down x other first is_first no_more low_some),
+    ) before
 
     pub low_least : IsClassLetter board q x
     low_least = record {
       here = (first, λ y second. record { state = refl; priority = refl });
-      none_before = λ other alike before. least.none_before other (
-        subst (λ (n : ℕ). other < 2 ^ n) (sym size) alike.0.within,
-        one_at other (is_low.down x other first alike.0 (reaches_same board q other x alike.1)
-            (subst (λ (o : Option ℕ). IsSome o) (sym least.here.1) refl)),
-      ) before;
+      none_before = λ other alike before.
+          none_less other alike.0 (reaches_same board q other x alike.1) before;
     }
 
--- ## What a letter covers
-
-module _ (setting : Setting) {t : Table} (targets : Targets) (are : AreTargetsOf setting t targets) (letter z : ℕ)
-    (first : IsFirstLetter (board_in setting) letter) where
-  abbrev list : List Target
-  list = targets.list.items
-
-  pub covers_all : ReachesToo setting targets.state list (length list) letter z →
-      ReachesNoMore (board_in setting) targets.state letter z
-  covers_all too r s can = at_index (are.listed.complete r s (record {
-    letter = letter;
-    is_letter = first;
-    reached = can;
-  }))
-    where
-      at_index : Contains (target_keys list) (First r s) → CanGoTo (board_in setting) targets.state z r s
-      at_index (k, within, same) = along (too k d inside)
-        where
-          d : Target
-          d = record { leaf = 0; state = r; priority = s; behind = 0; place = 0 }
-
-          inside : k < length list
-          inside = omega (arith, within, length-map list key_of_target)
-
-          key : First (get_or list k d).state (get_or list k d).priority ≡ First r s
-          key = sym (get_or-map key_of_target list k d (First r s) inside) ∙ same
-
-          state : (get_or list k d).state ≡ r
-          state = cc (key)
-
-          priority : (get_or list k d).priority ≡ s
-          priority = cc (key)
-
-          Goes : ℕ → ℕ → ℕ → Type 0
-          Goes x a b = CanGoTo (board_in setting) targets.state x a b
-
-          along : (CanGoTo (board_in setting) targets.state letter (get_or list k d).state
-              (get_or list k d).priority →
-              CanGoTo (board_in setting) targets.state z (get_or list k d).state (get_or list k d).priority) →
-              CanGoTo (board_in setting) targets.state z r s
-          along f =
-              subst (λ (b : ℕ). CanGoTo (board_in setting) targets.state z r b) priority
-              (subst (λ (a : ℕ). CanGoTo (board_in setting) targets.state z a (get_or list k d).priority) state
-              (f (subst (λ (a : ℕ). CanGoTo (board_in setting) targets.state letter a (get_or list k d).priority)
-              (sym state)
-              (subst (λ (b : ℕ). CanGoTo (board_in setting) targets.state letter r b) (sym priority) can))))
-
--- one more target of the list
-pub too_more : (setting : Setting) (q : ℕ) (list : List Target) (n letter z : ℕ) → n < length list →
-    ((d : Target) → CanGoTo (board_in setting) q letter (get_or list n d).state (get_or list n d).priority →
-    CanGoTo (board_in setting) q z (get_or list n d).state (get_or list n d).priority) →
-    ReachesToo setting q list n letter z → ReachesToo setting q list (n + 1) letter z
-too_more setting q list n letter z within next too k d less can = elim (cases_eq k n) [
-  | inl same ↦
-      subst (λ (i : ℕ). CanGoTo (board_in setting) q z (get_or list i d).state (get_or list i d).priority) (sym same)
-      (next d (subst (λ (i : ℕ). CanGoTo (board_in setting) q letter (get_or list i d).state
-      (get_or list i d).priority) same can))
-  | inr differ ↦ too k d (omega (arith, less, differ)) can
-]
-
-covered_kept : (setting : Setting) {s t : Table} (q : ℕ) (list : List Target) (n letter covered : ℕ) → Keeps s t →
-    IsCovered setting s q list n letter covered → IsCovered setting t q list n letter covered
-covered_kept setting q items n letter covered keeps is = record {
-  held = keeps.held covered is.held;
-  too = λ z first some.
-      is.too z first (subst (λ (o : Option ℕ). IsSome o) (leaf_kept covered z keeps is.held) some);
-}
-
-pub all_covered : (setting : Setting) {t : Table} (q : ℕ) (list : List Target) (letter covered : ℕ) →
-    IsNode t covered → IsCovered setting t q list 0 letter covered
-all_covered setting q list letter covered held = record {
-  held = held;
-  too = λ z first some k d less. absurd (omega (arith, less));
-}
-
-module _ (setting : Setting) {s : Table} (targets : Targets) (are : AreTargetsOf setting s targets) (place : ℕ)
-    (within : place < length targets.list.items) (letter covered : ℕ) (first : IsFirstLetter (board_in setting) letter)
-    (is : IsCovered setting s targets.state targets.list.items place letter covered) (target : Target)
-    (is_target : target ≡ get_or targets.list.items place target) where
-  abbrev behind : ℕ
-  behind = target.behind
-
-  here : (d : Target) → behind ≡ (get_or targets.list.items place d).behind
-  here d = ap (λ (one : Target). one.behind)
-      (is_target ∙ get_or_default targets.list.items place target d within)
-
-  abbrev q : ℕ
-  q = targets.state
-
-  abbrev at : Target → Target
-  at d = get_or targets.list.items place d
-
-  target_is : (d : Target) → IsTarget setting s q (at d)
-  target_is d = are.each place d within
-
-  -- the target cannot be reached behind the letter
-  pub covered_on : {t : Table} → (IsSome (leaf_of s behind letter) → ⊥) → Keeps s t →
-      IsCovered setting t q targets.list.items (place + 1) letter covered
-  covered_on never keeps = record {
-    held = keeps.held covered is.held;
-    too = λ z is_first some. too_more setting q targets.list.items place letter z within
-        (λ d can. absurd (never (subst (λ (node : ℕ). IsSome (leaf_of s node letter)) (sym (here d))
-        (((target_is d).is letter first).1 can))))
-        (is.too z is_first (subst (λ (o : Option ℕ). IsSome o) (leaf_kept covered z keeps is.held) some));
-  }
-
-  -- it can
-  pub covered_more : {u : Table} (made : ℕ) → IsNode u made →
-      ((x : ℕ) → leaf_of u made x ≡ chosen (leaf_of s behind x) (leaf_of s covered x) None) →
-      IsCovered setting u q targets.list.items (place + 1) letter made
-  covered_more {u} made held made_is = record {
-    held = held;
-    too = λ z is_first some.
-        let (reached, old) = both_some (leaf_of s behind z) (leaf_of s covered z)
-        (subst (λ (o : Option ℕ). IsSome o) (made_is z) some) in
-        too_more setting q targets.list.items place letter z within
-        (λ d can. ((target_is d).is z is_first).0
-        (subst (λ (node : ℕ). IsSome (leaf_of s node z)) (here d) reached)) (is.too z is_first old);
-  }
-
--- what remains uncovered after the last target
-pub left_after : (setting : Setting) {s t u : Table} (v : Table) (targets : Targets) → AreTargetsOf setting t targets →
-    (letter : ℕ) → IsFirstLetter (board_in setting) letter → (n : ℕ) → length targets.list.items ≤ n →
-    (covered : ℕ) → IsCovered setting t targets.state targets.list.items n letter covered → Keeps s t → Keeps t u →
-    (uncovered : ℕ) → IsNode s uncovered → (none : ℕ) → ((x : ℕ) → leaf_of u none x ≡ None) → (made : ℕ) →
-    ((x : ℕ) → leaf_of v made x ≡ chosen (leaf_of u covered x) (leaf_of u none x) (leaf_of u uncovered x)) →
-    (z : ℕ) → IsFirstLetter (board_in setting) z → (leaf_of v made z ≡ leaf_of s uncovered z) ⊎
-    ReachesNoMore (board_in setting) targets.state letter z
-left_after setting {s} {t} {u} v targets are letter is_letter n all covered is keeps on uncovered held none nothing made
-    leaf z is_first = by_case (none_or_some (leaf_of t covered z))
-  where
-    now : leaf_of u covered z ≡ leaf_of t covered z
-    now = leaf_kept covered z on is.held
-
-    old : leaf_of u uncovered z ≡ leaf_of s uncovered z
-    old = leaf_kept uncovered z on (keeps.held uncovered held) ∙ leaf_kept uncovered z keeps held
-
-    by_case : (leaf_of t covered z ≡ None) ⊎ IsSome (leaf_of t covered z) →
-        (leaf_of v made z ≡ leaf_of s uncovered z) ⊎ ReachesNoMore (board_in setting) targets.state letter z
-    by_case (inl missing) = inl (leaf z
-        ∙ ap (λ (o : Option ℕ). chosen o (leaf_of u none z) (leaf_of u uncovered z)) (now ∙ missing) ∙ old)
-    by_case (inr some) = inr (covers_all setting targets are letter z is_letter
-        (λ k d less can. is.too z is_first some k d (omega (arith, less, all)) can))
+    -- it is minimal if all low letters are alike
+    pub low_minimal : ((other : ℕ) → IsFirstLetter board other → IsSome (leaf_of t low other) →
+        ReachesNoMore board q x other) → IsMinimalLetter board q x
+    low_minimal alike = record {
+      least = record {
+        here = record {
+          first = first;
+          no_less = reaches_itself board q x;
+          no_more = reaches_itself board q x;
+        };
+        none_before = λ other is before. none_less other is.first is.no_more before;
+      };
+      minimal = λ other is_first no_more.
+          alike other is_first (is_low.down x other first is_first no_more low_some);
+    }

@@ -19,20 +19,20 @@ use Rattle.ps_basis.proofs.ArenaKeys.{stands_in}
 use Rattle.ps_basis.proofs.ListedOrder.{listed_in_order}
 use Rattle.ps_brief.specs.Drawing.{BeginsWith, IsCertifiedArena, order_by}
 use Rattle.ps_brief.specs.Listings.{AreTargetsAt, IsListing, listed_keys}
-use Rattle.ps_brief.specs.Settings.{Fits, board_in}
+use Rattle.ps_brief.specs.Settings.{board_in}
 use Rattle.ps_brief.specs.Inner.Drafts.{AreLeavesOf, IsReady}
 use Rattle.ps_brief.specs.declared.drafts.Plan.{Plan}
 use Rattle.ps_brief.specs.declared.listing.Listing.{Listing}
 use Rattle.ps_brief.specs.declared.setting.Setting.{Setting}
 use Rattle.ps_brief.proofs.DraftedMoves.Orders.{are_orders, playable}
 
-pub ready_is : (plan : Plan) {t : Table} → Fits plan.setting.now t → IsListing plan.setting.now t plan.listing.now →
+pub ready_is : (plan : Plan) {t : Table} → IsListing plan.setting.now t plan.listing.now →
     IsCertifiedArena plan.setting.now plan.arena.now plan.others.now plan.certificate.now →
     BeginsWith plan.others.now plan.listing.now →
     plan.moves_first ≡ (mover_of plan.setting.now.order == winner_at_start plan.certificate.now) →
     AreLeavesOf plan.setting.now (listed_keys plan.listing.now) plan.leaves.items → IsReady plan t
-ready_is plan {t} fits listing certified begins turn leaves = record {
-  fits = fits;
+ready_is plan {t} listing certified begins turn leaves = record {
+  fits = listing.fits;
   playable = playable (board_in plan.setting.now) certified.bases (mover_of plan.setting.now.order) certified.keys
       plan.others.now (listed_keys plan.listing.now) certified.game plan.arena.now certified.is_game
       certified.is_arena (listed_in_order (board_in plan.setting.now) (listed_keys plan.listing.now) listing.listed)

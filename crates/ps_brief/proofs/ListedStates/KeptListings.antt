@@ -12,7 +12,7 @@ use Rattle.ps_brief.specs.Listings.{AreTargetsAt, IsListing, listed_keys}
 use Rattle.ps_brief.specs.declared.listing.Listing.{Listing}
 use Rattle.ps_brief.specs.declared.setting.Setting.{Setting}
 use Rattle.ps_brief.specs.declared.steps.Targets.{Targets}
-use Rattle.ps_brief.proofs.ListedStates.KeptTargets.{targets_kept}
+use Rattle.ps_brief.proofs.ListedStates.KeptTargets.{fits_kept, targets_kept}
 
 some_kept : (setting : Setting) {s t : Table} (q : ℕ) (o : Option Targets) → Keeps s t →
     IsSomeAnd o (AreTargetsAt setting s q) → IsSomeAnd o (AreTargetsAt setting t q)
@@ -25,6 +25,7 @@ some_kept setting q (Some x) keeps holds = record {
 pub listing_kept : (setting : Setting) {s t : Table} {listing : Listing} → Keeps s t → IsListing setting s listing →
     IsListing setting t listing
 listing_kept setting {listing = listing} keeps is = record {
+  fits = fits_kept setting keeps is.fits;
   listed = is.listed;
   targets = λ q p inside. some_kept setting q (get nat_eq listing.targets q) keeps (is.targets q p inside);
   only = is.only;

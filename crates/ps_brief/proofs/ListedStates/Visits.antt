@@ -28,7 +28,7 @@ use Rattle.ps_basis.proofs.LeastSteps.{one_first, one_second}
 use Rattle.ps_basis.proofs.ArenaKeys.{from_map, stands_in, stands_there}
 use Rattle.ps_brief.specs.Inner.Visiting.{Adding, IsVisiting, WasVisited}
 use Rattle.ps_brief.specs.Listings.{AreTargetsAt, IsListing, keys_of, listed_keys}
-use Rattle.ps_brief.specs.Settings.{board_in}
+use Rattle.ps_brief.specs.Settings.{Fits, board_in}
 use Rattle.ps_brief.specs.Targets.{AreTargetsOf, target_keys}
 use Rattle.ps_brief.specs.declared.listing.Listing.{Listing}
 use Rattle.ps_brief.specs.declared.setting.Setting.{Setting}
@@ -279,11 +279,12 @@ module _ (setting : Setting) where
         within = within_now;
       }
 
-  pub visiting_done : {t : Table} (listing : Listing) (n : ℕ) → IsVisiting setting t listing n →
+  pub visiting_done : {t : Table} (listing : Listing) (n : ℕ) → Fits setting t → IsVisiting setting t listing n →
       length (listed_keys listing) ≤ n → IsListing setting t listing
-  visiting_done {t} listing n is all =
+  visiting_done {t} listing n fits is all =
       let same : n ≡ length (listed_keys listing) = (let long = is.long in omega (arith, long, all)) in
       record {
+        fits = fits;
         listed = subst (λ (m : ℕ). IsListedUpTo board m (listed_keys listing)) same is.listed;
         targets = λ q p here. (let (k, at) = stands_there (listed_keys listing) (First q p) here in
             some_and (AreTargetsAt setting t q) (get nat_eq listing.targets q) (is.targets q) (is.visited q (record {

@@ -8,6 +8,7 @@ use Rattle.std.specs.Prelude.{◌≡◌, ℕ, ◌+◌, ◌<◌, ◌≤◌, Bool,
 use Rattle.std.specs.Prelude.{◌↔◌, slice_index_or, MatchOption}
 use Rattle.std.specs.List.{All, Contains}
 use Rattle.ps_automaton.specs.Automata.{pair_of, step_of}
+use Rattle.ps_automaton.specs.declared.step.Step.{Step}
 use Rattle.ps_diagram.specs.Bits.{AreBitsOf, IsBit, have_leaves}
 use Rattle.ps_diagram.specs.Hidden.{HasLeafBehind}
 use Rattle.ps_diagram.specs.Leaves.{chosen, either_leaf}
@@ -20,7 +21,7 @@ use Rattle.ps_machine.specs.declared.key.Key.{Key}
 use Rattle.ps_machine.specs.declared.key.Key.TheVariants.{First}
 use Rattle.ps_basis.specs.ArenaMoves.{GoesThere, MovesBehind}
 use Rattle.ps_basis.specs.Bases.{CanGoTo}
-use Rattle.ps_basis.specs.Memories.{IsOutputAt, IsRoundOf, Play}
+use Rattle.ps_basis.specs.Memories.{IsOutputAt, IsRoundOf, Play, PlayReaches}
 use Rattle.ps_basis.specs.PairOrder.{HasStepTo}
 use Rattle.ps_brief.specs.Drawing.{play_in}
 use Rattle.ps_brief.specs.Settings.{Fits, board_in}
@@ -56,6 +57,11 @@ pub record IsReady (plan : Plan) (t : Table) : Type 0 where
   pub playable : IsPlayable (play_of plan) plan.moves_first plan.arena.now
   pub states : (v q p : ℕ) → StandsAt (play_of plan).keys v (First q p) → q ≤ plan.setting.now.automaton.now.states
   pub leaves : AreLeavesOf plan.setting.now (play_of plan).keys plan.leaves.items
+
+-- the plan is ready, and its moves can reach the vertex by the step
+pub record IsReadyAt (plan : Plan) (t : Table) (v : ℕ) (step : Step) : Type 0 where
+  pub ready : IsReady plan t
+  pub reached : PlayReaches (play_of plan) plan.moves_first v step.state step.priority
 
 -- ## Drafts
 

@@ -24,8 +24,8 @@ use Rattle.ps_machine.specs.declared.key.Key.TheVariants.{First}
 use Rattle.ps_basis.specs.Memories.{IsFirstReached, IsStepByRounds}
 use Rattle.ps_basis.specs.PairOrder.{HasStepTo}
 use Rattle.ps_brief.specs.Settings.{board_in}
-use Rattle.ps_brief.specs.Inner.Drafts.{IsDraft, play_of}
-use Rattle.ps_brief.specs.Inner.Reaching.{Reaches}
+use Rattle.ps_brief.specs.Inner.Drafts.{IsDraft, IsReady, play_of}
+use Rattle.ps_brief.specs.Inner.Reaching.{IsReached, Reaches}
 use Rattle.ps_brief.specs.declared.drafts.Draft.{Draft}
 use Rattle.ps_brief.specs.declared.drafts.Plan.{Plan}
 use Rattle.ps_brief.specs.declared.memories.Memories.{Memories}
@@ -35,6 +35,12 @@ use Rattle.ps_brief.specs.declared.setting.Setting.{Setting}
 abbrev pub HasMemories : Plan → Reached → Memories → Type 0
 HasMemories plan reached memories = AreMemories plan.moves_first (play_of plan).keys reached.places.keys
     memories.kept.items memories.anchors.keys
+
+-- what a machine is drawn from: a plan that is ready, what its moves can reach, and the memory states
+pub record IsDrawable (plan : Plan) (t : Table) (found : Reached) (all : Memories) : Type 0 where
+  pub ready : IsReady plan t
+  pub reached : IsReached plan t found
+  pub memories : HasMemories plan found all
 
 -- the pair has the leaf of a step that the winner's moves make
 pub record IsGoodLeaf (plan : Plan) (pair : ℕ × ℕ) : Type 0 where

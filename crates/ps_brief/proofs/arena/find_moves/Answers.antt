@@ -16,10 +16,10 @@ node-node-requires c =
     listed_within c.args.setting.now c.requires.listing c.args.state c.requires.state.0 c.requires.state.1
 
 pub behind-requires-clause-over : goal.behind-requires-clause-over
-behind-requires-clause-over c = over_mask c.args.setting.now c.requires.fits c.args.letter c.requires.letter
+behind-requires-clause-over c = over_mask c.args.setting.now c.requires.listing.fits c.args.letter c.requires.letter
 
 pub pair-step-requires : goal.pair-step-requires
-pair-step-requires c = leaf_named c.args.setting.now c.requires.fits c.args.state c.args.letter c.node-node.result
+pair-step-requires c = leaf_named c.args.setting.now c.requires.listing.fits c.args.state c.args.letter c.node-node.result
     c.in_ok-rest.rest
     (listed_within c.args.setting.now c.requires.listing c.args.state c.requires.state.0 c.requires.state.1)
     c.requires.letter c.node-node.ensures.node c.in_ok-rest.ensures.keeps c.in_ok-rest.ensures.held
@@ -29,7 +29,7 @@ pair-step-requires c = leaf_named c.args.setting.now c.requires.fits c.args.stat
 pub place-requires : goal.place-requires
 place-requires c = subst (λ (step : Step). Contains (listed_keys c.args.listing.now) (step_key step))
     (sym c.pair-step.ensures.pair)
-    (leaf_listed c.args.setting.now c.requires.fits c.args.state c.args.letter c.node-node.result c.in_ok-rest.rest
+    (leaf_listed c.args.setting.now c.requires.listing.fits c.args.state c.args.letter c.node-node.result c.in_ok-rest.rest
     (listed_within c.args.setting.now c.requires.listing c.args.state c.requires.state.0 c.requires.state.1)
     c.requires.letter c.node-node.ensures.node c.in_ok-rest.ensures.keeps c.in_ok-rest.ensures.held
     c.in_ok-rest.ensures.leaf c.deref-leaf-items.result.now c.in_ok-leaves.leaves.items
@@ -50,7 +50,7 @@ loop-leaf-preserved c =
 pub returns-clause-found : goal.returns-clause-found
 returns-clause-found c = (
   _,
-  items_lead c.args.setting.now c.requires.fits c.args.state c.args.letter c.node-node.result c.in_ok-rest.rest
+  items_lead c.args.setting.now c.requires.listing.fits c.args.state c.args.letter c.node-node.result c.in_ok-rest.rest
       (listed_within c.args.setting.now c.requires.listing c.args.state c.requires.state.0 c.requires.state.1)
       c.requires.letter c.node-node.ensures.node c.in_ok-rest.ensures.keeps c.in_ok-rest.ensures.held
       c.in_ok-rest.ensures.leaf c.deref-leaf-items.result.now c.in_ok-leaves.leaves.items

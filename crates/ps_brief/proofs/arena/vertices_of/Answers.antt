@@ -10,7 +10,6 @@ use Rattle.ps_brief.specs.Inner.Arranging.{AreArenaVertices}
 use Rattle.ps_brief.specs.Settings.{board_in}
 use Rattle.ps_brief.proofs.BriefArenas.ArenaVertices.{vertices_begun, vertices_pushed}
 use Rattle.ps_brief.proofs.ListedStates.KeptListings.{listing_kept}
-use Rattle.ps_brief.proofs.ListedStates.KeptTargets.{fits_kept}
 use Rattle.ps_brief.proofs.arena.vertices_of.Goals as goal
 
 pub loop-key-init : goal.loop-key-init
@@ -19,9 +18,6 @@ loop-key-init c = record {
   vertices = vertices_begun (board_in c.args.setting.now) c.args.bases.now (mover_of c.args.setting.now.order)
       c.args.keys.now.list.items c.in_ok-vertices.vertices c.in_ok-vertices.ensures;
 }
-
-pub find_successors-requires-clause-fits : goal.find_successors-requires-clause-fits
-find_successors-requires-clause-fits c = fits_kept c.args.setting.now c.loop-key.invariant.keeps c.requires.fits
 
 pub find_successors-requires-clause-listing : goal.find_successors-requires-clause-listing
 find_successors-requires-clause-listing c =

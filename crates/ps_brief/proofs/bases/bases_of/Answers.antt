@@ -10,7 +10,6 @@ use Rattle.ps_brief.proofs.BriefArenas.ArenaKeyLists.{no_step}
 use Rattle.ps_brief.proofs.ListedStates.EnteredKeys.{key_of_step}
 use Rattle.ps_brief.proofs.BriefArenas.Findings.{finding_begun, finding_done}
 use Rattle.ps_brief.proofs.ListedStates.KeptListings.{listing_kept}
-use Rattle.ps_brief.proofs.ListedStates.KeptTargets.{fits_kept}
 use Rattle.ps_brief.proofs.ListedStates.ListedPlaces.{index_stands}
 use Rattle.ps_brief.proofs.bases.bases_of.Goals as goal
 
@@ -20,11 +19,8 @@ loop-step-init c = record {
   finding = finding_begun c.args.setting.now c.args.listing.now (record { of = c.new.result }) (λ q. search rules);
 }
 
-pub find-requires-clause-fits : goal.find-requires-clause-fits
-find-requires-clause-fits c = fits_kept c.args.setting.now c.loop-step.invariant.keeps c.requires.fits
-
 pub find-requires-clause-listing : goal.find-requires-clause-listing
-find-requires-clause-listing c = listing_kept c.args.setting.now c.loop-step.invariant.keeps c.requires.listing
+find-requires-clause-listing c = listing_kept c.args.setting.now c.loop-step.invariant.keeps c.requires
 
 pub find-requires-clause-listed : goal.find-requires-clause-listed
 find-requires-clause-listed c =
@@ -62,3 +58,17 @@ returns-clause-bases c =
       ap (λ (xs : List Step). length xs) c.as_slice-step-items.ensures.keys,
       length-map keys key_of_step,
     ))
+
+pub returns-then-not-is_found-clause-none_only : goal.returns-then-not-is_found-clause-none_only
+returns-then-not-is_found-clause-none_only c =
+    let items = c.as_slice-step-items.result.now in
+    let n = c.loop-step.step-index in
+    let step : Step = get_or items n no_step in
+    record {
+      state = step.state;
+      priority = step.priority;
+      listed = stands_in (listed_keys c.args.listing.now) n (First step.state step.priority)
+          (index_stands c.args.listing.now.entered.keys items n no_step c.as_slice-step-items.ensures.keys
+          c.loop-step-test.true);
+      many = c.in_ok-is_found.ensures.false_only c.if-not-is_found.true;
+    }

@@ -1,9 +1,11 @@
-use Rattle.std.proofs.Common.{ℕ, ◌^◌, ◌<◌, ◌∙◌, subst}
+use Rattle.std.proofs.Common.{ℕ, ◌^◌, ◌<◌, ◌∙◌, subst, arith}
 use Rattle.ps_diagram.specs.Letters.{IsLeastLetter}
 use Rattle.ps_diagram.specs.Reached.{LeadsToLeaf}
 use Rattle.ps_diagram.proofs.NodeTables.KnownLemmas.{keeps_trans}
 use Rattle.ps_brief.specs.Settings.{board_in}
 use Rattle.ps_brief.proofs.BasesOfLetters.Coverings.{covering_done, only_none}
+use Rattle.ps_brief.proofs.BasesOfLetters.FoundLetters.{enough_letters}
+use Rattle.ps_brief.proofs.BasesOfLetters.Lowering.{least_first}
 use Rattle.ps_brief.proofs.ListedStates.KeptTargets.{fits_kept, targets_kept}
 use Rattle.ps_brief.proofs.bases.basis_of.Goals as goal
 
@@ -13,6 +15,7 @@ loop-round-init c = let made = c.in_ok-cover.ensures in record {
   fits = fits_kept c.args.setting.now made.keeps c.requires.fits;
   targets = targets_kept c.args.setting.now made.keeps c.requires.targets;
   covering = made.covering (board_in c.args.setting.now) c.args.targets.now.state;
+  found = made.found c.args.setting.now c.args.targets.now.state;
 }
 
 pub path_to-requires : goal.path_to-requires
@@ -27,6 +30,7 @@ loop-round-preserved c = let next = c.in_ok-next.ensures in record {
   fits = fits_kept c.args.setting.now next.keeps c.loop-round.invariant.fits;
   targets = targets_kept c.args.setting.now next.keeps c.loop-round.invariant.targets;
   covering = next.covering;
+  found = next.found c.loop-round._round c.loop-round.invariant.found;
 }
 
 pub letters_of-requires-clause-held : goal.letters_of-requires-clause-held
@@ -49,3 +53,12 @@ returns-in_default-clause-basis c =
     (λ x. IsLeastLetter (LeadsToLeaf c.loop-round.store c.loop-round.cover.uncovered 1) x) c.in_ok-letter.field-0
     c.in_ok-letter.ensures c.in_default.not-Some)
     c.in_ok-basis.ensures
+
+pub extended-requires-clause-first : goal.extended-requires-clause-first
+extended-requires-clause-first c = least_first c.args.setting.now c.args.targets.now.state c.loop-round.invariant.fits
+    c.loop-round.cover.uncovered c.in-Some.letter c.loop-round.invariant.found.others
+    (rw c.in-Some.is at c.in_ok-letter.ensures)
+
+pub returns-clause-none_only : goal.returns-clause-none_only
+returns-clause-none_only c = enough_letters (board_in c.args.setting.now) c.args.targets.now.state c.args.most
+    c.loop-round._round (omega (arith, c.loop-round-test.false)) c.loop-round.invariant.found.found

@@ -2,7 +2,8 @@ use Rattle.std.proofs.Common.{ℕ, ◌^◌, ◌<◌, sym, ◌∙◌, subst}
 use Rattle.ps_diagram.proofs.NodeTables.KnownLemmas.{keeps_three, keeps_trans}
 use Rattle.ps_brief.specs.Settings.{board_in}
 use Rattle.ps_brief.proofs.BasesOfLetters.Coverings.{covering_kept, covering_more}
-use Rattle.ps_brief.proofs.ListedStates.KeptTargets.{fits_kept, targets_kept}
+use Rattle.ps_brief.proofs.BasesOfLetters.FoundLetters.{found_kept, found_more}
+use Rattle.ps_brief.proofs.ListedStates.KeptTargets.{fits_kept, leaf_kept, targets_kept}
 use Rattle.ps_brief.proofs.bases.extended.Goals as goal
 
 pub least_low-requires-clause-fits : goal.least_low-requires-clause-fits
@@ -73,3 +74,16 @@ returns-clause-covering c =
     (λ x within differ. marks.others x (subst (λ (n : ℕ). x < 2 ^ n)
     (sym (c.in_ok-least.ensures.keeps.propositions ∙ c.in_ok-low.ensures.keeps.propositions ∙ fit.keeps.propositions
     ∙ fit.whole.letters)) within) differ) c.in_ok-uncovered.ensures.left
+
+pub returns-clause-found : goal.returns-clause-found
+returns-clause-found c = λ n is.
+    let s = c.args.setting.now in
+    let q = c.args.targets.now.state in
+    let keeps =
+    keeps_three c.in_ok-low.ensures.keeps c.in_ok-least.ensures.keeps c.in_ok-basis.ensures.keeps in
+    let least = c.in_ok-least.ensures in
+    found_more s q c.args.cover.uncovered c.in_ok-uncovered.uncovered c.args.letter c.in_ok-least.least n
+    (found_kept s q c.args.cover.uncovered n keeps c.requires.covering.uncovered_held is) c.requires.first
+    (leaf_kept c.args.cover.uncovered c.args.letter keeps c.requires.covering.uncovered_held ∙ c.requires.letter.1)
+    (c.in_ok-low.ensures.below c.in_ok-least.least least.class.here.0 least.within) least.minimal
+    c.in_ok-uncovered.ensures.apart

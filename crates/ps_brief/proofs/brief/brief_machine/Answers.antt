@@ -5,7 +5,7 @@ use Rattle.ps_brief.proofs.brief.brief_machine.Goals as goal
 pub machine_of_arena-requires-clause-certified : goal.machine_of_arena-requires-clause-certified
 machine_of_arena-requires-clause-certified c = certified_there c.args.setting.now c.args.arena.now c.args.others.now
     c.args.certificate.now c.requires.arena c.requires.certificate_fits c.requires.certificate_valid
-    c.requires.fits.fit.whole
+    c.requires.listing.fits.fit.whole
 
 pub returns-clause-machine : goal.returns-clause-machine
 returns-clause-machine c =

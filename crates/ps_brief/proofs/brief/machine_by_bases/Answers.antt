@@ -1,10 +1,6 @@
 use Rattle.ps_brief.specs.ArenaGames.{letters_at}
 use Rattle.ps_brief.proofs.ListedStates.KeptListings.{listing_kept}
-use Rattle.ps_brief.proofs.ListedStates.KeptTargets.{fits_kept}
 use Rattle.ps_brief.proofs.brief.machine_by_bases.Goals as goal
-
-pub brief_machine-requires-clause-fits : goal.brief_machine-requires-clause-fits
-brief_machine-requires-clause-fits c = fits_kept c.args.setting.now c.in_ok-arena.ensures.keeps c.requires.fits
 
 pub brief_machine-requires-clause-listing : goal.brief_machine-requires-clause-listing
 brief_machine-requires-clause-listing c =

@@ -19,8 +19,8 @@ returns c =
     let to = c.in_ok-bits.ensures.keeps in
     let letters = to.propositions ∙ c.in_ok-nodes.ensures.keeps.propositions ∙ c.new-own.ensures.propositions
     ∙ c.propositions.ensures.value in
-    is_drawing plan c.requires.ready c.propositions.ensures.sound c.args.reached.now c.requires.reached
-    c.args.memories.now c.requires.memories pairs has.differ c.args.nodes.now c.args.values.now
+    is_drawing plan c.requires.drawable.ready c.propositions.ensures.sound c.args.reached.now c.requires.drawable.reached
+    c.args.memories.now c.requires.drawable.memories pairs has.differ c.args.nodes.now c.args.values.now
     (record { store = c.copied_bits.new.own; nodes = c.in_ok-nodes.nodes; bits = c.in_ok-bits.bits }) has.paired
     has.memories (relabelled_stay to (subst (λ (n : ℕ). AreRelabelled c.args.store.now own c.args.values.now
     c.args.nodes.now c.in_ok-nodes.nodes.items n) has.paired.many made)) c.in_ok-bits.ensures.copied letters

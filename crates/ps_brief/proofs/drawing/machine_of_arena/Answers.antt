@@ -7,7 +7,7 @@ pub parts_of-requires : goal.parts_of-requires
 parts_of-requires c =
     let turn =
     ap₂ (λ (a b : ℕ). nat_eq a b) (c.number.ensures.number ∙ c.mover.ensures.mover) c.winner-winner.ensures in
-    ready_is _ c.requires.fits c.requires.listing c.requires.certified c.requires.begins turn
+    ready_is _ c.requires.listing c.requires.certified c.requires.begins turn
     (c.in_ok-leaves_of.ensures c.args.setting.now c.args.store.now c.requires.listing)
 
 pub of_number-requires : goal.of_number-requires
@@ -30,7 +30,7 @@ pub returns-clause-machine : goal.returns-clause-machine
 returns-clause-machine c =
     let turn =
     ap₂ (λ (a b : ℕ). nat_eq a b) (c.number.ensures.number ∙ c.mover.ensures.mover) c.winner-winner.ensures in
-    let ready = ready_is _ c.requires.fits c.requires.listing c.requires.certified c.requires.begins turn
+    let ready = ready_is _ c.requires.listing c.requires.certified c.requires.begins turn
     (c.in_ok-leaves_of.ensures c.args.setting.now c.args.store.now c.requires.listing) in
     let (kept, drawn) = c.in_ok-parts.ensures.drawn in
     let said = c.machine_of_bits.ensures in

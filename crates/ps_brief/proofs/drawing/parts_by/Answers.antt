@@ -3,12 +3,12 @@ use Rattle.ps_brief.proofs.DrawnMachines.DrawnParts.{pairs_differ}
 use Rattle.ps_brief.proofs.DrawnMachines.VisitedKeys.{reached_kept}
 use Rattle.ps_brief.proofs.drawing.parts_by.Goals as goal
 
-pub copied-requires-clause-ready : goal.copied-requires-clause-ready
-copied-requires-clause-ready c = ready_kept c.args.plan.now c.in_ok-nodes.ensures.keeps c.requires.ready
-
-pub copied-requires-clause-reached : goal.copied-requires-clause-reached
-copied-requires-clause-reached c =
-    reached_kept c.args.plan.now c.in_ok-nodes.ensures.keeps c.args.reached.now c.requires.reached
+pub copied-requires-clause-drawable : goal.copied-requires-clause-drawable
+copied-requires-clause-drawable c = record {
+  ready = ready_kept c.args.plan.now c.in_ok-nodes.ensures.keeps c.requires.ready;
+  reached = reached_kept c.args.plan.now c.in_ok-nodes.ensures.keeps c.args.reached.now c.requires.reached;
+  memories = c.requires.memories;
+}
 
 pub copied-requires-clause-paired : goal.copied-requires-clause-paired
 copied-requires-clause-paired c = rw (c.deref.ensures.value, c.deref-2.ensures.value) (

@@ -39,6 +39,6 @@ loop-state-preserved c =
 
 pub returns-clause-listing : goal.returns-clause-listing
 returns-clause-listing c = visiting_done c.args.setting.now c.loop-state.listing c.loop-state.place
-    c.loop-state.invariant.visiting
+    (fits_kept c.args.setting.now c.loop-state.invariant.keeps c.requires) c.loop-state.invariant.visiting
     (none_past c.loop-state.listing.entered.keys c.loop-state.place
     (sym (none_at c.state.result c.in_default.not-Some) ∙ c.state.ensures.state))

@@ -10,7 +10,7 @@ pub step_at-state-requires : goal.step_at-state-requires
 step_at-state-requires c =
     let i = c.loop-place.place-index in
     let items = c.deref-place-items.ensures.value in
-    kept_within c.args.plan.now c.args.reached.now c.requires.reached c.args.memories.now c.requires.memories i
+    kept_within c.args.plan.now c.args.reached.now c.requires.drawable.reached c.args.memories.now c.requires.drawable.memories i
     (slice_index_or c.deref-place-items.result.now i 0) (rw items at c.loop-place-test.true)
     (ap (λ (xs : List ℕ). slice_index_or xs i 0) items)
 
@@ -18,7 +18,7 @@ pub unreachable-requires : goal.unreachable-requires
 unreachable-requires c =
     let i = c.loop-place.place-index in
     let items = c.deref-place-items.ensures.value in
-    is_drafted c.args.plan.now c.args.reached.now c.requires.reached c.args.memories.now c.requires.memories i
+    is_drafted c.args.plan.now c.args.reached.now c.requires.drawable.reached c.args.memories.now c.requires.drawable.memories i
     (slice_index_or c.deref-place-items.result.now i 0) (rw items at c.loop-place-test.true)
     (ap (λ (xs : List ℕ). slice_index_or xs i 0) items) c.step_at-state.result.state c.step_at-state.result.priority
     c.step_at-state.ensures (rw c.anchor.ensures at c.in_default.ensures.value)
@@ -32,7 +32,7 @@ relabelled-requires-clause-held c =
     let v = slice_index_or c.deref-place-items.result.now i 0 in
     let items = c.deref-place-items.ensures.value in
     let is_kept = ap (λ (xs : List ℕ). slice_index_or xs i 0) items in
-    let has = draft_at c.args.plan.now c.args.reached.now c.requires.reached c.args.memories.now c.requires.memories i v
+    let has = draft_at c.args.plan.now c.args.reached.now c.requires.drawable.reached c.args.memories.now c.requires.drawable.memories i v
     (rw items at c.loop-place-test.true) is_kept (keeps_refl c.args.store.now) c.step_at-state.result.state
     c.step_at-state.result.priority c.step_at-state.ensures c.in-Some.draft.now
     (sym (rw c.anchor.ensures at c.in-Some.ensures.value)) in
@@ -44,7 +44,7 @@ relabelled-requires-clause-within c =
     let v = slice_index_or c.deref-place-items.result.now i 0 in
     let items = c.deref-place-items.ensures.value in
     let is_kept = ap (λ (xs : List ℕ). slice_index_or xs i 0) items in
-    let has = draft_at c.args.plan.now c.args.reached.now c.requires.reached c.args.memories.now c.requires.memories i v
+    let has = draft_at c.args.plan.now c.args.reached.now c.requires.drawable.reached c.args.memories.now c.requires.drawable.memories i v
     (rw items at c.loop-place-test.true) is_kept (keeps_refl c.args.store.now) c.step_at-state.result.state
     c.step_at-state.result.priority c.step_at-state.ensures c.in-Some.draft.now
     (sym (rw c.anchor.ensures at c.in-Some.ensures.value)) in
@@ -60,7 +60,7 @@ loop-place-preserved c =
     let v = slice_index_or c.deref-place-items.result.now i 0 in
     let items = c.deref-place-items.ensures.value in
     let is_kept = ap (λ (xs : List ℕ). slice_index_or xs i 0) items in
-    let has = draft_at c.args.plan.now c.args.reached.now c.requires.reached c.args.memories.now c.requires.memories i v
+    let has = draft_at c.args.plan.now c.args.reached.now c.requires.drawable.reached c.args.memories.now c.requires.drawable.memories i v
     (rw items at c.loop-place-test.true) is_kept (keeps_refl c.args.store.now) c.step_at-state.result.state
     c.step_at-state.result.priority c.step_at-state.ensures c.in-Some.draft.now
     (sym (rw c.anchor.ensures at c.in-Some.ensures.value)) in

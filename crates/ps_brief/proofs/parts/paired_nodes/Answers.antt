@@ -9,7 +9,7 @@ pub step_at-state-requires : goal.step_at-state-requires
 step_at-state-requires c =
     let i = c.loop-place.place-index in
     let items = c.deref-place-items.ensures.value in
-    kept_within c.args.plan.now c.args.reached.now c.requires.reached c.args.memories.now c.requires.memories i
+    kept_within c.args.plan.now c.args.reached.now c.requires.drawable.reached c.args.memories.now c.requires.drawable.memories i
     (slice_index_or c.deref-place-items.result.now i 0) (rw items at c.loop-place-test.true)
     (ap (λ (xs : List ℕ). slice_index_or xs i 0) items)
 
@@ -17,27 +17,16 @@ pub unreachable-requires : goal.unreachable-requires
 unreachable-requires c =
     let i = c.loop-place.place-index in
     let items = c.deref-place-items.ensures.value in
-    is_drafted c.args.plan.now c.args.reached.now c.requires.reached c.args.memories.now c.requires.memories i
+    is_drafted c.args.plan.now c.args.reached.now c.requires.drawable.reached c.args.memories.now c.requires.drawable.memories i
     (slice_index_or c.deref-place-items.result.now i 0) (rw items at c.loop-place-test.true)
     (ap (λ (xs : List ℕ). slice_index_or xs i 0) items) c.step_at-state.result.state c.step_at-state.result.priority
     c.step_at-state.ensures (rw c.anchor.ensures at c.in_default.ensures.value)
 
-pub both-requires-clause-first : goal.both-requires-clause-first
-both-requires-clause-first c =
+pub numbered-requires : goal.numbered-requires
+numbered-requires c =
     let i = c.loop-place.place-index in
     let items = c.deref-place-items.ensures.value in
-    let has = draft_at c.args.plan.now c.args.reached.now c.requires.reached c.args.memories.now c.requires.memories i
-    (slice_index_or c.deref-place-items.result.now i 0) (rw items at c.loop-place-test.true)
-    (ap (λ (xs : List ℕ). slice_index_or xs i 0) items) c.loop-place.invariant.keeps c.step_at-state.result.state
-    c.step_at-state.result.priority c.step_at-state.ensures c.in-Some.draft.now
-    (sym (rw c.anchor.ensures at c.in-Some.ensures.value)) in
-    has.is_draft.heeds.steps_held
-
-pub both-requires-clause-second : goal.both-requires-clause-second
-both-requires-clause-second c =
-    let i = c.loop-place.place-index in
-    let items = c.deref-place-items.ensures.value in
-    let has = draft_at c.args.plan.now c.args.reached.now c.requires.reached c.args.memories.now c.requires.memories i
+    let has = draft_at c.args.plan.now c.args.reached.now c.requires.drawable.reached c.args.memories.now c.requires.drawable.memories i
     (slice_index_or c.deref-place-items.result.now i 0) (rw items at c.loop-place-test.true)
     (ap (λ (xs : List ℕ). slice_index_or xs i 0) items) c.loop-place.invariant.keeps c.step_at-state.result.state
     c.step_at-state.result.priority c.step_at-state.ensures c.in-Some.draft.now
@@ -45,7 +34,7 @@ both-requires-clause-second c =
     has.is_draft.heeds.steps_held
 
 pub returns-in_err-push-clause-keeps : goal.returns-in_err-push-clause-keeps
-returns-in_err-push-clause-keeps c = keeps_trans c.loop-place.invariant.keeps c.in_ok-both.ensures.made.keeps
+returns-in_err-push-clause-keeps c = keeps_trans c.loop-place.invariant.keeps c.in_ok-numbered.ensures.made.keeps
 
 pub loop-place-preserved : goal.loop-place-preserved
 loop-place-preserved c =
@@ -55,16 +44,16 @@ loop-place-preserved c =
     let items = c.deref-place-items.ensures.value in
     let is_kept = ap (λ (xs : List ℕ). slice_index_or xs i 0) items in
     let inv = c.loop-place.invariant in
-    let made = c.in_ok-both.ensures.made in
+    let made = c.in_ok-numbered.ensures.made in
     let draft = c.in-Some.draft.now in
-    let has = draft_at plan c.args.reached.now c.requires.reached c.args.memories.now c.requires.memories i v
+    let has = draft_at plan c.args.reached.now c.requires.drawable.reached c.args.memories.now c.requires.drawable.memories i v
     (rw items at c.loop-place-test.true) is_kept inv.keeps c.step_at-state.result.state
     c.step_at-state.result.priority c.step_at-state.ensures draft
     (sym (rw c.anchor.ensures at c.in-Some.ensures.value)) in
     record {
       keeps = keeps_trans inv.keeps made.keeps;
-      paired = next_paired plan (ready_kept plan inv.keeps c.requires.ready) made.keeps c.args.reached.now v has
-          c.loop-place.pairs.keys c.both.new.pairs.keys c.in_ok-both.ensures.adds c.args.memories.now.kept.items
-          c.loop-place.nodes.items c.push.new.self.items i c.in_ok-both.field-0 is_kept c.in_ok-push.ensures.items
+      paired = next_paired plan (ready_kept plan inv.keeps c.requires.drawable.ready) made.keeps c.args.reached.now v has
+          c.loop-place.pairs.keys c.numbered.new.pairs.keys c.in_ok-numbered.ensures.adds c.args.memories.now.kept.items
+          c.loop-place.nodes.items c.push.new.self.items i c.in_ok-numbered.field-0 is_kept c.in_ok-push.ensures.items
           made.held made.leaf inv.paired;
     }

@@ -36,7 +36,7 @@ pub returns-clause-reached : goal.returns-clause-reached
 returns-clause-reached c =
     let plan = c.args.plan.now in
     let places = c.loop-turn.reached.places.keys in
-    let few = few_found plan places c.loop-turn.invariant.up.each c.as_slice-different.ensures.unique in
+    let few = few_found plan places c.loop-turn.invariant.up.each c.places_differ.ensures in
     let done : length places ≤ c.loop-turn.turn = elim c.loop-turn-test.branch [
       | else-loop-turn-test w ↦ omega (arith, few, w.loop-turn-test.false, c.count-turn-end.ensures)
       | then-loop-turn-test+in_default w ↦ all_seen places c.loop-turn.turn w.in_default.ensures.key

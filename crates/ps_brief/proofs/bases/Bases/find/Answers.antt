@@ -5,6 +5,7 @@ use Rattle.ps_machine.specs.declared.key.Key.TheVariants.{First}
 use Rattle.ps_basis.specs.Bases.{IsBasis}
 use Rattle.ps_basis.proofs.ArenaKeys.{stands_in}
 use Rattle.ps_brief.specs.Listings.{listed_keys}
+use Rattle.ps_brief.specs.MinimalLetters.{HasMinimalLetters}
 use Rattle.ps_brief.specs.declared.bases.Basis.{Basis}
 use Rattle.ps_brief.specs.Settings.{board_in}
 use Rattle.ps_brief.proofs.BriefArenas.Findings.{finding_known, finding_more}
@@ -39,3 +40,11 @@ returns-in_ok-insert-in-Some-clause-found c = λ e n p is at.
     finding_more c.args.setting.now c.args.listing.now c.args.self.now _ n q p c.in-Some.basis is at inside
     (subst (λ (r : ℕ). IsBasis board r c.in-Some.basis.letters.items) there.state basis)
     (λ r. c.in_ok-insert-in-Some.ensures.updates.0 r)
+
+pub returns-in-None-clause-false_only : goal.returns-in-None-clause-false_only
+returns-in-None-clause-false_only c = λ e.
+    let (p, inside) = c.requires.listed in
+    let there =
+    targets_there c.args.setting.now c.requires.listing c.args.state p inside c.of.result.now c.of.ensures in
+    subst (λ (q : ℕ). HasMinimalLetters (board_in c.args.setting.now) q c.args.most) there.state
+    (rw c.in-None.is at c.in_ok-found.ensures.none_only)

@@ -1,6 +1,7 @@
 use Rattle.std.proofs.Common.{◌∙◌}
 use Rattle.ps_diagram.proofs.NodeTables.KnownLemmas.{keeps_trans}
 use Rattle.ps_brief.proofs.BasesOfLetters.Coverings.{covering_begun}
+use Rattle.ps_brief.proofs.BasesOfLetters.FoundLetters.{found_begun}
 use Rattle.ps_brief.proofs.ListedStates.KeptTargets.{leaf_kept}
 use Rattle.ps_brief.proofs.bases.Cover.new.Goals as goal
 
@@ -17,3 +18,9 @@ returns-clause-covering c = λ board q.
     c.in_ok-basis.ensures.held
     (λ x. leaf_kept c.in_ok-uncovered.uncovered x c.in_ok-basis.ensures.keeps c.in_ok-uncovered.ensures.held
     ∙ c.in_ok-uncovered.ensures.leaf x) c.in_ok-basis.ensures.leaf
+
+pub returns-clause-found : goal.returns-clause-found
+returns-clause-found c = λ setting q.
+    found_begun setting q c.in_ok-uncovered.uncovered
+    (λ x. leaf_kept c.in_ok-uncovered.uncovered x c.in_ok-basis.ensures.keeps c.in_ok-uncovered.ensures.held
+    ∙ c.in_ok-uncovered.ensures.leaf x)

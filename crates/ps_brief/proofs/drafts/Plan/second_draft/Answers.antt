@@ -9,9 +9,9 @@ pub returns-clause-draft : goal.returns-clause-draft
 returns-clause-draft c =
     let plan = c.args.self.now in
     let q = c.args.step.state in
-    let ready = c.requires.ready in
+    let ready = c.requires.at.ready in
     second_drafted plan plan.arena.now ready.playable c.requires.turn ready.fits q c.args.step.priority
-    c.requires.reached.comes (successors_of plan.arena.now c.args.vertex)
-    (ready.playable.tried c.args.vertex q c.args.step.priority c.requires.reached.stands) c.in_ok-moves.moves
+    c.requires.at.reached.comes (successors_of plan.arena.now c.args.vertex)
+    (ready.playable.tried c.args.vertex q c.args.step.priority c.requires.at.reached.stands) c.in_ok-moves.moves
     c.moves_at.ensures.keeps c.in_ok-moves.ensures.tried c.least_bits.ensures.keeps c.in_ok-bits.bits
     c.in_ok-bits.ensures.bits

@@ -14,9 +14,12 @@ returns-then-contains_key-clause-visits c =
     λ n at up. visited_again plan c.args.self.now n c.args.place step.state step.priority at c.step_at-step.ensures
     has up
 
-pub draft-requires-clause-reached : goal.draft-requires-clause-reached
-draft-requires-clause-reached c = found_at c.args.plan.now c.args.place c.step_at-step.result.state
-    c.step_at-step.result.priority c.requires.found c.step_at-step.ensures
+pub draft-requires : goal.draft-requires
+draft-requires c = record {
+  ready = c.requires.ready;
+  reached = found_at c.args.plan.now c.args.place c.step_at-step.result.state c.step_at-step.result.priority
+      c.requires.found c.step_at-step.ensures;
+}
 
 pub enter-requires-clause-draft : goal.enter-requires-clause-draft
 enter-requires-clause-draft c =
