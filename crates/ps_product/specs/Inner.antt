@@ -8,6 +8,7 @@ pub mod Knowing
 pub mod Nets
 pub mod Numbers
 pub mod Plans
+pub mod Ranks
 pub mod Searches
 pub mod Roles
 pub mod Stored

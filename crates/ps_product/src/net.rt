@@ -1,8 +1,10 @@
 //! A circuit whose variables have consecutive numbers, their indices (places).
 
 ghost use Rattle.std.specs.Prelude.{◌≡◌, ℕ, ◌<◌, length, map, IfOk, MatchOption};
-ghost use Rattle.ps_circuit.specs.Circuits.{CircuitData, IsCircuit};
+ghost use Rattle.ps_circuit.specs.Circuits.{CircuitData, IsCircuit, ReadsGate};
+ghost use Rattle.ps_components.specs.Orders.{IsOrder};
 ghost use Rattle.ps_product.specs.Inner.Nets.{IsGateAt, front_of, in_order, sides_of};
+ghost use Rattle.ps_product.specs.Inner.Ranks.{RanksFall};
 ghost use Rattle.ps_simulate.specs.Plans.{variables, wire_of};
 
 use ps_circuit::Circuit;
@@ -87,6 +89,13 @@ impl<'a> Net<'a> {
     {
         self.circuit
     }
+
+    /// In an order in which each gate comes after those that it reads, variables that a gate reads rank lower than it:
+    /// the prover learns it here.
+    pub fn ranks_fall(&self, order: &[usize])
+        requires { IsOrder (ReadsGate self.now.gates) (length self.now.gates) order.now }
+        ensures { RanksFall self.now order.now }
+    {}
 
     /// How many variables it has.
     pub fn size(&self) -> usize

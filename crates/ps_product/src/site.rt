@@ -41,8 +41,7 @@ impl<'s, 'c> Site<'s, 'c> {
         stack.clear();
         let mut top = place;
         loop {
-            // the loop ends, since in `order` each gate comes after the gates that it reads
-            let _ = order;
+            self.net.ranks_fall(order);
             if let Some(lower) = self.step(known, truths, top)? {
                 stack.push(top)?;
                 top = lower;

@@ -10,11 +10,11 @@ use Rattle.std.proofs.lemmas.List.Elements.{All-push}
 use Rattle.std.proofs.lemmas.List.Quantifiers.{all_pairs_push}
 use Rattle.std.proofs.Math.Nat.{mul_comm}
 use Rattle.std.proofs.lemmas.Nat.{mul-add-lt}
-use Rattle.ps_circuit.specs.Circuits.{CircuitData, ReadsGate}
-use Rattle.ps_components.specs.Orders.{IsOrder}
+use Rattle.ps_circuit.specs.Circuits.{CircuitData}
 use Rattle.ps_product.specs.Inner.Nets.{IsBelow}
+use Rattle.ps_product.specs.Inner.Ranks.{RanksFall, rank}
 use Rattle.ps_product.specs.declared.truth.Truth.{Truth}
-use Rattle.ps_product.proofs.CircuitFunctions.UnknownPlaces.{rank, rank_bound, rank_falls, unknown, unknown-set}
+use Rattle.ps_product.proofs.CircuitFunctions.UnknownPlaces.{rank_bound, unknown, unknown-set}
 use Rattle.ps_simulate.specs.Plans.{variables}
 
 -- the variable with the index p has not been evaluated yet
@@ -69,12 +69,11 @@ module _ (c : CircuitData) (order : List ℕ) where
         (w.falls k (length stack) d lt (omega (arith, many stack top)))
 
     -- the gate on top of the stack needs a variable that has not been evaluated, and this variable is pushed
-    pub waits_more : {more : List ℕ} {lower : ℕ} → IsOrder (ReadsGate c.gates) (length c.gates) order →
-        IsBelow c top lower → get_or known lower None ≡ None → more ≡ (stack ++ top ∷ []) ++ lower ∷ [] →
+    pub waits_more : {more : List ℕ} {lower : ℕ} → RanksFall c order → IsBelow c top lower → get_or known lower None ≡ None → more ≡ (stack ++ top ∷ []) ++ lower ∷ [] →
         Waits c order known place more
-    waits_more {lower = lower} is below none e =
+    waits_more {lower = lower} fall below none e =
         let all = stack ++ top ∷ [] in
-        let less = rank_falls is top lower below in
+        let less = fall top lower below in
         rw e (record {
           falls = all_pairs_push (λ x y. rank c order y < rank c order x) all lower w.falls
               (λ k d lt. elim (cases_lt k (length stack)) [
@@ -90,11 +89,10 @@ module _ (c : CircuitData) (order : List ℕ) where
               omega (arith, none, length-append all (lower ∷ [])));
         })
 
-    pub left_more : {more : List ℕ} {lower : ℕ} → IsOrder (ReadsGate c.gates) (length c.gates) order →
-        IsBelow c top lower → more ≡ (stack ++ top ∷ []) ++ lower ∷ [] →
+    pub left_more : {more : List ℕ} {lower : ℕ} → RanksFall c order → IsBelow c top lower → more ≡ (stack ++ top ∷ []) ++ lower ∷ [] →
         left c order known more < left c order known (stack ++ top ∷ [])
-    left_more {lower = lower} is below e = rw (e, top_rank_push (stack ++ top ∷ []) lower, top_rank_push stack top)
-        (omega (arith, rank_falls is top lower below))
+    left_more {lower = lower} fall below e = rw (e, top_rank_push (stack ++ top ∷ []) lower, top_rank_push stack top)
+        (omega (arith, fall top lower below))
 
     -- the variable on top of the stack is evaluated
     module _ {new : List (Option Truth)} (truth : Truth) (size : length known ≡ length (variables c))
@@ -143,15 +141,15 @@ emptied xs rest n split left none =
 
 module _ (c : CircuitData) (order : List ℕ) (top : ℕ) (front : List ℕ) {known new : List (Option Truth)}
     {place : ℕ} {stack : List ℕ} (w : Waits c order known place stack) (split : stack ≡ front ++ top ∷ []) where
-  module _ (is : IsOrder (ReadsGate c.gates) (length c.gates) order) {lower : ℕ} {more : List ℕ}
+  module _ (fall : RanksFall c order) {lower : ℕ} {more : List ℕ}
       (step : (new ≡ known) × IsBelow c top lower × (get_or known lower None ≡ None))
       (e : more ≡ stack ++ lower ∷ []) where
     pub more_waits : Waits c order new place more
-    more_waits = rw step.0 (waits_more c order top front (rw split at w) is step.1 step.2
+    more_waits = rw step.0 (waits_more c order top front (rw split at w) fall step.1 step.2
         (e ∙ ap (λ (xs : List ℕ). xs ++ lower ∷ []) split))
 
     pub more_left : left c order new more < left c order known stack
-    more_left = rw (step.0, split) (left_more c order top front (rw split at w) is step.1
+    more_left = rw (step.0, split) (left_more c order top front (rw split at w) fall step.1
         (e ∙ ap (λ (xs : List ℕ). xs ++ lower ∷ []) split))
 
   module _ (size : length known ≡ length (variables c)) (step : (truth : Truth) × (new ≡ set known top (Some truth)))

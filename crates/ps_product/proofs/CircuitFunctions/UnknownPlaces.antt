@@ -2,7 +2,7 @@
 -- in the order of evaluation. A variable is given by its place (index).
 use Rattle.std.proofs.Common.{◌≡◌, ℕ, zero, suc, ◌+◌, ◌-◌, ◌<◌, ◌≤◌, inl, inr, List, [], ◌∷◌, length, get_or, set}
 use Rattle.std.proofs.Common.{Option, None, Some, refl, ap, ◌∙◌, arith, nat_eq, not}
-use Rattle.std.specs.Prelude.{nat_lt, if◌then◌else◌, slice_get}
+use Rattle.std.specs.Prelude.{slice_get}
 use Rattle.std.proofs.lemmas.Bool.{eq-eqb, le-ltb, lt-ltb, ne_eqb}
 use Rattle.std.proofs.lemmas.List.Sums.{position_or_len_is, prefix_len-le-length}
 use Rattle.std.proofs.lemmas.Option.{slice_get-get_or, get_or_from_slice_get, slice_get_within}
@@ -10,7 +10,8 @@ use Rattle.std.specs.List.{position_or_len}
 use Rattle.ps_product.specs.declared.truth.Truth.{Truth}
 use Rattle.ps_circuit.specs.Circuits.{CircuitData, ReadsGate}
 use Rattle.ps_components.specs.Orders.{IsOrder}
-use Rattle.ps_product.specs.Inner.Nets.{IsBelow, front_of}
+use Rattle.ps_product.specs.Inner.Nets.{front_of}
+use Rattle.ps_product.specs.Inner.Ranks.{RanksFall, rank}
 
 abbrev pub unknown : List (Option Truth) → ℕ
 unknown [] = 0
@@ -25,11 +26,6 @@ unknown-set (Some other ∷ xs) zero truth lt e = cc
 unknown-set (None ∷ xs) (suc p) truth lt e = ap suc (unknown-set xs p truth (omega arith) e)
 unknown-set (Some other ∷ xs) (suc p) truth lt e = unknown-set xs p truth (omega arith) e
 
--- the rank of a variable is 0 if it is no gate, and otherwise one more than the gate's index in the order of evaluation
-abbrev pub rank : CircuitData → List ℕ → ℕ → ℕ
-rank c order place =
-    if nat_lt place (front_of c) then 0 else suc (position_or_len (λ i. nat_eq i (place - front_of c)) order)
-
 -- if an order has the entry i at the index k, searching the order for i gives k, since i occurs only once
 position_at : {R : ℕ → ℕ → Type 0} {n : ℕ} {order : List ℕ} → IsOrder R n order → (k i : ℕ) →
     slice_get order k ≡ Some i → position_or_len (λ j. nat_eq j i) order ≡ k
@@ -41,10 +37,9 @@ position_at {order = order} is k i at =
     ∙ ap (λ x. Some x) e in
     omega (arith, less, is.once j k i there at))) (λ _. eq-eqb _ _ here)
 
--- each variable that a gate reads has a lower rank than the gate
-pub rank_falls : {c : CircuitData} {order : List ℕ} → IsOrder (ReadsGate c.gates) (length c.gates) order →
-    (place lower : ℕ) → IsBelow c place lower → rank c order lower < rank c order place
-rank_falls {c} {order} is place lower b = elim b.below [
+pub ranks_fall : {c : CircuitData} {order : List ℕ} → IsOrder (ReadsGate c.gates) (length c.gates) order →
+    RanksFall c order
+ranks_fall {c} {order} is = λ place lower b. elim b.below [
   | inl front ↦ rw (lt-ltb lower (front_of c) front, le-ltb place (front_of c) b.behind) (omega arith)
   | inr g ↦
       let i = place - front_of c in

@@ -1,14 +1,8 @@
-use Rattle.std.proofs.Common.{◌≡◌, ◌++◌, ◌∷◌, [], List, ap, refl, length, ℕ}
-use Rattle.ps_circuit.specs.Circuits.{ReadsGate}
-use Rattle.ps_components.specs.Orders.{IsOrder}
+use Rattle.std.proofs.Common.{◌≡◌, ◌++◌, ◌∷◌, [], List, ap, refl, ℕ}
 use Rattle.ps_diagram.proofs.NodeTables.KnownLemmas.{keeps_trans}
 use Rattle.ps_product.proofs.CircuitFunctions.Settling.{emptied, less_left, less_waits, more_left, more_waits}
 use Rattle.ps_product.proofs.site.Site.settle.Goals as goal
 use Rattle.ps_product.proofs.site.Site.settle.Goals.{In_ok-push, In-Some-pop}
-
-order : (c : In_ok-push) →
-    IsOrder (ReadsGate c.args.self.net.now.gates) (length c.args.self.net.now.gates) c.order-order.result.now
-order c = rw c.circuit.ensures.circuit at c.order-order.ensures
 
 -- the variable that must be evaluated first comes next, and the one that needs it waits
 pushed : (c : In_ok-push) → c.push.new.self.items ++ c.in-Some.lower ∷ [] ≡
@@ -19,10 +13,13 @@ pushed c = ap (λ (xs : List ℕ). xs ++ c.in-Some.lower ∷ []) c.in_ok-push.en
 rest : (c : In-Some-pop) → c.loop-lower.stack.items ≡ c.pop.new.self.items ++ c.in-Some-pop.waiting ∷ []
 rest c = rw c.in-Some-pop.is at c.pop.ensures.items
 
+pub ranks_fall-requires : goal.ranks_fall-requires
+ranks_fall-requires c = rw c.circuit.ensures.circuit at c.order-order.ensures
+
 pub loop-lower-smaller-in-Some : goal.loop-lower-smaller-in-Some
 loop-lower-smaller-in-Some c =
     more_left c.args.self.net.now c.order-order.result.now c.loop-lower.top c.loop-lower.stack.items
-    c.loop-lower.invariant.waits refl (order c) (rw c.in-Some.is at c.in_ok-lower.ensures.step) (pushed c)
+    c.loop-lower.invariant.waits refl c.ranks_fall.ensures (rw c.in-Some.is at c.in_ok-lower.ensures.step) (pushed c)
 
 pub loop-lower-preserved-in-Some : goal.loop-lower-preserved-in-Some
 loop-lower-preserved-in-Some c = record {
@@ -31,7 +28,7 @@ loop-lower-preserved-in-Some c = record {
     knows = c.step.ensures.learns.knows;
   };
   waits = more_waits c.args.self.net.now c.order-order.result.now c.loop-lower.top c.loop-lower.stack.items
-      c.loop-lower.invariant.waits refl (order c) (rw c.in-Some.is at c.in_ok-lower.ensures.step) (pushed c);
+      c.loop-lower.invariant.waits refl c.ranks_fall.ensures (rw c.in-Some.is at c.in_ok-lower.ensures.step) (pushed c);
 }
 
 pub loop-lower-smaller : goal.loop-lower-smaller
