@@ -40,9 +40,7 @@ pub fn circuit_of_certificate(
 {
     one_game();
     let machine = machine_of_certificate(alloc, automaton, order, game, certificate)?;
-    // The law `certified_circuit_answers` needs `IsMachine`, which only the contract of `player` gives: so `player` is
-    // called before the machine is freed.
-    let _ = machine.player();
+    machine.parts_fit();
     let circuit = encode(alloc, &machine);
     drop(machine);
     certified_circuit_answers();

@@ -152,7 +152,7 @@ impl Problem {
     {
         valid_regions_are_held();
         no_strategy_wins_outside();
-        let _ = self.game.game.game();
+        self.game.game.parts_fit();
         circuit_of_certificate(alloc, &self.automaton, self.order, &self.game, certificate)
     }
 

@@ -44,9 +44,9 @@ pub struct Short {
 
 /// The winner and a circuit for an HOA text, by a certificate that a free solver may give, although neither the game
 /// nor the certificate is made. `None` where the game has to be built: if the solver is not free, if the player who
-/// moves first has fewer than eight propositions, or if a state's basis would come to too many letters. Fails with the
-/// text's first error, with the reason why its file has no automaton, if the circuit needs more than 2147483647
-/// variables, or if out of memory.
+/// moves first has fewer than eight propositions, or if a state has at least `ps_brief::MOST_LETTERS` minimal letters.
+/// Fails with the text's first error, with the reason why its file has no automaton, if the circuit needs more than
+/// 2147483647 variables, or if out of memory.
 pub fn short_answer<S: Solver>(
     alloc: Global,
     text: &[u8],

@@ -15,7 +15,7 @@ returns-clause-made c =
     let board = board_of c.args.order a in
     let mover = mover_of c.args.order in
     let extracted : IsExtracted c.args.order a game.game.game c.args.certificate.now m = record {
-      is_machine = c.player.ensures.machine.is_machine;
+      is_machine = c.parts_fit.ensures.is_machine;
       propositions = c.in_ok-machine.ensures.propositions;
       machine_of = λ keys is. subst (λ ks. IsMachineOf board mover ks game.game.game c.args.certificate.now m)
           (c.one_game.ensures board mover game.keys.items keys game.game.game game.game.game c.requires.game is).0
@@ -33,7 +33,7 @@ pub returns-clause-answers : goal.returns-clause-answers
 returns-clause-answers c = λ file chain built. c.certified_circuit_answers.ensures file chain c.args.automaton.now
     c.args.order c.args.game.now.keys.items c.args.game.now.game.game c.args.certificate.now
     (behaviour c.in_ok-machine.machine) c.in_ok-circuit.field-0 built c.requires.game c.requires.certified.fits
-    c.requires.certified.valid c.player.ensures.machine.is_machine
+    c.requires.certified.valid c.parts_fit.ensures.is_machine
     c.in_ok-machine.ensures.propositions c.in_ok-machine.ensures.machine c.in_ok-circuit.ensures.encodes
 
 pub returns-in_err-circuit-clause-refused : goal.returns-in_err-circuit-clause-refused
@@ -44,7 +44,7 @@ returns-in_err-circuit-clause-refused c =
     let board = board_of c.args.order a in
     let mover = mover_of c.args.order in
     let extracted : IsExtracted c.args.order a game.game.game c.args.certificate.now m = record {
-      is_machine = c.player.ensures.machine.is_machine;
+      is_machine = c.parts_fit.ensures.is_machine;
       propositions = c.in_ok-machine.ensures.propositions;
       machine_of = λ keys is. subst (λ ks. IsMachineOf board mover ks game.game.game c.args.certificate.now m)
           (c.one_game.ensures board mover game.keys.items keys game.game.game game.game.game c.requires.game is).0

@@ -9,14 +9,15 @@ use Rattle.ps_synthesis.proofs.short.answer_of_automaton.Goals as goal
 
 pub returns-clause-short : goal.returns-clause-short
 returns-clause-short c = λ file chain admitted built. (
-    let brief = rw c.in-Some.is at c.in_ok-machine.ensures in
+    let brief = rw c.in-Some.is at c.in_ok-machine.ensures.machine in
     let made = c.in_ok-short.ensures in
-    short_is c.args.order file chain c.args.automaton.now built (bit_behaviour c.in-Some.machine) c.encoded-short.ensures.machine brief
+    short_is c.args.order file chain c.args.automaton.now built (bit_behaviour c.in-Some.machine)
+    c.encoded-short.ensures.machine brief
     admitted c.in_ok-short.field-0 made.realizable made.encodes made.tidy made.wired)
 
 pub returns-in_err-short-clause-refused : goal.returns-in_err-short-clause-refused
 returns-in_err-short-clause-refused c = λ file chain admitted built. (
-    let brief = rw c.in-Some.is at c.in_ok-machine.ensures in
+    let brief = rw c.in-Some.is at c.in_ok-machine.ensures.machine in
     let given = c.in_err-short.field-0.0 in
     err_passed (IsFaultOfFile AnswersLeast c.args.order file) (of_circuit given) (short_cause c.args.order file chain
     c.args.automaton.now built (bit_behaviour c.in-Some.machine) c.encoded-short.ensures.machine brief admitted given

@@ -16,7 +16,7 @@ returns-clause-circuit c = λ order text. (
     let made = c.circuit_of_certificate in
     let certified = subst (λ (q : ProblemData). IsCertified q.game certificate) (sym c.self.view_is) c.requires in
     let hold = c.valid_regions_are_held.ensures p.game.game certificate certified.fits certified.valid in
-    let outside = c.no_strategy_wins_outside.ensures p.game.game certificate c.game.ensures.well_formed.is_game
+    let outside = c.no_strategy_wins_outside.ensures p.game.game certificate c.parts_fit.ensures.is_game
     certified.fits certified.valid in
     subst (λ (q : ProblemData). IsProblemOf order text q →
     IfOk made.result (λ circuit. IsWinnersSynthesis (ReturnsOnly q.game certificate) order text
