@@ -1,9 +1,6 @@
 -- Whether a circuit wins for a formula, from the words of its lasso traces.
 
 pub mod JudgingLemmas
-pub mod LassoWalks
 pub mod PartSentences
 pub mod Refuting
-pub mod Rotations
 pub mod WinningLemmas
-pub mod WordSteps

@@ -1,5 +1,2 @@
+pub mod ComparedAutomata
 pub mod JudgedCircuits
-pub mod FairProducts
-pub mod TableauStates
-pub mod JointProducts
-pub mod MeetingLemmas

@@ -1,7 +1,4 @@
 pub mod Judgements
-pub mod Products
-pub mod ProductGraphs
-pub mod BoardStates
 pub mod Sentences
 pub mod Agreements
 pub mod AgreementFaultNames

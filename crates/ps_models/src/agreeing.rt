@@ -6,21 +6,20 @@ ghost use Rattle.ps_automaton.specs.Chains.{Chain};
 ghost use Rattle.ps_fairness.specs.Marks.{IsFairCycle};
 ghost use Rattle.ps_formula.specs.Formulas.{formula_at, not_of};
 ghost use Rattle.ps_hoa.specs.Files.{FileData};
+ghost use Rattle.ps_tableau_product.specs.JointGraphs.{IsJointOf, capped_graph, marks_at};
+ghost use Rattle.ps_tableau_product.specs.Joints.{read_by};
 ghost use Rattle.ps_models.specs.Agreements.{ArePropositionsOf, IsAgreementOf, IsAgreementRefusal};
 ghost use Rattle.ps_models.specs.Inner.Comparing.{IsComparison, ArePlaces, HasNoCycle, IsHalfTold, IsLassoAt};
 ghost use Rattle.ps_models.specs.Inner.Comparing.{IsLassoIf, IsLassoTold};
-ghost use Rattle.ps_models.specs.Inner.JointGraphs.{IsJointOf, capped_graph, marks_at};
-ghost use Rattle.ps_models.specs.Inner.Joints.{read_by};
 ghost use Rattle.ps_models.specs.Sentences.{named_formula};
 
 use crate::agreement::{Agreement, AgreementFault, Lasso};
-use crate::joint::{Capped, JointGraph};
-use crate::joint_plan::JointPlan;
 use crate::sentence::Sentence;
 use ps_automaton::Automaton;
 use ps_fairness::{Edge, fair_cycle, walk_to};
 use ps_simulate::{is_in_list, proposition_of};
 use ps_tableau::Tableau;
+use ps_tableau_product::{Capped, JointGraph, JointPlan};
 use std::alloc::{AllocError, Global};
 
 /// Decides whether the automaton accepts exactly the lassos that satisfy the formula. If not, the result is a lasso on

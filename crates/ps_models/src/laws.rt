@@ -20,11 +20,12 @@ ghost use Rattle.ps_simulate.specs.declared.role.Role.{Role};
 ghost use Rattle.ps_simulate.specs.declared.role.Role.TheVariants.{Environment};
 ghost use Rattle.ps_traces.specs.Shapes.{IsInTimeWhereReached};
 ghost use Rattle.ps_traces.specs.Traces.{IsLassoWord};
-ghost use Rattle.ps_models.specs.BoardStates.{AreStatesOf, tableau_of_states};
+ghost use Rattle.ps_tableau_product.specs.BoardStates.{AreStatesOf, tableau_of_states};
+ghost use Rattle.ps_tableau_product.specs.ProductGraphs.{IsProductGraph, ProductGraph, edges_in};
+ghost use Rattle.ps_tableau_product.specs.Products.{ModelEdge, HasFairLasso, IsFairLasso, IsTableauFor, edge_letters};
+ghost use Rattle.ps_tableau_product.specs.Products.{opposed};
+ghost use Rattle.ps_tableau_product.specs.Products.{start_vertex, stimulus_of};
 ghost use Rattle.ps_models.specs.Judgements.{IsLosingFor, IsSatisfied, IsWinningFor, NamedFormula};
-ghost use Rattle.ps_models.specs.ProductGraphs.{IsProductGraph, ProductGraph, edges_in};
-ghost use Rattle.ps_models.specs.Products.{ModelEdge, HasFairLasso, IsFairLasso, IsTableauFor, edge_letters, opposed};
-ghost use Rattle.ps_models.specs.Products.{start_vertex, stimulus_of};
 
 use ps_simulate::circuit_has_one_values;
 

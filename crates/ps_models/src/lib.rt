@@ -9,8 +9,7 @@
 //! with the automaton decide that. In the product with the tableau of the negated formula, a fair lasso whose greatest
 //! repeated priority is even is accepted although it violates the formula. In the product with the tableau of the
 //! formula, a fair lasso whose greatest repeated priority is odd is rejected although it satisfies the formula. A fair
-//! lasso for the priority d is sought among the edges of priorities up to d. Those of the priority d bear a further
-//! mark.
+//! lasso for the priority d is sought among the edges of priorities up to d.
 //!
 //! | Call | What it gives |
 //! |---|---|
@@ -30,22 +29,9 @@
 mod agreeing;
 mod agreement;
 pub mod agreement_laws;
-mod alphabet;
-mod composed;
-mod exploring;
-mod graph;
-mod joining;
-mod joint;
-mod joint_plan;
 pub mod laws;
-mod meetings;
-mod plan;
-mod readings;
 mod satisfying;
 mod sentence;
-mod states;
-mod steps;
-mod views;
 
 pub use agreeing::agreed;
 pub use agreement::{Agreement, AgreementFault, Lasso};

@@ -10,12 +10,12 @@ use Rattle.ps_simulate.specs.declared.role.Role.{Role}
 use Rattle.ps_traces.specs.Inputs.{inputs_of}
 use Rattle.ps_verify.specs.declared.judgement.Judgement.{Judgement}
 use Rattle.ps_verify.specs.declared.judgement.Judgement.TheVariants.{Wins, Loses}
-use Rattle.ps_models.specs.Inner.Graphs.{GraphData, IsModelGraph, graph_of, inputs_along, marks_of}
+use Rattle.ps_tableau_product.specs.Graphs.{GraphData, IsModelGraph, graph_of, inputs_along, marks_of}
+use Rattle.ps_tableau_product.specs.Readings.{IsSlotOf}
+use Rattle.ps_tableau_product.specs.ProductGraphs.{ProductGraph, edges_in}
+use Rattle.ps_tableau_product.specs.Products.{edge_moments, opposed, stimulus_of}
 use Rattle.ps_models.specs.Inner.Judging.{IsTold}
-use Rattle.ps_models.specs.Inner.Readings.{IsSlotOf}
 use Rattle.ps_models.specs.Judgements.{IsJudgementFor, IsLosingFor, IsWinningFor, NamedFormula}
-use Rattle.ps_models.specs.ProductGraphs.{ProductGraph, edges_in}
-use Rattle.ps_models.specs.Products.{edge_moments, opposed, stimulus_of}
 
 -- ## Judgements
 

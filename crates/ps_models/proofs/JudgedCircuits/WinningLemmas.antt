@@ -21,13 +21,13 @@ use Rattle.ps_traces.proofs.Inputs.{each_goes_on}
 use Rattle.ps_traces.proofs.Meetings.{in_lasso}
 use Rattle.ps_traces.proofs.OneMeeting.{meeting_is_one}
 use Rattle.ps_traces.proofs.StepLetters.{letters_there}
+use Rattle.ps_tableau_product.specs.ProductGraphs.{IsProductGraph, ProductGraph}
+use Rattle.ps_tableau_product.specs.Products.{HasFairLasso, IsTableauFor, opposed, start_vertex}
+use Rattle.ps_tableau_product.proofs.FairProducts.HavingLassos.{has_fair_lasso}
+use Rattle.ps_tableau_product.proofs.FairProducts.HavingCycles.{has_fair_cycle}
+use Rattle.ps_tableau_product.proofs.LassoWords.WordSteps.{some_letter}
 use Rattle.ps_models.specs.Judgements.{AllSatisfied, IsLosingFor, IsSatisfied, IsViolated, IsWinningFor, NamedFormula}
 use Rattle.ps_models.specs.Judgements.{NoneSatisfied}
-use Rattle.ps_models.specs.ProductGraphs.{IsProductGraph, ProductGraph}
-use Rattle.ps_models.specs.Products.{HasFairLasso, IsTableauFor, opposed, start_vertex}
-use Rattle.ps_models.proofs.FairProducts.HavingLassos.{has_fair_lasso}
-use Rattle.ps_models.proofs.FairProducts.HavingCycles.{has_fair_cycle}
-use Rattle.ps_models.proofs.JudgedCircuits.WordSteps.{some_letter}
 use Rattle.ps_models.proofs.JudgedCircuits.Refuting.{losing_by, losing_word}
 
 pub wrong_by : (role : Role) (f : NamedFormula) (stem lap : List ℕ) →

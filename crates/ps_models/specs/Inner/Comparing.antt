@@ -6,12 +6,12 @@ use Rattle.ps_automaton.specs.Chains.{is_even}
 use Rattle.ps_fairness.specs.Marks.{IsFairCycle, Leads}
 use Rattle.ps_fairness.specs.declared.edge.Edge.{Edge}
 use Rattle.ps_simulate.specs.Symbols.{IsPropositionOf}
+use Rattle.ps_tableau_product.specs.JointGraphs.{JointData, capped_graph, joint_graph, letter_along, marks_at}
+use Rattle.ps_tableau_product.specs.declared.joint_plan.JointPlan.{JointPlan}
 use Rattle.ps_models.specs.Agreements.{AcceptsByName, IsAcceptedWrongly, IsLassoOver, IsRejectedWrongly}
-use Rattle.ps_models.specs.Inner.JointGraphs.{JointData, capped_graph, joint_graph, letter_along, marks_at}
 use Rattle.ps_models.specs.Judgements.{IsSatisfied, NamedFormula}
 use Rattle.ps_models.specs.Sentences.{named_formula}
 use Rattle.ps_models.specs.declared.agreement.Lasso.{Lasso}
-use Rattle.ps_models.specs.declared.joint_plan.JointPlan.{JointPlan}
 use Rattle.ps_models.specs.declared.sentence.Sentence.{Sentence}
 
 -- the numbers that the automaton's first propositions have in the formula, where they have the same names and players

@@ -5,7 +5,7 @@ use Rattle.ps_fairness.specs.declared.edge.Edge.{Edge}
 use Rattle.ps_simulate.specs.Stimuli.{StimulusData}
 use Rattle.ps_verify.specs.declared.judgement.Judgement.{Judgement}
 use Rattle.ps_verify.specs.declared.judgement.Judgement.TheVariants.{Wins, Loses}
-use Rattle.ps_models.specs.Inner.Graphs.{GraphData, graph_of, inputs_along, marks_of}
+use Rattle.ps_tableau_product.specs.Graphs.{GraphData, graph_of, inputs_along, marks_of}
 
 -- the stimulus is what the circuit reads on a way from the first vertex to a fair cycle, and along the cycle
 pub record IsRefutation (g : GraphData) (s : StimulusData) : Type 0 where

@@ -4,10 +4,10 @@ use Rattle.ps_automaton.specs.Automata.{auto_of}
 use Rattle.ps_formula.specs.Formulas.{not_of}
 use Rattle.ps_hoa.specs.Memory.{bytes_of}
 use Rattle.ps_product.proofs.CircuitFunctions.GroupLemmas.{ok_map}
-use Rattle.ps_models.specs.Inner.JointGraphs.{IsJointOf}
-use Rattle.ps_models.specs.Inner.Joints.{read_by}
+use Rattle.ps_tableau_product.specs.JointGraphs.{IsJointOf}
+use Rattle.ps_tableau_product.specs.Joints.{read_by}
 use Rattle.ps_models.specs.Sentences.{named_formula}
-use Rattle.ps_models.proofs.JointProducts.Halves.{built_places, half_told}
+use Rattle.ps_models.proofs.ComparedAutomata.Halves.{built_places, half_told}
 use Rattle.ps_models.proofs.agreeing.difference.Goals as goal
 
 pub returns : goal.returns

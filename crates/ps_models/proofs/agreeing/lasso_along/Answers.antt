@@ -1,9 +1,9 @@
 use Rattle.std.proofs.Common.{ap, arith, get_or, map, subst, ◌∙◌, ℕ}
 use Rattle.ps_fairness.specs.Marks.{Leads}
 use Rattle.ps_fairness.specs.declared.edge.Edge.{Edge}
-use Rattle.ps_models.specs.Inner.JointGraphs.{capped_graph, joint_graph, letter_along}
-use Rattle.ps_models.proofs.JointProducts.JointReadings.{capped_slots, joint_slots}
-use Rattle.ps_models.proofs.JointProducts.JointWalks.{first_on}
+use Rattle.ps_tableau_product.specs.JointGraphs.{capped_graph, joint_graph, letter_along}
+use Rattle.ps_tableau_product.proofs.JointProducts.JointWalks.{first_on}
+use Rattle.ps_models.proofs.ComparedAutomata.JointReadings.{capped_slots, joint_slots}
 use Rattle.ps_models.proofs.agreeing.lasso_along.Goals as goal
 
 abbrev no_edge : Edge
@@ -13,7 +13,8 @@ pub walk_to-requires : goal.walk_to-requires
 walk_to-requires c =
     let cycle = c.requires in
     let first =
-    first_on (capped_graph c.args.capped.graph.now c.args.capped.priority) cycle.start cycle.start c.args.cycle.now no_edge
+    first_on (capped_graph c.args.capped.graph.now c.args.capped.priority) cycle.start cycle.start c.args.cycle.now
+    no_edge
     cycle.some cycle.returns in
     omega (arith, first.1)
 
@@ -32,7 +33,8 @@ pub returns : goal.returns
 returns c =
     let g = c.args.capped.graph.now in
     let cycle = c.requires in
-    let first = first_on (capped_graph g c.args.capped.priority) cycle.start cycle.start c.args.cycle.now no_edge cycle.some
+    let first =
+    first_on (capped_graph g c.args.capped.priority) cycle.start cycle.start c.args.cycle.now no_edge cycle.some
     cycle.returns in
     let stem = c.in-Some.walk.items in
     let found = rw c.in-Some.is at c.in_ok-walk.ensures.found in
@@ -51,7 +53,8 @@ pub unreachable-requires : goal.unreachable-requires
 unreachable-requires c =
     let g = c.args.capped.graph.now in
     let cycle = c.requires in
-    let first = first_on (capped_graph g c.args.capped.priority) cycle.start cycle.start c.args.cycle.now no_edge cycle.some
+    let first =
+    first_on (capped_graph g c.args.capped.priority) cycle.start cycle.start c.args.cycle.now no_edge cycle.some
     cycle.returns in
     let none = rw c.in_default.is at c.in_ok-walk.ensures.none in
     none (c.parts_fit.ensures.joined (get_or c.args.cycle.now 0 no_edge).vertex first.1)

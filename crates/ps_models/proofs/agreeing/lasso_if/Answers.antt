@@ -1,6 +1,6 @@
 use Rattle.std.proofs.Common.{arith}
 use Rattle.ps_product.proofs.CircuitFunctions.GroupLemmas.{ok_map}
-use Rattle.ps_models.proofs.JointProducts.JointReadings.{if_even}
+use Rattle.ps_models.proofs.ComparedAutomata.JointReadings.{if_even}
 use Rattle.ps_models.proofs.agreeing.lasso_if.Goals as goal
 
 pub returns : goal.returns

@@ -3,7 +3,7 @@ use Rattle.std.specs.Prelude.{Contains}
 use Rattle.std.proofs.lemmas.Bool.{cases_lt}
 use Rattle.ps_automaton.specs.Chains.{is_even}
 use Rattle.ps_models.specs.Inner.Comparing.{HasNoCycle}
-use Rattle.ps_models.proofs.JointProducts.JointReadings.{no_cycle_else, none_if, told_if}
+use Rattle.ps_models.proofs.ComparedAutomata.JointReadings.{no_cycle_else, none_if, told_if}
 use Rattle.ps_models.proofs.agreeing.lasso_of.Goals as goal
 
 pub returns-then-is_some : goal.returns-then-is_some

@@ -6,7 +6,7 @@ use Rattle.ps_hoa.specs.Memory.{bytes_of}
 use Rattle.ps_simulate.proofs.NamingLemmas.{name_at}
 use Rattle.ps_models.specs.Inner.Comparing.{ArePlacesUpTo}
 use Rattle.ps_models.specs.Sentences.{named_formula}
-use Rattle.ps_models.proofs.JointProducts.NameReadings.{no_place, places_more}
+use Rattle.ps_models.proofs.ComparedAutomata.NameReadings.{no_place, places_more}
 use Rattle.ps_models.proofs.agreeing.places_of.Goals as goal
 
 pub returns-in_default-clause-none : goal.returns-in_default-clause-none

@@ -1,6 +1,6 @@
 use Rattle.ps_models.specs.Sentences.{named_formula}
-use Rattle.ps_models.proofs.JointProducts.Halves.{built_places}
-use Rattle.ps_models.proofs.JointProducts.NameReadings.{places_propositions}
+use Rattle.ps_models.proofs.ComparedAutomata.Halves.{built_places}
+use Rattle.ps_models.proofs.ComparedAutomata.NameReadings.{places_propositions}
 use Rattle.ps_models.proofs.agreeing.rest_compared.Goals as goal
 
 pub returns-in-Some : goal.returns-in-Some

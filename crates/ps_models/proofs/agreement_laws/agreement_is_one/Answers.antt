@@ -1,4 +1,4 @@
-use Rattle.ps_models.proofs.JointProducts.AgreementLemmas.{agreeing}
+use Rattle.ps_models.proofs.ComparedAutomata.AgreementLemmas.{agreeing}
 use Rattle.ps_models.proofs.agreement_laws.agreement_is_one.Goals as goal
 
 pub returns-clause-agrees : goal.returns-clause-agrees

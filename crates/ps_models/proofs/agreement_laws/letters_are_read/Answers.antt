@@ -1,4 +1,4 @@
-use Rattle.ps_models.proofs.JointProducts.AgreementLemmas.{one_reading_there}
+use Rattle.ps_models.proofs.ComparedAutomata.AgreementLemmas.{one_reading_there}
 use Rattle.ps_models.proofs.agreement_laws.letters_are_read.Goals as goal
 
 pub returns : goal.returns

@@ -1,7 +1,7 @@
-use Rattle.ps_models.proofs.FairProducts.GraphLassos.{lasso_of_cycle}
+use Rattle.ps_tableau_product.proofs.FairProducts.GraphLassos.{lasso_of_cycle}
+use Rattle.ps_tableau_product.specs.ProductGraphs.{edges_in}
+use Rattle.ps_tableau_product.specs.Products.{start_vertex}
 use Rattle.ps_models.proofs.JudgedCircuits.WinningLemmas.{wins_without_cycle}
-use Rattle.ps_models.specs.ProductGraphs.{edges_in}
-use Rattle.ps_models.specs.Products.{start_vertex}
 use Rattle.ps_models.proofs.laws.fair_cycle_decides.Goals as goal
 
 pub returns : goal.returns

@@ -1,7 +1,7 @@
+use Rattle.ps_tableau_product.proofs.FairProducts.FairLassos.{satisfied, word_of}
+use Rattle.ps_tableau_product.specs.Products.{edge_letters, opposed}
 use Rattle.ps_models.proofs.JudgedCircuits.WinningLemmas.{lasso_of_losing, wins_without_lasso, wrong_by}
-use Rattle.ps_models.proofs.FairProducts.FairLassos.{satisfied, word_of}
 use Rattle.ps_models.proofs.JudgedCircuits.Refuting.{losing_by}
-use Rattle.ps_models.specs.Products.{edge_letters, opposed}
 use Rattle.ps_models.proofs.laws.fair_lasso_decides.Goals as goal
 
 pub returns : goal.returns

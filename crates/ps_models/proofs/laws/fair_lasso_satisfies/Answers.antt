@@ -1,4 +1,4 @@
-use Rattle.ps_models.proofs.FairProducts.FairLassos.{satisfied, word_of}
+use Rattle.ps_tableau_product.proofs.FairProducts.FairLassos.{satisfied, word_of}
 use Rattle.ps_models.proofs.laws.fair_lasso_satisfies.Goals as goal
 
 pub returns-clause-word : goal.returns-clause-word

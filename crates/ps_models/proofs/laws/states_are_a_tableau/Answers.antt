@@ -1,4 +1,4 @@
-use Rattle.ps_models.proofs.TableauStates.BoardTableaux.{is_tableau_for}
+use Rattle.ps_tableau_product.proofs.TableauStates.BoardTableaux.{is_tableau_for}
 use Rattle.ps_models.proofs.laws.states_are_a_tableau.Goals as goal
 
 pub returns : goal.returns

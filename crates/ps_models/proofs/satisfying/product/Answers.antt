@@ -2,7 +2,7 @@ use Rattle.std.proofs.Common.{map, subst, sym}
 use Rattle.ps_formula.specs.Formulas.{Formula, formula_at}
 use Rattle.ps_hoa.specs.Memory.{bytes_of}
 use Rattle.ps_product.proofs.CircuitFunctions.GroupLemmas.{ok_map}
-use Rattle.ps_models.specs.Inner.Graphs.{IsModelGraph}
+use Rattle.ps_tableau_product.specs.Graphs.{IsModelGraph}
 use Rattle.ps_models.proofs.satisfying.product.Goals as goal
 
 pub returns : goal.returns

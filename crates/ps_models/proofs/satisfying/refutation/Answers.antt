@@ -1,8 +1,8 @@
 use Rattle.std.proofs.Common.{ap, arith, get_or, map, subst, ◌∙◌, ℕ}
 use Rattle.ps_fairness.specs.Marks.{Leads}
 use Rattle.ps_fairness.specs.declared.edge.Edge.{Edge}
-use Rattle.ps_models.specs.Inner.Graphs.{graph_of, inputs_along}
-use Rattle.ps_models.proofs.FairProducts.AddLemmas.{ok_two}
+use Rattle.ps_tableau_product.specs.Graphs.{graph_of, inputs_along}
+use Rattle.ps_tableau_product.proofs.FairProducts.AddLemmas.{ok_two}
 use Rattle.ps_models.proofs.JudgedCircuits.JudgingLemmas.{first_of_walk, slots_of}
 use Rattle.ps_models.proofs.satisfying.refutation.Goals as goal
 

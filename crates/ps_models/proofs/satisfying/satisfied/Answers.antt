@@ -9,7 +9,8 @@ returns-clause-judged c =
     let part = c.in_ok-part.ensures.part in
     let is_circuit = c.parts_fit.ensures in
     ok_map _ _ c.satisfied_by_all.result c.satisfied_by_all.ensures.judged (λ judgement told.
-    sentence_judged_alike c.args.order c.args.role (named_formula c.args.sentence) part c.args.sentence.distinct is_circuit
+    sentence_judged_alike c.args.order c.args.role (named_formula c.args.sentence) part c.args.sentence.distinct
+    is_circuit
     (c.circuit_has_one_values.ensures c.args.circuit.now is_circuit) judgement told)
 
 pub returns-clause-refused : goal.returns-clause-refused

@@ -1,0 +1,9 @@
+pub mod Products
+pub mod ProductGraphs
+pub mod BoardStates
+pub mod Graphs
+pub mod Plans
+pub mod Readings
+pub mod Joints
+pub mod JointGraphs
+pub mod Inner
