@@ -6,6 +6,7 @@ pub mod CircuitLemmas
 pub mod CompareLemmas
 pub mod JudgeLemmas
 pub mod LassoAnswers
+pub mod MixedLemmas
 pub mod OutcomeLemmas
 pub mod SolverLemmas
 pub mod SynthLemmas

@@ -8,6 +8,7 @@ use Rattle.ps_automaton.specs.Answers.{IsAdmitted, IsRefused}
 use Rattle.ps_automaton.specs.Automata.{AutomatonData, IsBuiltFrom}
 use Rattle.ps_automaton.specs.Chains.{Chain}
 use Rattle.ps_automaton.specs.declared.fault.AutomatonFault.{AutomatonFault}
+use Rattle.ps_mixing.specs.MixedOrSame.{IsFileOrMixed}
 use Rattle.ps_program.specs.declared.answer.Refusal.{Refusal}
 use Rattle.ps_program.specs.declared.answer.Refusal.TheVariants as refusal
 use Rattle.ps_program.specs.Faults.{fault_text}
@@ -27,9 +28,17 @@ Builds file (Err line) = (fault : AutomatonFault) × IsRefused file fault × (au
 abbrev pub ReadsAutomaton : List ℕ → Result FileData (List ℕ) → Type 0
 ReadsAutomaton text = Then (ReadsHoaText text) Builds
 
--- the result for an HOA text: its automaton, or the line that reports the first fault, or `OutOfMemory`
-abbrev pub GivesAutomaton : List ℕ → Result AutomatonData Refusal → Type 0
-GivesAutomaton text (Ok automaton) =
-    (file : FileData) × ReadsAutomaton text (Ok file) × ((chain : Chain) × IsBuiltFrom file chain automaton)
-GivesAutomaton text (Err (refusal.Fault fault)) = ReadsAutomaton text (Err (fault_text fault))
-GivesAutomaton text (Err refusal.OutOfMemory) = ⊤
+-- the result for an HOA text: an automaton that `IsFor` allows for its file, or the line that reports the first fault,
+-- or `OutOfMemory`
+abbrev pub GivesAutomaton : (IsFor : FileData → AutomatonData → Type 0) → List ℕ → Result AutomatonData Refusal → Type 0
+GivesAutomaton IsFor text (Ok automaton) = (file : FileData) × ReadsAutomaton text (Ok file) × IsFor file automaton
+GivesAutomaton IsFor text (Err (refusal.Fault fault)) = ReadsAutomaton text (Err (fault_text fault))
+GivesAutomaton IsFor text (Err refusal.OutOfMemory) = ⊤
+
+-- the automaton of the file
+abbrev pub IsOfFile : FileData → AutomatonData → Type 0
+IsOfFile file automaton = (chain : Chain) × IsBuiltFrom file chain automaton
+
+-- the automaton of the file, or of a mixed file of it
+abbrev pub IsOfFileOrMixed : FileData → AutomatonData → Type 0
+IsOfFileOrMixed file automaton = (other : FileData) × IsFileOrMixed file other × IsOfFile other automaton

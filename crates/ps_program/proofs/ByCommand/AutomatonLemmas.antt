@@ -3,11 +3,12 @@ use Rattle.std.proofs.Common.{rules, arith, ◌≡◌, ℕ, List, Result, Ok, Er
 use Rattle.std.specs.Prelude.{Option, None, Some}
 use Rattle.ps_automaton.specs.Automata.{AutomatonData}
 use Rattle.ps_hoa.specs.Files.{FileData}
+use Rattle.ps_synthesis.specs.MixedAutomata.{IsMixedAutomatonOf}
 use Rattle.ps_synthesis.specs.Stages.{IsAutomatonOf, IsTextFault}
 use Rattle.ps_synthesis.specs.declared.fault.SynthFault.{SynthFault}
 use Rattle.ps_program.specs.declared.answer.Refusal.{Refusal}
 use Rattle.ps_program.specs.declared.answer.Refusal.TheVariants as refusal
-use Rattle.ps_program.specs.Automata.{GivesAutomaton, ReadsAutomaton}
+use Rattle.ps_program.specs.Automata.{GivesAutomaton, IsOfFile, IsOfFileOrMixed, ReadsAutomaton}
 use Rattle.ps_program.specs.Outcomes.{Gives}
 use Rattle.ps_program.specs.StageFaults.{IsTold, stage_line}
 
@@ -25,19 +26,24 @@ pub text_refused : (text : List ℕ) (fault : SynthFault) (line : List ℕ) → 
 unfolding some_or
 text_refused text fault line reads told = search (rules, no_line)
 
-gives_refused : (text : List ℕ) (fault : SynthFault) (refused : Refusal) → IsTextFault text fault →
-    IsTold fault refused → GivesAutomaton text (Err refused)
-gives_refused text fault refused cause told = search (rules, text_refused)
-
-pub gives_text_fault : (text : List ℕ) (fault : SynthFault) (result : Result AutomatonData Refusal) →
-    IsTextFault text fault → IsErrAnd result (λ refused. IsTold fault refused) → GivesAutomaton text result
-gives_text_fault text fault result cause told = grind (arith, gives_refused)
-
-pub gives_automaton : (text : List ℕ) (a : AutomatonData) → IsAutomatonOf text a → GivesAutomaton text (Ok a)
+pub gives_automaton : (text : List ℕ) (a : AutomatonData) → IsAutomatonOf text a → GivesAutomaton IsOfFile text (Ok a)
 gives_automaton text a of = grind arith
 
--- why there is no automaton is also why there is no file that has one
-pub automaton_failed : (text : List ℕ) (refused : Refusal) → GivesAutomaton text (Err refused) →
-    Gives {X = FileData} (λ file. file) (ReadsAutomaton text) (Err refused)
-automaton_failed text (refusal.Fault fault) h = h
-automaton_failed text refusal.OutOfMemory h = tt
+pub gives_mixed_automaton : (text : List ℕ) (a : AutomatonData) → IsMixedAutomatonOf text a →
+    GivesAutomaton IsOfFileOrMixed text (Ok a)
+gives_mixed_automaton text a of = grind arith
+
+module _ (IsFor : FileData → AutomatonData → Type 0) (text : List ℕ) where
+  gives_refused : (fault : SynthFault) (refused : Refusal) → IsTextFault text fault → IsTold fault refused →
+      GivesAutomaton IsFor text (Err refused)
+  gives_refused fault refused cause told = search (rules, text_refused)
+
+  pub gives_text_fault : (fault : SynthFault) (result : Result AutomatonData Refusal) → IsTextFault text fault →
+      IsErrAnd result (λ refused. IsTold fault refused) → GivesAutomaton IsFor text result
+  gives_text_fault fault result cause told = grind (arith, gives_refused)
+
+  -- why there is no automaton is also why there is no file that has one
+  pub automaton_failed : (refused : Refusal) → GivesAutomaton IsFor text (Err refused) →
+      Gives {X = FileData} (λ file. file) (ReadsAutomaton text) (Err refused)
+  automaton_failed (refusal.Fault fault) h = h
+  automaton_failed refusal.OutOfMemory h = tt

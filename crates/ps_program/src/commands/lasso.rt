@@ -10,7 +10,7 @@ ghost use Rattle.ps_program.specs.Outcomes.{Gives};
 ghost use Rattle.ps_program.specs.Replies.{reply_of};
 
 use crate::answer::{Answer, Refusal};
-use crate::automata::read_automaton;
+use crate::automata::read_mixed_automaton;
 use crate::fault::{FaultLine, Place};
 use crate::texts::{read_circuit, read_stimulus, three_texts};
 use ps_automaton::Automaton;
@@ -25,7 +25,7 @@ pub fn lasso(alloc: Global, role: Role, texts: &[u8]) -> Result<Answer, Refusal>
     ensures { Gives reply_of (AnswersLasso role texts.now) result }
 {
     let (hoa, aag, letters) = three_texts(texts)?;
-    let automaton = read_automaton(alloc, hoa)?;
+    let automaton = read_mixed_automaton(alloc, hoa)?;
     run_circuit(alloc, role, &automaton, aag, letters)
 }
 

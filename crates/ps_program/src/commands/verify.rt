@@ -12,7 +12,7 @@ ghost use Rattle.ps_program.specs.Commands.Verifying as verifying;
 ghost use Rattle.ps_program.specs.Commands.Verifying.{AnswersVerify, TellsJudgement, VerifiesText, letter_lines};
 
 use crate::answer::{Answer, Refusal};
-use crate::automata::read_automaton;
+use crate::automata::read_mixed_automaton;
 use crate::commands::sim::write_bits;
 use crate::fault::{FaultLine, Place};
 use crate::texts::{read_circuit, two_texts};
@@ -31,7 +31,7 @@ pub fn verify(alloc: Global, order: Order, role: Role, texts: &[u8]) -> Result<A
     ensures { Gives reply_of (AnswersVerify order role texts.now) result }
 {
     let (hoa, aag) = two_texts(texts)?;
-    let automaton = read_automaton(alloc, hoa)?;
+    let automaton = read_mixed_automaton(alloc, hoa)?;
     verify_text(alloc, order, role, &automaton, aag)
 }
 

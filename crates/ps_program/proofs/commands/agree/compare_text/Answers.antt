@@ -1,6 +1,6 @@
 use Rattle.ps_hoa.specs.Files.{FileData}
 use Rattle.ps_tlsf.specs.SpecificationViews.{specification_data}
-use Rattle.ps_program.specs.Automata.{ReadsAutomaton}
+use Rattle.ps_program.specs.Automata.{IsOfFile, ReadsAutomaton}
 use Rattle.ps_program.specs.Commands.Comparing.{ComparesText, TellsAgreement}
 use Rattle.ps_program.specs.Replies.{reply_of}
 use Rattle.ps_program.proofs.ByCommand.AutomatonLemmas.{automaton_failed}
@@ -13,7 +13,7 @@ returns-in_err-automaton c =
     let fault = c.in_err-automaton.field-0.0 in
     gives_passed reply_of (ComparesText spec c.args.hoa.now) _ _ c.from_residual.ensures.1
     (gives_failed {X = FileData} {V = FileData} (λ file. file) (ReadsAutomaton c.args.hoa.now) reply_of
-    (TellsAgreement spec) fault (automaton_failed c.args.hoa.now fault c.in_err-automaton.ensures))
+    (TellsAgreement spec) fault (automaton_failed IsOfFile c.args.hoa.now fault c.in_err-automaton.ensures))
 
 pub returns : goal.returns
 returns c =

@@ -1,9 +1,10 @@
 use Rattle.ps_hoa.specs.Files.{FileData}
-use Rattle.ps_program.specs.Automata.{ReadsAutomaton}
+use Rattle.ps_program.specs.Automata.{IsOfFileOrMixed, ReadsAutomaton}
 use Rattle.ps_program.specs.Commands.Lassos.{AnswersLasso, RunsCircuit}
 use Rattle.ps_program.specs.Replies.{reply_of}
 use Rattle.ps_program.specs.Texts.{CutsInThree}
 use Rattle.ps_program.proofs.ByCommand.AutomatonLemmas.{automaton_failed}
+use Rattle.ps_program.proofs.ByCommand.MixedLemmas.{gives_by_file, runs_told}
 use Rattle.ps_program.proofs.ByCommand.OutcomeLemmas.{first_failed, first_read, gives_passed}
 use Rattle.ps_program.proofs.commands.lasso.lasso.Goals as goal
 
@@ -15,12 +16,18 @@ returns-in_err-automaton c =
     (first_failed {X = FileData} {V = FileData} (λ file. file) (CutsInThree c.args.texts.now)
     (λ parts. ReadsAutomaton parts.0) reply_of (λ file parts. RunsCircuit c.args.role file parts.1 parts.2)
     (hoa, c.in_ok-hoa.aag.now, c.in_ok-hoa.letters.now) fault c.in_ok-hoa.ensures
-    (automaton_failed hoa fault c.in_err-automaton.ensures))
+    (automaton_failed IsOfFileOrMixed hoa fault c.in_err-automaton.ensures))
 
 pub returns : goal.returns
 returns c =
     let a = c.in_ok-automaton.ensures in
+    let file = a.0 in
+    let other = a.2.0 in
+    let aag = c.in_ok-hoa.aag.now in
+    let letters = c.in_ok-hoa.letters.now in
     first_read (CutsInThree c.args.texts.now) (λ parts. ReadsAutomaton parts.0) reply_of
-    (λ file parts. RunsCircuit c.args.role file parts.1 parts.2)
-    (c.in_ok-hoa.hoa.now, c.in_ok-hoa.aag.now, c.in_ok-hoa.letters.now) a.0 c.run_circuit.result c.in_ok-hoa.ensures
-    a.1 (c.run_circuit.ensures a.0 a.2.0 a.2.1)
+    (λ file parts. RunsCircuit c.args.role file parts.1 parts.2) (c.in_ok-hoa.hoa.now, aag, letters) file
+    c.run_circuit.result c.in_ok-hoa.ensures a.1
+    (gives_by_file (λ each. RunsCircuit c.args.role each aag letters) file
+    (λ mixing is. runs_told file mixing is c.args.role aag letters) other a.2.1 c.run_circuit.result
+    (c.run_circuit.ensures other a.2.2.0 a.2.2.1))

@@ -1,5 +1,5 @@
 use Rattle.ps_hoa.specs.Files.{FileData}
-use Rattle.ps_program.specs.Automata.{ReadsAutomaton}
+use Rattle.ps_program.specs.Automata.{IsOfFile, ReadsAutomaton}
 use Rattle.ps_program.specs.Commands.Shrinking.{AnswersShrink, ShrinksText}
 use Rattle.ps_program.specs.Replies.{reply_of}
 use Rattle.ps_program.specs.Texts.{CutsInTwo}
@@ -15,7 +15,8 @@ returns-in_err-automaton c =
     c.from_residual-in_err-automaton.ensures.1
     (first_failed {X = FileData} {V = FileData} (λ file. file) (CutsInTwo c.args.texts.now)
     (λ parts. ReadsAutomaton parts.0) reply_of (λ file parts. ShrinksText c.args.order c.args.role file parts.1)
-    (hoa, c.in_ok-hoa.aag.now) fault c.in_ok-hoa.ensures (automaton_failed hoa fault c.in_err-automaton.ensures))
+    (hoa, c.in_ok-hoa.aag.now) fault c.in_ok-hoa.ensures
+    (automaton_failed IsOfFile hoa fault c.in_err-automaton.ensures))
 
 pub returns : goal.returns
 returns c =
