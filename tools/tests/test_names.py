@@ -30,8 +30,8 @@ FAMILIES = {
     "classes of letters that are known, and covers of sets that are known": "AreKnown",
     "bits of a letter, of a state of latches, and of a machine's letter, which diagrams give": "bits_at bits_of",
 }
-# Acceptance marks are those of HOA texts; a fair cycle has marks of any kind on its edges, a circuit's variables have some.
-WITH_MARKS = ("ps_hoa", "ps_automaton", "ps_automaton_tests", "ps_circuit", "ps_fairness", "ps_game_tests", "ps_mixing", "ps_models", "ps_translation")
+# Acceptance marks are those of HOA texts; a fair cycle has marks of any kind on its edges.
+WITH_MARKS = ("ps_hoa", "ps_automaton", "ps_automaton_tests", "ps_fairness", "ps_game_tests", "ps_mixing", "ps_models", "ps_tableau_product", "ps_translation")
 PLAYER = re.compile(r"\b(?:player|owner|winner)s?: u8\b|\((?:player|owner|winner)\b[^)]*\): \(u8\b")
 NUMBERS_OF_PLAYERS = {
     "ps_game/src/builder.rt": "`GameBuilder::vertex` takes the number of an owner",
@@ -42,13 +42,13 @@ NUMBERS_OF_PLAYERS = {
 PROOFS_OF_FUNCTIONS = ("Answers.antt", "Invariants.antt", "Proof.antt", "Lib.antt")
 # The crates, and what the file of each has.
 SAME_LEMMA_FILES = {
-    "DraftLemmas.antt": "ps_circuit ps_models: circuits that are read; products that are explored",
+    "DraftLemmas.antt": "ps_circuit ps_tableau_product: circuits that are read; products that are explored",
     "ExploringLemmas.antt": "ps_product ps_timing: products, and the values of latches, that are explored",
-    "RowLemmas.antt": "ps_models ps_simulate: the edges of a vertex; rows of lanes",
+    "RowLemmas.antt": "ps_simulate ps_tableau_product: rows of lanes; the edges of a vertex",
     "RowSteps.antt": "ps_automaton ps_brief: steps of a table's rows; rows of a machine that is drawn",
     "Drafting.antt": "ps_automaton ps_brief: automata, and a winner's moves, that are drafted",
     "Orders.antt": "ps_brief ps_zielonka: the order of the second player's moves; lists by priority",
-    "StepLemmas.antt": "ps_models ps_simulate: steps with covers; steps of lanes",
+    "StepLemmas.antt": "ps_simulate ps_tableau_product: steps of lanes; steps with covers",
     "ValueLemmas.antt": "ps_simulate ps_timing: values of variables; values of Boolean functions",
     "BitLists.antt": "ps_diagram ps_simulate: the bits of a least letter; letters as lists of bits",
     "Rising.antt": "ps_circuit ps_machine: gates above all that they read; lists of propositions that rise",
