@@ -33,6 +33,9 @@ use std::alloc::Global;
 /// the game is built: its circuits stay as they are.
 const LEAST_PROPOSITIONS: usize = 8;
 
+/// A state with more edges is better left to the game: for each letter of a basis, the search looks at all targets.
+const MOST_EDGES: usize = 1024;
+
 /// Who wins, and the winner's circuit.
 #[derive(Drop)]
 pub struct Short {
@@ -44,9 +47,9 @@ pub struct Short {
 
 /// The winner and a circuit for an HOA text, by a certificate that a free solver may give, although neither the game
 /// nor the certificate is made. `None` where the game has to be built: if the solver is not free, if the player who
-/// moves first has fewer than eight propositions, or if a state has at least `ps_brief::MOST_LETTERS` minimal letters.
-/// Fails with the text's first error, with the reason why its file has no automaton, if the circuit needs more than
-/// 2147483647 variables, or if out of memory.
+/// moves first has fewer than eight propositions, or if a state has more than 1,024 edges or at least
+/// `ps_brief::MOST_LETTERS` minimal letters. Fails with the text's first error, with the reason why its file has no
+/// automaton, if the circuit needs more than 2147483647 variables, or if out of memory.
 pub fn short_answer<S: Solver>(
     alloc: Global,
     text: &[u8],
@@ -82,11 +85,21 @@ fn answer_of_file<S: Solver>(
     ensures few { first_count order file.now < 8 → IfOk result (λ found. IsNone found) }
     ensures refused { IfErr result (IsFaultOfFile (Answered (S.known solver.now) (S.known solver.now)) order file.now) }
 {
-    if solver.is_free() && moves_first_with_many(file, order) {
+    if solver.is_free() && moves_first_with_many(file, order) && has_few_edges(file) {
         answer_without_game(alloc, file, order)
     } else {
         Ok(None)
     }
+}
+
+/// Whether no state has more than `MOST_EDGES` edges.
+fn has_few_edges(file: &HoaFile) -> bool {
+    for row in file.rows() {
+        if MOST_EDGES < row.edges.len() {
+            return false;
+        }
+    }
+    true
 }
 
 /// Whether the player who moves first has so many propositions that the game is better not built.
