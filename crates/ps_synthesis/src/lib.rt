@@ -36,6 +36,7 @@ mod automata;
 mod certifying;
 mod circuits;
 mod fault;
+mod glance;
 mod laws;
 mod mixed_automata;
 mod mixing;

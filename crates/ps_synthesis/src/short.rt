@@ -19,6 +19,7 @@ ghost use Rattle.ps_synthesis.specs.Stages.{IsTextFault};
 ghost use Rattle.ps_synthesis.specs.SynthFaults.{IsSureFault, IsSynthFault};
 
 use crate::fault::SynthFault;
+use crate::glance::first_count_at_a_glance;
 use ps_aiger::{Circuit, EncodeFault, encode_bits};
 use ps_automaton::Automaton;
 use ps_brief::machine_without_game;
@@ -68,6 +69,9 @@ pub fn short_answer<S: Solver>(
     valid_regions_are_held();
     no_strategy_wins_outside();
     certified_circuit_of_file_answers();
+    if first_count_at_a_glance(text, order) < LEAST_PROPOSITIONS {
+        return Ok(None);
+    }
     let file = ps_hoa::read(alloc, text)?;
     let found = answer_of_file(alloc, &file, order, solver);
     drop(file);
