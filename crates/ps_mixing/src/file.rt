@@ -12,7 +12,7 @@ ghost use Rattle.ps_mixing.specs.Orders.{mixing_of, place_in};
 
 use crate::copies::condition_copied;
 use crate::label::aliases_renamed;
-use crate::order::{Order, entry, even_order};
+use crate::order::{Permutation, entry, even_order};
 use crate::rows::rows_mixed;
 use ps_hoa::{Edge, Guard, HoaFile, HoaParts, Row};
 use std::alloc::{AllocError, Global};
@@ -37,7 +37,7 @@ pub fn evenly_mixed(alloc: Global, file: &HoaFile) -> Result<HoaFile, AllocError
 }
 
 /// The file with its propositions moved as the order says. Fails if out of memory.
-pub fn mixed(alloc: Global, file: &HoaFile, order: &Order) -> Result<HoaFile, AllocError>
+pub fn mixed(alloc: Global, file: &HoaFile, order: &Permutation) -> Result<HoaFile, AllocError>
     requires mixing { IsMixingOf file.now (mixing_of order.now) }
     requires labels { HasLabels file.now }
     ensures { IfOk result (λ made. made ≡ mixed_file (mixing_of order.now) file.now) }
@@ -64,7 +64,7 @@ pub fn mixed(alloc: Global, file: &HoaFile, order: &Order) -> Result<HoaFile, Al
 fn propositions_mixed(
     alloc: Global,
     file: &HoaFile,
-    order: &Order,
+    order: &Permutation,
 ) -> Result<Propositions, AllocError>
     requires { IsMixingOf file.now (mixing_of order.now) }
     ensures names { IfOk result (λ made.

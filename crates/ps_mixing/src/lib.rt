@@ -32,4 +32,4 @@ pub use laws::{
     answer_of_mixed, circuit_of_machine, game_of_mixed, lassos_of_mixed, letters_of_mixed,
     machine_of_mixed, mixed_is_sound, symbols_of_mixed, verdict_of_mixed,
 };
-pub use order::{Order, even_order};
+pub use order::{Permutation, even_order};

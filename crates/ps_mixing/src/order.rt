@@ -11,7 +11,7 @@ use std::alloc::{AllocError, Global};
 
 /// A mixing of propositions, as two tables that are inverse to each other.
 #[derive(Debug, Drop)]
-pub struct Order {
+pub struct Permutation {
     /// For each proposition, the one that it becomes.
     pub to: Vec<u32>,
     /// For each proposition, the one that becomes it.
@@ -20,13 +20,17 @@ pub struct Order {
 
 /// Mixes the propositions less than `count`, so that the controllable ones are evenly spread among the others. Fails if
 /// out of memory.
-pub fn even_order(alloc: Global, count: u32, controllable: &[u32]) -> Result<Order, AllocError>
+pub fn even_order(
+    alloc: Global,
+    count: u32,
+    controllable: &[u32],
+) -> Result<Permutation, AllocError>
     requires { count ≤ 64 }
     ensures { IfOk result (λ order. IsMixing count (λ p. is_among p controllable.now) (mixing_of order)) }
 {
     let from = even_list(alloc, count, controllable)?;
     let to = places(alloc, &from)?;
-    Ok(Order { to, from })
+    Ok(Permutation { to, from })
 }
 
 fn even_list(alloc: Global, count: u32, controllable: &[u32]) -> Result<Vec<u32>, AllocError>

@@ -11,12 +11,16 @@ ghost use Rattle.ps_mixing.specs.Orders.{mixing_of, place_in};
 
 use crate::copies::marks_copied;
 use crate::label::renamed;
-use crate::order::Order;
+use crate::order::Permutation;
 use ps_hoa::{Edge, Guard, Row};
 use ps_label::Label;
 use std::alloc::{AllocError, Global};
 
-pub(crate) fn rows_mixed(alloc: Global, rows: &[Row], order: &Order) -> Result<Vec<Row>, AllocError>
+pub(crate) fn rows_mixed(
+    alloc: Global,
+    rows: &[Row],
+    order: &Permutation,
+) -> Result<Vec<Row>, AllocError>
     requires within { IsWithin 64 order.now.to.items }
     requires labels { All (λ row. All IsWithLabel row.edges) (map row_data rows.now) }
     ensures { IfOk result (λ made. (n : ℕ) →
@@ -29,7 +33,7 @@ pub(crate) fn rows_mixed(alloc: Global, rows: &[Row], order: &Order) -> Result<V
     Ok(made)
 }
 
-fn row_mixed(alloc: Global, row: &Row, order: &Order) -> Result<Row, AllocError>
+fn row_mixed(alloc: Global, row: &Row, order: &Permutation) -> Result<Row, AllocError>
     requires within { IsWithin 64 order.now.to.items }
     requires labels { All IsWithLabel (row_data row.now).edges }
     ensures { IfOk result (λ made. (n : ℕ) → row_data made ≡ mixed_row n (mixing_of order.now) (row_data row.now)) }
@@ -48,7 +52,7 @@ fn row_mixed(alloc: Global, row: &Row, order: &Order) -> Result<Row, AllocError>
 fn label_mixed(
     alloc: Global,
     label: Option<&Label>,
-    order: &Order,
+    order: &Permutation,
 ) -> Result<Option<Label>, AllocError>
     requires { IsWithin 64 order.now.to.items }
     ensures { IfOk result (λ made. option_map expression made ≡
@@ -60,7 +64,7 @@ fn label_mixed(
     }
 }
 
-fn edges_mixed(alloc: Global, edges: &[Edge], order: &Order) -> Result<Vec<Edge>, AllocError>
+fn edges_mixed(alloc: Global, edges: &[Edge], order: &Permutation) -> Result<Vec<Edge>, AllocError>
     requires within { IsWithin 64 order.now.to.items }
     requires labels { All IsWithLabel (map edge_data edges.now) }
     ensures { IfOk result (λ made. (n : ℕ) →
@@ -73,7 +77,7 @@ fn edges_mixed(alloc: Global, edges: &[Edge], order: &Order) -> Result<Vec<Edge>
     Ok(made)
 }
 
-fn edge_mixed(alloc: Global, edge: &Edge, order: &Order) -> Result<Edge, AllocError>
+fn edge_mixed(alloc: Global, edge: &Edge, order: &Permutation) -> Result<Edge, AllocError>
     requires within { IsWithin 64 order.now.to.items }
     requires label { IsWithLabel (edge_data edge.now) }
     ensures { IfOk result (λ made. (n : ℕ) → edge_data made ≡ mixed_edge n (mixing_of order.now) (edge_data edge.now)) }
@@ -87,7 +91,7 @@ fn edge_mixed(alloc: Global, edge: &Edge, order: &Order) -> Result<Edge, AllocEr
     })
 }
 
-fn guard_mixed(alloc: Global, guard: &Guard, order: &Order) -> Result<Guard, AllocError>
+fn guard_mixed(alloc: Global, guard: &Guard, order: &Permutation) -> Result<Guard, AllocError>
     requires within { IsWithin 64 order.now.to.items }
     requires label { (k : ℕ) → guard_data guard.now ≢ at_letter k }
     ensures { IfOk result (λ made. (n : ℕ) →
