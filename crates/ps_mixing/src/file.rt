@@ -101,7 +101,7 @@ fn numbers_moved(alloc: Global, numbers: &[u32], to: &[u32]) -> Result<Vec<u32>,
 }
 
 /// Whether the file states a label for each edge, or for its state.
-pub fn has_labels(file: &HoaFile) -> bool
+pub(crate) fn has_labels(file: &HoaFile) -> bool
     ensures { (result ≡ true) ↔ HasLabels file.now }
 {
     have_labels(file.rows())

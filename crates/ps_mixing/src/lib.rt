@@ -6,7 +6,7 @@
 //! | `even_order` | a mixing in which each player's propositions are evenly spread among the others |
 //! | `mixed` | a file with its propositions mixed, if the file has labels |
 //! | `evenly_mixed` | the file mixed by `even_order` |
-//! | `has_labels` | whether a file states a label for each edge, or for its state |
+//! | `is_worth_mixing` | whether a file has labels, and one of them names propositions of both players |
 //!
 //! | Law | What it says |
 //! |---|---|
@@ -26,10 +26,12 @@ mod label;
 mod laws;
 mod order;
 mod rows;
+mod worth;
 
-pub use file::{evenly_mixed, has_labels, mixed};
+pub use file::{evenly_mixed, mixed};
 pub use laws::{
     answer_of_mixed, circuit_of_machine, game_of_mixed, lassos_of_mixed, letters_of_mixed,
     machine_of_mixed, mixed_is_sound, symbols_of_mixed, verdict_of_mixed,
 };
 pub use order::{Permutation, even_order};
+pub use worth::is_worth_mixing;

@@ -29,7 +29,7 @@ use ps_machine::{Order, Solver};
 use ps_models::laws::judgement_is_one;
 use ps_product::ProductFault;
 use ps_simulate::Role;
-use ps_synthesis::{Problem, Short, SynthFault, Synthesis, short_answer};
+use ps_synthesis::{Attempt, Problem, SynthFault, Synthesis, attempted};
 use ps_tlsf::Specification;
 use ps_verify::Judgement;
 use std::alloc::{AllocError, Global};
@@ -112,54 +112,17 @@ fn winner_of<S: Solver>(
         IfErr result (λ fault. IsTextFault hoa.now fault ⊎ synthesis.IsSureFault fault) }
     ensures kept { IsKept (S.known solver.old) (S.known solver.new) }
 {
-    match short_winner(alloc, hoa, order, solver) {
-        Ok(Some(winner)) => Ok(winner),
-        Ok(None) => winner_by_game(alloc, hoa, order, solver),
-        Err(fault) => Err(fault),
+    match attempted(alloc, hoa, order, solver)? {
+        Attempt::Short(short) => Ok(Winner {
+            role: role_if(short.realizable),
+            circuit: short.circuit,
+        }),
+        Attempt::Problem(problem) => {
+            let winner = won(alloc, &problem, solver);
+            problem.close();
+            winner
+        }
     }
-}
-
-/// The winner without the game. `None` if the game has to be built.
-fn short_winner<S: Solver>(
-    alloc: Global,
-    hoa: &[u8],
-    order: Order,
-    solver: &S,
-) -> Result<Option<Winner>, SynthFault>
-    ensures won { IfOk result (λ found. IfSome found (λ winner.
-        IsWonBy (Answered (S.known solver.now) (S.known solver.now)) order hoa.now winner.role winner.circuit)) }
-    ensures refused { IfErr result (IsSynthFault (Answered (S.known solver.now) (S.known solver.now)) order hoa.now) }
-    ensures sure { IfErr result (λ fault. IsTextFault hoa.now fault ⊎ synthesis.IsSureFault fault) }
-{
-    let Some(short) = short_answer(alloc, hoa, order, solver)? else {
-        return Ok(None);
-    };
-    let Short {
-        realizable,
-        circuit,
-    } = short;
-    let role = role_if(realizable);
-    Ok(Some(Winner { role, circuit }))
-}
-
-/// The winner by the solver's certificate of the game.
-fn winner_by_game<S: Solver>(
-    alloc: Global,
-    hoa: &[u8],
-    order: Order,
-    solver: &mut S,
-) -> Result<Winner, SynthFault>
-    ensures won { IfOk result (λ winner. IsWonBy (Answered (S.known solver.old) (S.known solver.new)) order hoa.now
-        winner.role winner.circuit) }
-    ensures refused { IfErr result (IsSynthFault (Answered (S.known solver.old) (S.known solver.new)) order hoa.now) }
-    ensures sure { (S.known solver.old).is_sure ≡ true →
-        IfErr result (λ fault. IsTextFault hoa.now fault ⊎ synthesis.IsSureFault fault) }
-    ensures kept { IsKept (S.known solver.old) (S.known solver.new) }
-{
-    let problem = Problem::read(alloc, hoa, order)?;
-    let winner = won(alloc, &problem, solver);
-    problem.close();
-    winner
 }
 
 /// The winner by the solver's certificate, with its circuit.

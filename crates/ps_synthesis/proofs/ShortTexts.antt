@@ -48,7 +48,7 @@ pub record Laws : Type 0 where
 -- ## From a file to its text
 
 module _ (May : MayAnswer) (order : Order) (text : List ℕ) (file : FileData) (reads : ReadsFile text (Ok file)) where
-  short_of_text : Laws → (short : Short) → IsShortOfFile May order file short → IsShortOf May order text short
+  pub short_of_text : Laws → (short : Short) → IsShortOfFile May order file short → IsShortOf May order text short
   short_of_text laws short is = record {
     made = record { game = is.game; certificate = is.certificate; circuit = short.circuit };
     winners = record {
@@ -70,13 +70,6 @@ module _ (May : MayAnswer) (order : Order) (text : List ℕ) (file : FileData) (
     realizable = is.realizable;
     circuit_is = refl;
   }
-
-  pub found_of_text : Laws → (r : Result (Option Short) SynthFault) →
-      IfOk r (λ found. IfSome found (IsShortOfFile May order file)) →
-      IfOk r (λ found. IfSome found (IsShortOf May order text))
-  found_of_text laws (Ok (Some short)) h = short_of_text laws short h
-  found_of_text laws (Ok None) h = tt
-  found_of_text laws (Err fault) h = tt
 
 -- ## From a mixed file to the file
 

@@ -21,7 +21,7 @@
 //! | `Problem::report_of_certified(certificate, compact)` | the same by one that was checked before |
 //! | `Problem::solve(solver)` | the certificate that a solver returns, checked, and the winner's circuit |
 //! | `Problem::circuit(certificate)` | this circuit, by a certificate that was checked before |
-//! | `short_answer(text, order, solver)` | the winner and a circuit without the game, if that is worth it |
+//! | `attempted(text, order, solver)` | the winner and a circuit without the game, or the problem if the game is needed |
 //! | `read_automaton(text)`, `circuit_of_certificate` | an automaton; the winner's circuit by a valid certificate |
 //! | `read_mixed_automaton(text)` | an automaton whose propositions may be mixed, so that its diagrams are small |
 //! | `report_of`, `certificate_text` | the three texts of a report; a certificate's text |
@@ -36,7 +36,6 @@ mod automata;
 mod certifying;
 mod circuits;
 mod fault;
-mod glance;
 mod laws;
 mod mixed_automata;
 mod mixing;
@@ -54,5 +53,5 @@ pub use mixed_automata::read_mixed_automaton;
 pub use mixing::circuit_of_mixed;
 pub use problem::{Problem, Synthesis};
 pub use report::{Report, certificate_text, report_of};
-pub use short::{Short, short_answer};
+pub use short::{Attempt, Short, attempted};
 pub use synthesis::synthesise_by;

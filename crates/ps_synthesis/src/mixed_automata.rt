@@ -1,11 +1,10 @@
 //! The automaton of an HOA text, whose propositions may be mixed (`ps_mixing`).
 
-ghost use Rattle.std.specs.Prelude.{IfErr, IfOk, IsTrue, OnOk};
+ghost use Rattle.std.specs.Prelude.{IfErr, IfOk, OnOk};
 ghost use Rattle.ps_automaton.specs.Answers.{IsAdmitted, IsRefused};
 ghost use Rattle.ps_automaton.specs.Automata.{IsBuiltFrom};
 ghost use Rattle.ps_automaton.specs.Chains.{Chain};
 ghost use Rattle.ps_hoa.specs.Files.{FileData};
-ghost use Rattle.ps_mixing.specs.MixedFiles.{HasLabels};
 ghost use Rattle.ps_mixing.specs.MixedOrSame.{IsFileOrMixed};
 ghost use Rattle.ps_synthesis.specs.MixedAutomata.{IsMixedAutomatonOf};
 ghost use Rattle.ps_synthesis.specs.Stages.{IsTextFault};
@@ -13,7 +12,7 @@ ghost use Rattle.ps_synthesis.specs.Stages.{IsTextFault};
 use crate::fault::SynthFault;
 use ps_automaton::{Automaton, AutomatonFault};
 use ps_hoa::HoaFile;
-use ps_mixing::{evenly_mixed, has_labels};
+use ps_mixing::{evenly_mixed, is_worth_mixing};
 use std::alloc::Global;
 
 /// Diagrams of fewer propositions are small in each order, and a mixed file takes memory beside the file.
@@ -37,17 +36,11 @@ fn mixed_automaton(alloc: Global, file: &HoaFile) -> Result<Automaton, Automaton
     ensures admitted { OnOk result (IsAdmitted file.now) }
     ensures refused { IfErr result (IsRefused file.now) }
 {
-    if !is_worth_mixing(file) {
+    if file.names().len() < LEAST_MIXED || !is_worth_mixing(file) {
         return Automaton::build(alloc, file);
     }
     let mixed = evenly_mixed(alloc, file)?;
     let automaton = Automaton::build(alloc, &mixed);
     drop(mixed);
     automaton
-}
-
-fn is_worth_mixing(file: &HoaFile) -> bool
-    ensures { IsTrue result → HasLabels file.now }
-{
-    LEAST_MIXED <= file.names().len() && has_labels(file)
 }

@@ -9,7 +9,7 @@ ghost use Rattle.ps_machine.specs.declared.key.Order.{Order};
 ghost use Rattle.ps_synthesis.specs.Problems.{ReturnsOnly, IsProblem, IsProblemOf, IsReportFault};
 ghost use Rattle.ps_synthesis.specs.Reports.{IsReport, IsWinnersSynthesis};
 ghost use Rattle.ps_synthesis.specs.Promises.{IsAcceptedText};
-ghost use Rattle.ps_synthesis.specs.Stages.{IsCircuitFault, IsTextFault};
+ghost use Rattle.ps_synthesis.specs.Stages.{IsAutomatonOf, IsCircuitFault, IsTextFault};
 ghost use Rattle.ps_synthesis.specs.SynthFaults.{IsReportOrFault, IsSureFault, IsSynthFault};
 ghost use Rattle.ps_synthesis.specs.declared.fault.SynthFault.TheVariants.{NotCertified, OutOfMemory};
 
@@ -70,6 +70,18 @@ impl Problem {
             IfErr result (λ fault. fault ≡ OutOfMemory) }
     {
         let automaton = read_automaton(alloc, text)?;
+        Problem::of_automaton(alloc, automaton, order)
+    }
+
+    /// The problem of an automaton. Fails if out of memory.
+    pub(crate) fn of_automaton(
+        alloc: Global,
+        automaton: Automaton,
+        order: Order,
+    ) -> Result<Problem, SynthFault>
+        ensures problem { (text : List ℕ) → IsAutomatonOf text automaton → IfOk result (IsProblemOf order text) }
+        ensures memory { IfErr result (λ fault. fault ≡ OutOfMemory) }
+    {
         let game = AutomatonGame::build(alloc, &automaton, order)?;
         Ok(Problem {
             order,

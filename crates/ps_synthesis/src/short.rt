@@ -1,4 +1,4 @@
-//! The winner and the winner's circuit, without the game.
+//! The winner and the winner's circuit, without the game; or the problem whose game is to be solved.
 
 ghost use Rattle.std.specs.Prelude.{◌≡◌, ◌≤◌, ◌<◌, ◌↔◌, ◌⊎◌, IsTrue, Ok, Err, IfErr, IfOk, IfSome, IsNone};
 ghost use Rattle.ps_aiger.specs.Encoded.{Encodes, IsTidy};
@@ -13,20 +13,20 @@ ghost use Rattle.ps_machine.specs.Behaviours.{IsMachine};
 ghost use Rattle.ps_machine.specs.BitMachines.{bit_behaviour};
 ghost use Rattle.ps_solver.specs.Solvers.{Answered};
 ghost use Rattle.ps_solver.specs.Solving.{AnswersLeast};
-ghost use Rattle.ps_synthesis.specs.ShortAnswers.{IsShortOf, first_count};
-ghost use Rattle.ps_synthesis.specs.ShortFiles.{IsFaultOfFile, IsShortOfFile};
+ghost use Rattle.ps_synthesis.specs.ShortAnswers.{IsAttempt, IsLeftToGame, first_count};
+ghost use Rattle.ps_synthesis.specs.ShortFiles.{HoldsAutomaton, IsBegun, IsFaultOfFile, IsShortOfFile};
 ghost use Rattle.ps_synthesis.specs.Stages.{IsTextFault};
 ghost use Rattle.ps_synthesis.specs.SynthFaults.{IsSureFault, IsSynthFault};
 
 use crate::fault::SynthFault;
-use crate::glance::first_count_at_a_glance;
+use crate::problem::Problem;
 use ps_aiger::{Circuit, EncodeFault, encode_bits};
-use ps_automaton::Automaton;
+use ps_automaton::{Automaton, refusal_is_one};
 use ps_brief::machine_without_game;
 use ps_certificate::{no_strategy_wins_outside, valid_regions_are_held};
 use ps_hoa::{HoaFile, one_answer};
 use ps_machine::{BitMachine, Order, Solver, game_of_file_is_game};
-use ps_mixing::{evenly_mixed, has_labels};
+use ps_mixing::{evenly_mixed, is_worth_mixing};
 use ps_traces::certified_circuit_of_file_answers;
 use std::alloc::Global;
 
@@ -46,36 +46,72 @@ pub struct Short {
     pub circuit: Circuit,
 }
 
+/// An answer without the game, or the problem whose game has to be solved.
+#[derive(Drop)]
+pub enum Attempt {
+    /// Who wins, and the winner's circuit.
+    Short(Short),
+    /// The problem, with its game.
+    Problem(Problem),
+}
+
+/// An answer without the game, or the automaton whose game has to be built.
+#[derive(Drop)]
+enum Begun {
+    Short(Short),
+    Automaton(Automaton),
+}
+
 /// The winner and a circuit for an HOA text, by a certificate that a free solver may give, although neither the game
-/// nor the certificate is made. `None` where the game has to be built: if the solver is not free, if the player who
-/// moves first has fewer than eight propositions, or if a state has more than 1,024 edges or at least
-/// `ps_brief::MOST_LETTERS` minimal letters. Fails with the text's first error, with the reason why its file has no
-/// automaton, if the circuit needs more than 2147483647 variables, or if out of memory.
-pub fn short_answer<S: Solver>(
+/// nor the certificate is made; or the problem, if the game has to be built: if the solver is not free, if the player
+/// who moves first has fewer than eight propositions, or if a state has more than 1,024 edges or at least
+/// `ps_brief::MOST_LETTERS` minimal letters. The text is read once. Fails with the text's first error, with the reason
+/// why its file has no automaton, if the circuit needs more than 2147483647 variables, or if out of memory.
+pub fn attempted<S: Solver>(
     alloc: Global,
     text: &[u8],
     order: Order,
     solver: &S,
-) -> Result<Option<Short>, SynthFault>
-    ensures short { IfOk result (λ found. IfSome found
-        (IsShortOf (Answered (S.known solver.now) (S.known solver.now)) order text.now)) }
+) -> Result<Attempt, SynthFault>
+    ensures attempt { IfOk result (IsAttempt (Answered (S.known solver.now) (S.known solver.now)) order text.now) }
     ensures few { (file : FileData) → ReadsFile text.now (Ok file) → first_count order file < 8 →
-        IfOk result (λ found. IsNone found) }
+        IfOk result IsLeftToGame }
     ensures refused { IfErr result (IsSynthFault (Answered (S.known solver.now) (S.known solver.now)) order text.now) }
     ensures sure { IfErr result (λ fault. IsTextFault text.now fault ⊎ IsSureFault fault) }
 {
     one_answer();
+    refusal_is_one();
     game_of_file_is_game();
     valid_regions_are_held();
     no_strategy_wins_outside();
     certified_circuit_of_file_answers();
-    if first_count_at_a_glance(text, order) < LEAST_PROPOSITIONS {
-        return Ok(None);
-    }
     let file = ps_hoa::read(alloc, text)?;
-    let found = answer_of_file(alloc, &file, order, solver);
+    let begun = begin(alloc, &file, order, solver);
     drop(file);
-    found
+    match begun? {
+        Begun::Short(short) => Ok(Attempt::Short(short)),
+        Begun::Automaton(automaton) => {
+            let problem = Problem::of_automaton(alloc, automaton, order)?;
+            Ok(Attempt::Problem(problem))
+        }
+    }
+}
+
+/// The short answer of a file, or its automaton.
+fn begin<S: Solver>(
+    alloc: Global,
+    file: &HoaFile,
+    order: Order,
+    solver: &S,
+) -> Result<Begun, SynthFault>
+    ensures begun { IfOk result (IsBegun (Answered (S.known solver.now) (S.known solver.now)) order file.now) }
+    ensures few { first_count order file.now < 8 → IfOk result HoldsAutomaton }
+    ensures refused { IfErr result (IsFaultOfFile (Answered (S.known solver.now) (S.known solver.now)) order file.now) }
+{
+    match answer_of_file(alloc, file, order, solver)? {
+        Some(short) => Ok(Begun::Short(short)),
+        None => Ok(Begun::Automaton(Automaton::build(alloc, file)?)),
+    }
 }
 
 fn answer_of_file<S: Solver>(
@@ -117,8 +153,8 @@ fn moves_first_with_many(file: &HoaFile, order: Order) -> bool
     }
 }
 
-/// The winner and a circuit by a valid certificate with the least counts. If the file has labels, its propositions are
-/// mixed before: an automaton whose propositions stand player by player often has diagrams with a node for each letter.
+/// The winner and a circuit by a valid certificate with the least counts. The file's propositions are mixed before if
+/// this can help: an automaton whose propositions stand player by player often has diagrams with a node for each letter.
 fn answer_without_game(
     alloc: Global,
     file: &HoaFile,
@@ -127,7 +163,7 @@ fn answer_without_game(
     ensures short { IfOk result (λ found. IfSome found (IsShortOfFile AnswersLeast order file.now)) }
     ensures refused { IfErr result (IsFaultOfFile AnswersLeast order file.now) }
 {
-    if !has_labels(file) {
+    if !is_worth_mixing(file) {
         return answer_as_it_stands(alloc, file, order);
     }
     let mixed = evenly_mixed(alloc, file)?;

@@ -1,10 +1,10 @@
 -- Lemmas about the result of synthesis. A fault comes from the solver only if the solver is not sure, that is, if it
 -- may return a wrong certificate or fail though memory suffices. Each result of synthesis that is possible after a call
 -- of the solver was also possible before this call.
-use Rattle.std.proofs.Common.{arith, ◌≡◌, ◌⊎◌, ℕ, Bool, true, false, List, ◌++◌, Result, Ok, Err, IsErrAnd, ap, inl, inr}
+use Rattle.std.proofs.Common.{arith, ◌≡◌, ◌⊎◌, ℕ, Bool, true, false, List, ◌++◌, Result, Ok, Err, ap, inl, inr}
 use Rattle.std.proofs.Common.{subst}
 use Rattle.std.proofs.Common.{◌∙◌, ap₂, sym}
-use Rattle.std.specs.Prelude.{Option, IfErr}
+use Rattle.std.specs.Prelude.{Option}
 use Rattle.ps_circuit.specs.Circuits.{CircuitData}
 use Rattle.ps_circuit.specs.Written.{text_of}
 use Rattle.ps_machine.specs.declared.key.Order.{Order}
@@ -97,12 +97,10 @@ short_answers solver asked text short answer brief is told status prints =
     )
 
 -- a fault without the game is one that `synth` may tell
-pub short_refuses : {X : Type 0} (solver : SolverData) (asked : SynthLine) (text : List ℕ) (fault : SynthFault)
-    (outcome : Result X Refusal) → IsSynthFault (Answered solver solver) asked.order text fault →
-    IsTextFault text fault ⊎ IsSureFault fault → IsErrAnd outcome (IsTold fault) →
-    IfErr outcome (λ refused. Gives reply_of (AnswersReport solver asked text) (Err refused))
-short_refuses solver asked text fault (Ok given) cause sure told = absurd told
-short_refuses solver asked text fault (Err refused) cause sure told =
+pub short_refuses : (solver : SolverData) (asked : SynthLine) (text : List ℕ) (fault : SynthFault) (refused : Refusal) →
+    IsSynthFault (Answered solver solver) asked.order text fault → IsTextFault text fault ⊎ IsSureFault fault →
+    IsTold fault refused → Gives reply_of (AnswersReport solver asked text) (Err refused)
+short_refuses solver asked text fault refused cause sure told =
     let Prints : SynthesisData → Result Reply (List ℕ) → Type 0 = λ s outcome.
     IsPrinted asked.full asked.compact s × (outcome ≡ Ok (synthesis_reply asked.full asked.compact s)) in
     gives_failed (λ (s : SynthesisData). s) (Synthesises solver asked.order text) reply_of Prints refused

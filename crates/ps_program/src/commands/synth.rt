@@ -1,6 +1,6 @@
 //! The command `synth`.
 
-ghost use Rattle.std.specs.Prelude.{◌≡◌, ℕ, List, Ok, Err, IfErr, IfOk, IfSome};
+ghost use Rattle.std.specs.Prelude.{◌≡◌, ℕ, List};
 ghost use Rattle.ps_program.specs.Outcomes.{Gives};
 ghost use Rattle.ps_program.specs.Replies.{reply_of};
 ghost use Rattle.ps_program.specs.Solvers.{solvers_of};
@@ -12,7 +12,7 @@ use crate::commands::SynthLine;
 use crate::printing::{print, print_circuit};
 use crate::texts::two_texts;
 use ps_machine::Solver;
-use ps_synthesis::{Problem, short_answer};
+use ps_synthesis::{Attempt, Problem, attempted};
 use std::alloc::Global;
 
 /// The circuit for the automaton of a text. If a certificate follows, the second solver is fed it. Fails if a text is
@@ -51,6 +51,7 @@ fn report_by_certificate<S: Solver>(
     report(alloc, asked, text, solver)
 }
 
+/// The circuit, and the texts that are asked for; the circuit alone may come without the game.
 fn report<S: Solver>(
     alloc: Global,
     asked: SynthLine,
@@ -60,35 +61,20 @@ fn report<S: Solver>(
     ensures answer { Gives reply_of (AnswersReport (S.known solver.old) asked text.now) result }
     ensures kept { (S.known solver.new).is_sure ≡ (S.known solver.old).is_sure }
 {
-    match short_report(alloc, asked, text, solver) {
-        Ok(Some(answer)) => Ok(answer),
-        Ok(None) => report_by_game(alloc, asked, text, solver),
-        Err(refusal) => Err(refusal),
-    }
-}
-
-/// The winner and its circuit without the game. `None` if the game is asked for, or if it has to be built.
-fn short_report<S: Solver>(
-    alloc: Global,
-    asked: SynthLine,
-    text: &[u8],
-    solver: &S,
-) -> Result<Option<Answer>, Refusal>
-    ensures answer { IfOk result (λ found. IfSome found (λ answer.
-        AnswersReport (S.known solver.now) asked text.now (Ok (reply_of answer)))) }
-    ensures refused { IfErr result (λ refusal.
-        Gives reply_of (AnswersReport (S.known solver.now) asked text.now) (Err refusal)) }
-{
     if asked.full {
-        return Ok(None);
+        return report_by_game(alloc, asked, text, solver);
     }
-    match short_answer(alloc, text, asked.order, solver)? {
-        Some(short) => Ok(Some(print_circuit(alloc, short.realizable, &short.circuit)?)),
-        None => Ok(None),
+    match attempted(alloc, text, asked.order, solver)? {
+        Attempt::Short(short) => Ok(print_circuit(alloc, short.realizable, &short.circuit)?),
+        Attempt::Problem(problem) => {
+            let answer = solution(alloc, asked, &problem, solver);
+            problem.close();
+            answer
+        }
     }
 }
 
-/// The circuit, and what else is asked for, by the certificate that the solver returns for the text's game.
+/// The same by the certificate that the solver returns for the text's game.
 fn report_by_game<S: Solver>(
     alloc: Global,
     asked: SynthLine,
