@@ -9,7 +9,7 @@ ghost use Rattle.ps_program.specs.Replies.{reply_of};
 ghost use Rattle.ps_program.specs.Commands.Shrinking.{AnswersShrink, ShrinksText, TellsReduction};
 
 use crate::answer::{Answer, Refusal};
-use crate::automata::read_automaton;
+use crate::automata::read_mixed_automaton;
 use crate::commands::verify::losing_text;
 use crate::fault::{FaultLine, Place};
 use crate::texts::{read_circuit, two_texts};
@@ -30,7 +30,7 @@ pub fn shrink(alloc: Global, order: Order, role: Role, texts: &[u8]) -> Result<A
     ensures { Gives reply_of (AnswersShrink order role texts.now) result }
 {
     let (hoa, aag) = two_texts(texts)?;
-    let automaton = read_automaton(alloc, hoa)?;
+    let automaton = read_mixed_automaton(alloc, hoa)?;
     shrink_text(alloc, order, role, &automaton, aag)
 }
 
