@@ -15,6 +15,7 @@ import tempfile
 import unittest
 from unittest import mock
 
+from upkeep import edits
 from upkeep.sweeps import TOOLS, TOP
 
 # The edits (wrong function bodies) that matter most to psyn's promises. The gate proves a crate once more, to try its
@@ -168,6 +169,119 @@ class Table(unittest.TestCase):
             with open(path, encoding="utf-8") as file:
                 rows = file.read().splitlines()[1:]
         self.assertEqual(rows, ["a\tz\tc1\tbad", "b\tx\t-\tto be tried", "b\ty\tc0\trefused"])
+
+    def test_a_verdict_is_older_than_a_file_with_other_code(self):
+        before = "use a::b;\n//! Says what.\nfn one() -> u8 {\n    1 // the first\n}\n"
+        self.assertEqual(edits.code_lines(before), ["fn one() -> u8 {", "1", "}"])
+        for after, is_older in ((before.replace("what", "more"), False), (before.replace("a::b", "b::c"), False), (before.replace("1 /", "2 /"), True)):
+            with tempfile.TemporaryDirectory() as top:
+                for path, text in (("src/lib.rt", after), ("more-edits/two.edit", "file: src/lib.rt\nold: 1\nnew: 2\n")):
+                    os.makedirs(os.path.dirname(os.path.join(top, "crates", "ps_a", path)))
+                    with open(os.path.join(top, "crates", "ps_a", path), "w", encoding="utf-8") as file:
+                        file.write(text)
+                then = subprocess.CompletedProcess([], 0, stdout=before)
+                with mock.patch.object(self.tool, "TOP", top), mock.patch.object(self.tool.subprocess, "run", return_value=then):
+                    self.assertEqual(self.tool.is_older("ps_a", "two", "c0+"), is_older)
+
+
+CODE = """
+/// How many.
+const MOST: usize = 3;
+
+impl<'a, W: Width> From<Fault> for Links<'a, W> {
+    fn from(fault: Fault) -> Self { made(fault.at) }
+}
+
+impl Cell {
+    pub(crate) fn value(&self) -> u8
+        ensures { result ≡ 'a' }
+    {
+        self.value
+    }
+}
+
+fn free() -> u8 {
+    Some(1).map(|it| it + 1)
+}
+"""
+
+PRINTED = """
+./proofs/cells/Cell/value/Answers.antt:4:26: error: `returns`: no proof
+fn ps_a::cells::Cell::value: not proved; it calls `ps_a::cells::of`, which is not proved
+fn ps_a::cells::of: no proof: expected answers in ./proofs/cells/of/Answers.antt; `search` did not prove `returns`
+fn ps_a::cells::caller: no proof: it calls `ps_a::cells::of`, which is not proved
+fn ps_a::cells::written: not proved
+fn ps_a::cells::fn::free::map+FnOnce::call_once: not proved
+fn ps_a::cells::good: proved
+"""
+
+
+class Together(unittest.TestCase):
+    """Tests how edits of different functions are tried in one check."""
+
+    def test_functions(self):
+        with tempfile.TemporaryDirectory() as made:
+            crate = os.path.join(made, "ps_a")
+            os.makedirs(os.path.join(crate, "src", "inner"))
+            for path, text in (("src/inner/cells.rt", CODE), ("src/types.rt", "pub(crate) struct Cell {\n}\n"), ("src/lib.rt", "fn first() { last() }\n")):
+                with open(os.path.join(crate, path), "w", encoding="utf-8") as file:
+                    file.write(text)
+            wanted = {
+                "fault.at": "ps_a::inner::cells::LinksFromFault::from",
+                "self.value": "ps_a::types::Cell::value",
+                "it + 1": "ps_a::inner::cells::free",
+                "= 3": None,
+                "result ≡": None,
+            }
+            self.assertEqual({old: edits.function_of(crate, "src/inner/cells.rt", old) for old in wanted}, wanted)
+            self.assertEqual(edits.function_of(crate, "src/lib.rt", "last"), "ps_a::first")
+            self.assertIsNone(edits.function_of(crate, "proofs/A.antt", "last"))
+
+    def test_a_function_that_only_calls_an_unproved_one_does_not_count(self):
+        found = edits.failing(PRINTED)
+        self.assertEqual({it.rpartition("::")[2] for it in found}, {"value", "of", "written", "call_once"})
+        self.assertTrue(edits.is_refused(edits.Edit("a", [], frozenset({"ps_a::cells::free"})), found))
+        self.assertFalse(edits.is_refused(edits.Edit("a", [], frozenset({"ps_a::cells::caller"})), found))
+
+    def refused(self, answers, *tried):
+        """The edits that are refused, where each has a function of the crate, and the edits of each check."""
+        checked = []
+
+        def check(_, some):
+            checked.append([edit.name for edit in some])
+            return answers[len(checked) - 1]
+
+        with mock.patch.object(edits, "check", side_effect=check):
+            found = list(edits.refused("ps_a", [edits.Edit(name, [], frozenset(functions)) for name, functions in tried]))
+        return found, checked
+
+    def test_one_that_says_nothing_is_tried_again(self):
+        answers = ["fn f: not proved\nfn g: no proof: it calls `f`, which is not proved\n", "fn g: not proved\nfn f: not proved\n"]
+        found, checked = self.refused(answers, ("a", {"f"}), ("b", {"g"}), ("c", {"f"}), ("d", ()))
+        self.assertEqual((found, checked), (["a", "b", "c"], [["a", "b"], ["b", "c"]]))
+
+    def test_one_that_no_check_can_try_is_left(self):
+        answers = ["error: `ps_a` has no function `g`", "fn f: not proved\n"]
+        found, checked = self.refused(answers, ("a", {"f"}), ("b", {"g"}))
+        self.assertEqual((found, checked), (["a"], [["a", "b"], ["a"]]))
+        self.assertEqual(self.refused(["", ""], ("a", {"f"}), ("b", {"g"})), ([], [["a", "b"]]))
+
+    def test_files_are_as_before_after_a_check(self):
+        with tempfile.TemporaryDirectory() as crate:
+            path = os.path.join(crate, "body")
+            with open(path, "w", encoding="utf-8") as file:
+                file.write("one two")
+            some = [edits.Edit("a", [("body", "one", "1")], frozenset({"f"})), edits.Edit("b", [("body", "two", "2")], frozenset({"g"}))]
+
+            def run(words, **_):
+                with open(path, encoding="utf-8") as file:
+                    return subprocess.CompletedProcess([], 1, stdout=f"{words[4:]} {file.read()}", stderr="")
+
+            with mock.patch.object(edits.subprocess, "run", side_effect=run):
+                self.assertEqual(edits.check(crate, some), "['--only', 'f', '--only', 'g'] 1 2")
+                self.assertEqual(edits.check(crate, [edits.Edit("c", [("body", "o", "0")], frozenset({"f"}))]), "")
+            with open(path, encoding="utf-8") as file:
+                self.assertEqual(file.read(), "one two")
 
 
 if __name__ == "__main__":
