@@ -7,6 +7,7 @@
 //! | `mixed` | a file with its propositions mixed, if the file has labels |
 //! | `evenly_mixed` | the file mixed by `even_order` |
 //! | `is_worth_mixing` | whether a file has labels, and one of them names propositions of both players |
+//! | `names_many` | whether the labels of a state name so many propositions of one player |
 //!
 //! | Law | What it says |
 //! |---|---|
@@ -24,6 +25,7 @@ mod copies;
 mod file;
 mod label;
 mod laws;
+mod named;
 mod order;
 mod rows;
 mod worth;
@@ -33,5 +35,6 @@ pub use laws::{
     answer_of_mixed, circuit_of_machine, game_of_mixed, lassos_of_mixed, letters_of_mixed,
     machine_of_mixed, mixed_is_sound, symbols_of_mixed, verdict_of_mixed,
 };
+pub use named::names_many;
 pub use order::{Permutation, even_order};
 pub use worth::is_worth_mixing;
