@@ -26,13 +26,13 @@ use ps_brief::machine_without_game;
 use ps_certificate::{no_strategy_wins_outside, valid_regions_are_held};
 use ps_hoa::{HoaFile, one_answer};
 use ps_machine::{BitMachine, Order, Solver, game_of_file_is_game};
-use ps_mixing::{evenly_mixed, is_worth_mixing};
+use ps_mixing::{evenly_mixed, is_worth_mixing, names_many};
 use ps_traces::certified_circuit_of_file_answers;
 use std::alloc::Global;
 
-/// If the player who moves first has fewer propositions, a state of the game has at most 2^7 classes of letters, and
-/// the game is built: its circuits stay as they are.
-const LEAST_PROPOSITIONS: usize = 8;
+/// If the labels of each state name fewer propositions of the player who moves first, a state of the game has at most
+/// 2^7 classes of letters, and the game is built: its circuits stay as they are.
+const LEAST_PROPOSITIONS: u32 = 8;
 
 /// A state with more edges is better left to the game: for each letter of a basis, the search looks at all targets.
 const MOST_EDGES: usize = 1024;
@@ -63,10 +63,11 @@ enum Begun {
 }
 
 /// The winner and a circuit for an HOA text, by a certificate that a free solver may give, although neither the game
-/// nor the certificate is made; or the problem, if the game has to be built: if the solver is not free, if the player
-/// who moves first has fewer than eight propositions, or if a state has more than 1,024 edges or at least
-/// `ps_brief::MOST_LETTERS` minimal letters. The text is read once. Fails with the text's first error, with the reason
-/// why its file has no automaton, if the circuit needs more than 2147483647 variables, or if out of memory.
+/// nor the certificate is made; or the problem, if the game has to be built: if the solver is not free, if the labels
+/// of each state name fewer than eight propositions of the player who moves first, or if a state has more than 1,024
+/// edges or at least `ps_brief::MOST_LETTERS` minimal letters. The text is read once. Fails with the text's first error,
+/// with the reason why its file has no automaton, if the circuit needs more than 2147483647 variables, or if out of
+/// memory.
 pub fn attempted<S: Solver>(
     alloc: Global,
     text: &[u8],
@@ -125,11 +126,17 @@ fn answer_of_file<S: Solver>(
     ensures few { first_count order file.now < 8 → IfOk result (λ found. IsNone found) }
     ensures refused { IfErr result (IsFaultOfFile (Answered (S.known solver.now) (S.known solver.now)) order file.now) }
 {
-    if solver.is_free() && moves_first_with_many(file, order) && has_few_edges(file) {
+    if solver.is_free() && moves_first_with_many(file, order) && is_wide(file, order) {
         answer_without_game(alloc, file, order)
     } else {
         Ok(None)
     }
+}
+
+/// Whether a state can have so many classes of letters that the game is better not built, although no state has many
+/// edges.
+fn is_wide(file: &HoaFile, order: Order) -> bool {
+    names_many(file, matches!(order, Order::Moore), LEAST_PROPOSITIONS) && has_few_edges(file)
 }
 
 /// Whether no state has more than `MOST_EDGES` edges.
@@ -142,14 +149,15 @@ fn has_few_edges(file: &HoaFile) -> bool {
     true
 }
 
-/// Whether the player who moves first has so many propositions that the game is better not built.
+/// Whether the player who moves first has so many propositions.
 fn moves_first_with_many(file: &HoaFile, order: Order) -> bool
     ensures { IsTrue result ↔ (8 ≤ first_count order file.now) }
 {
     let controllable = file.controllable().len();
+    let least = LEAST_PROPOSITIONS as usize;
     match order {
-        Order::Mealy => controllable + LEAST_PROPOSITIONS <= file.names().len(),
-        Order::Moore => LEAST_PROPOSITIONS <= controllable,
+        Order::Mealy => controllable + least <= file.names().len(),
+        Order::Moore => least <= controllable,
     }
 }
 
