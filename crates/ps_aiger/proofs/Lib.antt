@@ -10,6 +10,7 @@ mod SameWires
 pub mod WireLemmas
 mod WiredMade
 mod Making
+pub mod LaidOut
 mod CircuitShape
 mod CircuitSteps
 mod CircuitThere

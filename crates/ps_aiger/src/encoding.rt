@@ -205,8 +205,8 @@ fn parts_of(
     })
 }
 
-/// The literals of `count` variables from `first` on.
-fn literals_from(alloc: Global, first: u32, count: u32) -> Result<Vec<Literal>, AllocError>
+/// The literals of `count` variables from `first` on. Fails if out of memory.
+pub fn literals_from(alloc: Global, first: u32, count: u32) -> Result<Vec<Literal>, AllocError>
     requires { first + count ≤ 2 ^ 31 }
     ensures { IfOk result (λ literals. literals.items ≡ map (λ v. 2 * v) (range_with_len first count)) }
 {
@@ -233,7 +233,8 @@ fn latches_of(alloc: Global, first: u32, next: &[Literal]) -> Result<Vec<Latch>,
     Ok(latches)
 }
 
-fn gates_of(alloc: Global, builder: &Builder) -> Result<Vec<Gate>, AllocError>
+/// The gates of a builder, whose variables follow those that were given. Fails if out of memory.
+pub fn gates_of(alloc: Global, builder: &Builder) -> Result<Vec<Gate>, AllocError>
     ensures { IfOk result (λ gates. AreGates (builder.now.given + 1) builder.now.gates gates.items) }
 {
     let first = builder.given() + 1;
@@ -267,7 +268,8 @@ fn symbols(
     Ok(names)
 }
 
-fn no_symbols(alloc: Global, count: usize) -> Result<Vec<Option<Vec<u8>>>, AllocError>
+/// No symbols for so many latches. Fails if out of memory.
+pub fn no_symbols(alloc: Global, count: usize) -> Result<Vec<Option<Vec<u8>>>, AllocError>
     ensures many { IfOk result (λ names. length names.items ≡ count) }
     ensures none { IfOk result (λ names. map name_bytes names.items ≡ replicate count None) }
 {

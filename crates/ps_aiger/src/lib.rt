@@ -4,6 +4,8 @@
 //! |---|---|
 //! | `encode(machine)` | the circuit of a machine, with the names of the propositions as symbols |
 //! | `encode_bits(machine)` | the same of a machine with diagrams of the bits of its output letters |
+//! | `literals_from(first, count)` | the literals of consecutive variables |
+//! | `gates_of(builder)`, `no_symbols(count)` | the gates of a builder; no symbols for so many latches |
 //! | `one_circuit` | a law: machines with the same behaviour have at most one circuit |
 //! | `circuit_has_literals` | a law: a machine whose gates need too many variables has none |
 //! | `circuit_is_there` | a law: every other machine has one |
@@ -24,7 +26,7 @@ mod laws;
 mod node_literals;
 mod stored;
 
-pub use encoding::{encode, encode_bits};
+pub use encoding::{encode, encode_bits, gates_of, literals_from, no_symbols};
 pub use laws::{circuit_has_literals, circuit_is_there, one_circuit};
 pub use ps_circuit::{
     AigCause, AigFault, Builder, Circuit, EncodeFault, Gate, Latch, Literal, Parts, Sides,
