@@ -1,52 +1,25 @@
 -- A circuit that is assembled from the gates of a builder is well formed, and its gates are in order.
-use Rattle.std.proofs.Common.{◌≡◌, ◌∙◌, ℕ, zero, suc, ◌+◌, ◌-◌, ◌*◌, ◌<◌, ◌≤◌, List, [], ◌∷◌, rules, map, length}
-use Rattle.std.proofs.Common.{get_or, slice_get, Option, Some, None, refl, sym, ap, subst, arith, inl, inr, All}
-use Rattle.std.proofs.Common.{false, replicate}
+use Rattle.std.proofs.Common.{◌≡◌, ◌∙◌, ℕ, ◌+◌, ◌*◌, ◌<◌, ◌≤◌, List, [], ◌∷◌, rules, map, length}
+use Rattle.std.proofs.Common.{get_or, slice_get, Some, None, false, sym, ap, subst, All}
 use Rattle.std.specs.List.{flat_map}
-use Rattle.std.proofs.lemmas.Bool.{cases_eq}
 use Rattle.std.proofs.lemmas.List.{length-map, get_or-map, same_lists, length-replicate}
-use Rattle.std.proofs.lemmas.List.Concat.{flat_map-cons}
 use Rattle.std.proofs.lemmas.List.Elements.{All-append, All-map}
-use Rattle.std.proofs.lemmas.Option.{slice_get_within, slice_get-get_or, get_or_from_slice_get}
-use Rattle.ps_circuit.specs.declared.builder.Sides.{Sides}
-use Rattle.ps_circuit.specs.declared.parts.Gate.{Gate}
+use Rattle.std.proofs.lemmas.Option.{slice_get-get_or, get_or_from_slice_get}
 use Rattle.ps_circuit.specs.declared.parts.Latch.{Latch}
-use Rattle.ps_circuit.specs.Building.{Drafted, AreSides, IsHeld, IsSoundDraft}
-use Rattle.ps_circuit.specs.Circuits.{CircuitData, IsCircuit, IsDraft, IsDefinition, IsKnown, IsSymbolName, ReadsGate}
-use Rattle.ps_circuit.specs.Circuits.{definitions}
+use Rattle.ps_circuit.specs.Building.{Drafted, IsHeld, IsSoundDraft}
+use Rattle.ps_circuit.specs.Circuits.{CircuitData, IsCircuit, IsDraft, IsKnown, IsSymbolName, ReadsGate, definitions}
 use Rattle.ps_circuit.specs.Literals.{variable}
 use Rattle.ps_shrink.specs.declared.assembling.Cell.{Cell}
 use Rattle.ps_shrink.specs.Inner.Assembled.{HasGatesOf}
-use Rattle.ps_aiger.proofs.RangeLemmas.{even_literals, even-append, length-even, even-at}
-
-no_gate : Gate
-no_gate = record { literal = 0; first = 0; second = 0 }
-
-no_sides : Sides
-no_sides = record { first = 0; second = 0 }
+use Rattle.ps_aiger.proofs.LaidOut as layout
+use Rattle.ps_aiger.proofs.LaidOut.{IsLaidOut, none_at}
+use Rattle.ps_aiger.proofs.RangeLemmas.{even_literals, length-even, even-at}
 
 no_latch : Latch
 no_latch = record { literal = 0; next = 0; reset = false }
 
 no_cell : Cell
 no_cell = record { next = 0; reset = false }
-
-none_at : (n k : ℕ) (e : Option (List ℕ)) → k < n → get_or (replicate n None) k e ≡ None
-none_at zero k e lt = absurd (omega arith)
-none_at (suc n) zero e lt = refl
-none_at (suc n) (suc k) e lt = none_at n k e (omega arith)
-
-two_hold : (P : ℕ → Type 0) (x y : ℕ) → P x → P y → All P (x ∷ y ∷ [])
-two_hold P x y h k = search rules
-
-each_side : (P : ℕ → Type 0) (gates : List Gate) → All (λ g. P g.first × P g.second) gates →
-    All P (flat_map (λ g. g.first ∷ g.second ∷ []) gates)
-each_side P [] all = λ k e lt. absurd (omega arith)
-each_side P (g ∷ gates) all =
-    let here = all 0 g (omega arith) in
-    subst (λ xs. All P xs) (sym (flat_map-cons (λ (g : Gate). g.first ∷ g.second ∷ []) g gates))
-    (All-append P (g.first ∷ g.second ∷ []) (flat_map (λ (g : Gate). g.first ∷ g.second ∷ []) gates)
-    (two_hold P g.first g.second here.0 here.1) (each_side P gates (λ k e lt. all (suc k) e (omega arith))))
 
 module _ (named : CircuitData) (d : Drafted) (sound : IsSoundDraft d) (cells : List Cell) (outputs : List ℕ)
     (c : CircuitData) (built : HasGatesOf named d cells outputs c)
@@ -72,74 +45,18 @@ module _ (named : CircuitData) (d : Drafted) (sound : IsSoundDraft d) (cells : L
       ∙ ap (λ (l : Latch). l.literal) (latch_is k no_latch within)
       ∙ sym (even-at (length named.inputs + 1) (length cells) k e within)))
 
-  many_gates : length c.gates ≡ length d.gates
-  many_gates = built.gates.many
-
-  side : ℕ → Sides
-  side k = get_or d.gates k no_sides
-
-  side_at : (k : ℕ) → k < length d.gates → slice_get d.gates k ≡ Some (side k)
-  unfolding side
-  side_at k lt = slice_get-get_or d.gates k no_sides lt
-
-  are_sides : (k : ℕ) → k < length d.gates → AreSides (d.given + 1 + k) (side k)
-  are_sides k lt = sound.sides k (side k) (side_at k lt)
-
-  gate_at : (k : ℕ) → k < length d.gates → slice_get c.gates k ≡ Some
-      (record { literal = 2 * (d.given + 1 + k); first = (side k).first; second = (side k).second })
-  gate_at k lt = built.gates.each k (side k) (side_at k lt)
-
-  gate_is : (k : ℕ) (e : Gate) → k < length d.gates → get_or c.gates k e ≡ record
-      { literal = 2 * (d.given + 1 + k); first = (side k).first; second = (side k).second }
-  gate_is k e lt = get_or_from_slice_get c.gates k _ e (gate_at k lt)
-
-  gate_literals : map (λ g. g.literal) c.gates ≡ even_literals (d.given + 1) (length d.gates)
-  gate_literals = same_lists _ _ (search (rules, length-map, many_gates, length-even))
-      (λ k e lt. (let within : k < length d.gates = search (rules, length-map, many_gates) in
-      get_or-map (λ (g : Gate). g.literal) c.gates k no_gate e (subst (λ n. k < n) (sym many_gates) within)
-      ∙ ap (λ (g : Gate). g.literal) (gate_is k no_gate within) ∙ sym (grind (arith, even-at))))
-
-  -- ## The circuit
-
-  most_is : c.most ≡ length named.inputs + length cells + length d.gates
-  most_is = built.most ∙ ap (λ n. n + length d.gates) given
-
-  definitions_are : definitions c ≡ even_literals 1 c.most
-  definitions_are = search (rules, even_literals, even-append, latch_literals, gate_literals, most_is)
-
-  many_definitions : length (definitions c) ≡ c.most
-  many_definitions = ap length definitions_are ∙ length-even 1 c.most
-
-  definition_at : (k e : ℕ) → k < c.most → get_or (definitions c) k e ≡ 2 * (1 + k)
-  definition_at k e lt = ap (λ xs. get_or xs k e) definitions_are ∙ even-at 1 c.most k e lt
-
-  within_most : (k : ℕ) → k < length (definitions c) → k < c.most
-  within_most k lt = subst (λ n. k < n) many_definitions lt
-
-  half : (k : ℕ) → variable (2 * (1 + k)) ≡ 1 + k
-  half k = omega arith
-
-  known_of : (literal : ℕ) → variable literal ≤ c.most → IsKnown (definitions c) literal
-  known_of literal le = elim (cases_eq (variable literal) 0) [
-    | inl e ↦ inl e
-    | inr ne ↦
-        let v = variable literal in
-        let k : ℕ = v - 1 in
-        let is : 1 + k ≡ v = omega arith in
-        let lt : k < c.most = omega arith in
-        let within : k < length (definitions c) = subst (λ n. k < n) (sym many_definitions) lt in
-        inr (
-          k,
-          subst (λ n. k < n) (sym (length-map (definitions c) variable)) within,
-          get_or-map variable (definitions c) k 0 v within ∙ ap variable (definition_at k 0 lt) ∙ half k ∙ is,
-        )
-  ]
+  laid : IsLaidOut d (length named.inputs) (length cells) c
+  laid = record {
+    given = given;
+    most = built.most;
+    inputs = built.inputs;
+    latch_literals = latch_literals;
+    gates = built.gates;
+  }
 
   held_known : (literal : ℕ) → IsHeld d literal → IsKnown (definitions c) literal
-  held_known literal held = known_of literal (subst (λ n. variable literal ≤ n) (sym built.most) held)
-
-  side_below : (k : ℕ) → k < length d.gates → (variable (side k).first ≤ c.most) × (variable (side k).second ≤ c.most)
-  side_below k lt = grind (arith, are_sides k lt, most_is)
+  held_known literal held = layout.known_of d sound (length named.inputs) (length cells) c laid literal
+      (subst (λ n. variable literal ≤ n) (sym built.most) held)
 
   module _ (nexts_held : All (λ cell. IsHeld d cell.next) cells) (outputs_held : All (IsHeld d) outputs)
       (is_circuit : IsCircuit named) (each_output : length outputs ≡ length named.outputs) where
@@ -155,18 +72,13 @@ module _ (named : CircuitData) (d : Drafted) (sound : IsSoundDraft d) (cells : L
         (λ k e lt. held_known _ (outputs_held k e lt))
 
     sides_known : All (IsKnown (definitions c)) (flat_map (λ g. g.first ∷ g.second ∷ []) c.gates)
-    sides_known = each_side (IsKnown (definitions c)) c.gates (λ k e lt.
-        (let within : k < length d.gates = subst (λ n. k < n) many_gates lt in
-        let b = side_below k within in
-        subst (λ (g : Gate). IsKnown (definitions c) g.first × IsKnown (definitions c) g.second)
-        (sym (gate_is k e within)) (known_of _ b.0, known_of _ b.1)))
+    sides_known = layout.sides_known d sound (length named.inputs) (length cells) c laid
 
     pub is_draft : IsDraft c
     is_draft = record {
       limit = subst (λ n. n < 2147483648) (sym built.most) sound.room;
-      defined = λ k e lt. (let within = within_most k lt in
-          subst (IsDefinition c.most) (sym (definition_at k e within)) (omega arith, omega arith, omega arith));
-      once = λ i j e lt within. grind (arith, within_most j within, definition_at, half);
+      defined = layout.defined d sound (length named.inputs) (length cells) c laid;
+      once = layout.once d sound (length named.inputs) (length cells) c laid;
       known = search (rules, All-append, next_known, outputs_known, sides_known);
       inputs_named = ap length built.input_names ∙ is_circuit.draft.inputs_named
           ∙ sym (ap length built.inputs ∙ length-even 1 (length named.inputs));
@@ -179,20 +91,4 @@ module _ (named : CircuitData) (d : Drafted) (sound : IsSoundDraft d) (cells : L
     }
 
   pub ordered : (i j : ℕ) → ReadsGate c.gates i j → j < i
-  ordered i j r = (let i_lt : i < length d.gates = grind (arith, many_gates, slice_get_within) in
-      let j_lt : j < length d.gates = subst (λ n. j < n) many_gates (slice_get_within c.gates j r.read r.at_j) in
-      let reader : r.reader ≡ record {
-        literal = 2 * (d.given + 1 + i);
-        first = (side i).first;
-        second = (side i).second;
-      } = sym (get_or_from_slice_get c.gates i r.reader no_gate r.at_i) ∙ gate_is i no_gate i_lt in
-      let read : r.read ≡ record { literal = 2 * (d.given + 1 + j); first = (side j).first; second = (side j).second } =
-      sym (get_or_from_slice_get c.gates j r.read no_gate r.at_j) ∙ gate_is j no_gate j_lt in
-      let a = are_sides i i_lt in
-      let own : variable r.read.literal ≡ d.given + 1 + j = search rules in
-      let below : variable (side i).first < d.given + 1 + i = a.below in
-      let falls : (side i).second < (side i).first = a.falls in
-      elim r.side [
-        | inl e ↦ let f : variable (side i).first ≡ d.given + 1 + j = search rules in omega arith
-        | inr e ↦ let f : variable (side i).second ≡ d.given + 1 + j = search rules in omega arith
-      ])
+  ordered = layout.ordered d sound (length named.inputs) (length cells) c laid

@@ -1,15 +1,14 @@
 //! The circuit of a builder's gates, with another circuit's names.
 
-ghost use Rattle.std.specs.Prelude.{◌≡◌, ◌+◌, ◌*◌, ◌^◌, ◌≤◌, All, IfOk, None, length, map, replicate};
-ghost use Rattle.std.specs.List.{range_with_len};
+ghost use Rattle.std.specs.Prelude.{◌≡◌, ◌+◌, ◌^◌, ◌≤◌, All, IfOk, length, map};
 ghost use Rattle.std.specs.Option.{option_copied};
 ghost use Rattle.ps_circuit.specs.Building.{IsHeld, IsSoundDraft};
 ghost use Rattle.ps_circuit.specs.Circuits.{IsCircuit};
 ghost use Rattle.ps_circuit.specs.Drafts.{data_of, name_bytes};
-ghost use Rattle.ps_aiger.specs.Wires.{AreGates};
 ghost use Rattle.ps_shrink.specs.Inner.Assembled.{AreCells, HasNamesOf, HasGatesOf};
 
-use ps_circuit::{Builder, Circuit, Gate, Latch, Literal, Parts};
+use ps_aiger::{gates_of, literals_from, no_symbols};
+use ps_circuit::{Builder, Circuit, Latch, Literal, Parts};
 use ps_simulate::{input_symbols, output_symbols};
 use std::alloc::{AllocError, Global};
 
@@ -61,21 +60,9 @@ fn parts_of(
         outputs,
         gates: gates_of(alloc, builder)?,
         input_names: input_names(alloc, named)?,
-        latch_names: no_names(alloc, cells.len())?,
+        latch_names: no_symbols(alloc, cells.len())?,
         output_names: output_names(alloc, named)?,
     })
-}
-
-/// The literals of `count` variables from `first` on.
-fn literals_from(alloc: Global, first: u32, count: u32) -> Result<Vec<Literal>, AllocError>
-    requires { first + count ≤ 2 ^ 31 }
-    ensures { IfOk result (λ literals. literals.items ≡ map (λ v. 2 * v) (range_with_len first count)) }
-{
-    let mut literals = Vec::new(alloc);
-    for place in 0..count {
-        literals.push(Literal::positive(first + place))?;
-    }
-    Ok(literals)
 }
 
 /// Latches with the variables from `first` on.
@@ -92,22 +79,6 @@ fn latches_of(alloc: Global, first: u32, cells: &[Cell]) -> Result<Vec<Latch>, A
         })?;
     }
     Ok(latches)
-}
-
-/// The gates of a builder.
-fn gates_of(alloc: Global, builder: &Builder) -> Result<Vec<Gate>, AllocError>
-    ensures { IfOk result (λ gates. AreGates (builder.now.given + 1) builder.now.gates gates.items) }
-{
-    let first = builder.given() + 1;
-    let mut gates = Vec::new(alloc);
-    for (place, sides) in builder.gates().iter().enumerate() {
-        gates.push(Gate {
-            literal: Literal::positive(first + place as u32),
-            first: sides.first,
-            second: sides.second,
-        })?;
-    }
-    Ok(gates)
 }
 
 fn input_names(alloc: Global, named: &Circuit) -> Result<Vec<Option<Vec<u8>>>, AllocError>
@@ -141,16 +112,4 @@ fn copy_of(alloc: Global, name: Option<&[u8]>) -> Result<Option<Vec<u8>>, AllocE
         Some(bytes) => Ok(Some(bytes.to_vec(alloc)?)),
         None => Ok(None),
     }
-}
-
-/// The latches have no names.
-fn no_names(alloc: Global, count: usize) -> Result<Vec<Option<Vec<u8>>>, AllocError>
-    ensures many { IfOk result (λ names. length names.items ≡ count) }
-    ensures none { IfOk result (λ names. map name_bytes names.items ≡ replicate count None) }
-{
-    let mut names = Vec::new(alloc);
-    for _ in 0..count {
-        names.push(None)?;
-    }
-    Ok(names)
 }
