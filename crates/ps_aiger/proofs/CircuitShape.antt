@@ -12,8 +12,8 @@ use Rattle.ps_circuit.specs.Literals.{variable}
 use Rattle.ps_circuit.specs.Building.{Drafted, IsSoundDraft}
 use Rattle.ps_aiger.specs.Inner.Built.{IsBuilt}
 use Rattle.ps_aiger.specs.Encoded.{IsTidy, symbols_of}
-use Rattle.ps_aiger.proofs.LaidOut as layout
-use Rattle.ps_aiger.proofs.LaidOut.{IsLaidOut, none_at}
+use Rattle.ps_aiger.proofs.CircuitLayout as layout
+use Rattle.ps_aiger.proofs.CircuitLayout.{IsLaidOut, none_at}
 use Rattle.ps_aiger.proofs.RangeLemmas.{even_literals, length-even, even-at}
 
 pub no_latch : Latch

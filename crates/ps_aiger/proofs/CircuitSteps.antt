@@ -18,7 +18,7 @@ use Rattle.ps_aiger.specs.Timing.{SeesNoInput}
 use Rattle.ps_aiger.specs.Wires.{StepBit, next_bit, output_bit}
 use Rattle.ps_circuit.proofs.GatesAndLinks.GateLemmas.{bit-plain}
 use Rattle.ps_aiger.proofs.CircuitShape.{no_latch}
-use Rattle.ps_aiger.proofs.LaidOut.{no_gate, none_at}
+use Rattle.ps_aiger.proofs.CircuitLayout.{no_gate, none_at}
 use Rattle.ps_aiger.proofs.LetterLemmas.{number_is, number_of_letter}
 use Rattle.ps_aiger.proofs.RangeLemmas.{length-even, even-at}
 use Rattle.ps_aiger.proofs.SameWires.{memory_within}

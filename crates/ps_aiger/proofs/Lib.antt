@@ -10,7 +10,7 @@ mod SameWires
 pub mod WireLemmas
 mod WiredMade
 mod Making
-pub mod LaidOut
+pub mod CircuitLayout
 mod CircuitShape
 mod CircuitSteps
 mod CircuitThere

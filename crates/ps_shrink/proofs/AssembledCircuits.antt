@@ -11,8 +11,8 @@ use Rattle.ps_circuit.specs.Circuits.{CircuitData, IsCircuit, IsDraft, IsKnown, 
 use Rattle.ps_circuit.specs.Literals.{variable}
 use Rattle.ps_shrink.specs.declared.assembling.Cell.{Cell}
 use Rattle.ps_shrink.specs.Inner.Assembled.{HasGatesOf}
-use Rattle.ps_aiger.proofs.LaidOut as layout
-use Rattle.ps_aiger.proofs.LaidOut.{IsLaidOut, none_at}
+use Rattle.ps_aiger.proofs.CircuitLayout as layout
+use Rattle.ps_aiger.proofs.CircuitLayout.{IsLaidOut, none_at}
 use Rattle.ps_aiger.proofs.RangeLemmas.{even_literals, length-even, even-at}
 
 no_latch : Latch
