@@ -206,11 +206,13 @@ fn free() -> u8 {
 """
 
 PRINTED = """
-./proofs/cells/Cell/value/Answers.antt:4:26: error: `returns`: no proof
+./proofs/cells/Cell/value/Answers.antt:4:26: error: `returns`: `grind` found no proof
+./proofs/cells/named/Answers.antt:4:26: error: `returns`: record `Lts.After-refusal` has no field `comes`
+./proofs/cells/fn/free/map+FnOnce/call_once/Answers.antt:3:1: error: `returns`: `search` found no proof
 fn ps_a::cells::Cell::value: not proved; it calls `ps_a::cells::of`, which is not proved
 fn ps_a::cells::of: no proof: expected answers in ./proofs/cells/of/Answers.antt; `search` did not prove `returns`
 fn ps_a::cells::caller: no proof: it calls `ps_a::cells::of`, which is not proved
-fn ps_a::cells::written: not proved
+fn ps_a::cells::named: not proved
 fn ps_a::cells::fn::free::map+FnOnce::call_once: not proved
 fn ps_a::cells::good: proved
 """
@@ -237,9 +239,9 @@ class Together(unittest.TestCase):
             self.assertEqual(edits.function_of(crate, "src/lib.rt", "last"), "ps_a::first")
             self.assertIsNone(edits.function_of(crate, "proofs/A.antt", "last"))
 
-    def test_a_function_that_only_calls_an_unproved_one_does_not_count(self):
+    def test_calls_and_names_alone_do_not_count(self):
         found = edits.failing(PRINTED)
-        self.assertEqual({it.rpartition("::")[2] for it in found}, {"value", "of", "written", "call_once"})
+        self.assertEqual({it.rpartition("::")[2] for it in found}, {"value", "of", "call_once"})
         self.assertTrue(edits.is_refused(edits.Edit("a", [], frozenset({"ps_a::cells::free"})), found))
         self.assertFalse(edits.is_refused(edits.Edit("a", [], frozenset({"ps_a::cells::caller"})), found))
 
@@ -256,12 +258,13 @@ class Together(unittest.TestCase):
         return found, checked
 
     def test_one_that_says_nothing_is_tried_again(self):
-        answers = ["fn f: not proved\nfn g: no proof: it calls `f`, which is not proved\n", "fn g: not proved\nfn f: not proved\n"]
+        f, g = (f"fn {it}: no proof: `search` did not prove `returns`\n" for it in "fg")
+        answers = [f + "fn g: no proof: it calls `f`, which is not proved\n", g + f]
         found, checked = self.refused(answers, ("a", {"f"}), ("b", {"g"}), ("c", {"f"}), ("d", ()))
         self.assertEqual((found, checked), (["a", "b", "c"], [["a", "b"], ["b", "c"]]))
 
     def test_one_that_no_check_can_try_is_left(self):
-        answers = ["error: `ps_a` has no function `g`", "fn f: not proved\n"]
+        answers = ["error: `ps_a` has no function `g`", "fn f: no proof: `search` did not prove `returns`\n"]
         found, checked = self.refused(answers, ("a", {"f"}), ("b", {"g"}))
         self.assertEqual((found, checked), (["a"], [["a", "b"], ["a"]]))
         self.assertEqual(self.refused(["", ""], ("a", {"f"}), ("b", {"g"})), ([], [["a", "b"]]))

@@ -2,7 +2,7 @@
 check of several of them together, which takes little longer than that of one.
 
 In such a check, a function that is not proved only because it calls one that is not proved says nothing about its own
-edit. That edit is tried in a later check, or alone.
+edit, nor does a proof file that names what an edit deleted. Such an edit is tried in a later check, or alone.
 """
 import dataclasses
 import glob
@@ -16,6 +16,8 @@ from upkeep import calls
 MOST = 8
 SAID = re.compile(r"^fn (\S+): (?!proved)(.*)", re.M)
 UNKNOWN = re.compile(r"has no function `([^`]+)`")
+# What `rt must-fail` takes for a complaint about a name alone.
+NAMES = re.compile(r"has no field|is not in scope|has no `|was not admitted")
 
 
 @dataclasses.dataclass
@@ -109,12 +111,12 @@ def first_of(edits):
 
 
 def failing(printed):
-    """The functions that a check refuses for a reason of their own."""
+    """The functions that a check refuses for a reason of their own: a goal without a proof."""
     found = set()
     for function, why in SAID.findall(printed):
         folder = re.escape("/".join(function.split("::")[1:]))
-        by_itself = "did not prove" in why or (why.startswith("not proved") and "it calls" not in why)
-        if by_itself or re.search(rf"^\./proofs/{folder}/\S+: error", printed, re.M):
+        errors = re.findall(rf"^\./proofs/{folder}/\S+: error.*", printed, re.M)
+        if "did not prove" in why or any(not NAMES.search(error) for error in errors):
             found.add(function)
     return found
 
