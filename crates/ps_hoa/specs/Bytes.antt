@@ -1,13 +1,11 @@
 -- The classes of bytes in an HOA text. The class of a byte determines which tokens it can begin.
 -- - `class_of b`: what a byte begins: a blank, a number, a name, an alias, a string, a comment, a one-byte token
-use Rattle.std.specs.Prelude.{ℕ, ◌&&◌, Bool, true, false, List, [], ◌∷◌, if◌then◌else◌, nat_le, nat_eq}
+use Rattle.std.specs.Prelude.{ℕ, Bool, true, false, List, [], ◌∷◌, if◌then◌else◌, nat_eq}
+use Rattle.ps_text.specs.Bytes.{is_between}
 use Rattle.ps_hoa.specs.declared.tokens.Class.{Class}
 use Rattle.ps_hoa.specs.declared.tokens.Class.TheVariants.{Blank, Digit, Letter, At, Quote, Dash, Slash, Sign, Other}
 use Rattle.ps_hoa.specs.declared.tokens.Kind.TheVariants.{Not, And, Or, LeftParen, RightParen, LeftBracket}
 use Rattle.ps_hoa.specs.declared.tokens.Kind.TheVariants.{RightBracket, LeftBrace, RightBrace}
-
-abbrev pub is_between : ℕ → ℕ → ℕ → Bool
-is_between low high b = nat_le low b && nat_le b high
 
 -- blanks are the bytes 9 to 13 and 32
 unfoldable pub class_of : ℕ → Class

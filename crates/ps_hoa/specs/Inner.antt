@@ -9,5 +9,4 @@ pub mod Reads
 pub mod RowPlaces
 pub mod Rows
 pub mod Reader
-pub mod Runs
 pub mod Signs

@@ -5,6 +5,7 @@ use Rattle.std.specs.Prelude.{drop, codes, if◌then◌else◌, nat_eq, nat_lt, 
 use Rattle.std.specs.List.{prefix_len}
 use Rattle.std.specs.Str.{bytes_eq}
 use Rattle.ps_text.specs.Answers.{Piece, Stream}
+use Rattle.ps_text.specs.Comments.{comment_len, head_or_zero, one_more}
 use Rattle.ps_hoa.specs.Bytes.{class_of, is_digit, is_name_byte}
 use Rattle.ps_hoa.specs.Grammar.ItemNames.{none_occurred}
 use Rattle.ps_hoa.specs.Tokens.{Sign, in_context}
@@ -18,31 +19,6 @@ use Rattle.ps_hoa.specs.declared.tokens.Step.{Step}
 use Rattle.ps_hoa.specs.declared.tokens.Step.TheVariants.{Skip, Found}
 use Rattle.ps_hoa.specs.declared.tokens.Lexeme.{Lexeme}
 use Rattle.ps_hoa.specs.declared.tokens.History.{History}
-
-abbrev pub head_or_zero : List ℕ → ℕ
-head_or_zero [] = 0
-head_or_zero (b ∷ bs) = b
-
-abbrev pub one_more : Option ℕ → Option ℕ
-one_more None = None
-one_more (Some n) = Some (suc n)
-
--- the sum of a number and an optional number, or `None` if the optional number is `None`
-abbrev pub plus : ℕ → Option ℕ → Option ℕ
-plus k None = None
-plus k (Some n) = Some (k + n)
-
--- The given bytes begin inside a comment that is nested in `depth` further comments. The result is the number of bytes
--- up to and including the `*/` that closes the outermost comment. If `skip` is true, the first byte is the second byte
--- of a `/*` or a `*/`.
-unfoldable pub comment_len : List ℕ → Bool → ℕ → Option ℕ
-comment_len [] skip depth = None
-comment_len (b ∷ bs) true depth = one_more (comment_len bs false depth)
-comment_len (b ∷ bs) false depth =
-    if nat_eq b 42 && nat_eq (head_or_zero bs) 47 then (elim depth
-    [ zero ↦ Some 2 | suc d ↦ one_more (comment_len bs true d) ])
-    else (if nat_eq b 47 && nat_eq (head_or_zero bs) 42 then one_more (comment_len bs true (suc depth))
-    else one_more (comment_len bs false depth))
 
 -- the number of bytes up to the end of the string that the given bytes continue, including the closing quote
 unfoldable pub quoted_len : List ℕ → Bool → Option ℕ

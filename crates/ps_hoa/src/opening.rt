@@ -1,11 +1,11 @@
 //! The checks at the beginning of an HOA text: its length, `HOA:` and the version.
 
-ghost use Rattle.std.specs.Prelude.{◌≡◌, ◌≤◌, length, IfOk, IfErr, IfSome, Result, Err, Ok};
+ghost use Rattle.std.specs.Prelude.{length, IfOk, IfErr, Result, Err, Ok};
 ghost use Rattle.ps_text.specs.Answers.{Found};
 ghost use Rattle.ps_text.specs.Parts.{PartAnswers};
-ghost use Rattle.ps_hoa.specs.Causes.{hoa_causes, found_of};
+ghost use Rattle.ps_text.specs.Runs.{IsRun};
+ghost use Rattle.ps_hoa.specs.Causes.{hoa_causes};
 ghost use Rattle.ps_hoa.specs.Files.{FileData};
-ghost use Rattle.ps_hoa.specs.Inner.Runs.{IsRun};
 ghost use Rattle.ps_hoa.specs.Scan.{stream_of};
 ghost use Rattle.ps_hoa.specs.Texts.{file, is_version_byte, IsRefusedAs, ReadsFile};
 ghost use Rattle.ps_hoa.specs.declared.fault.HoaCause.{HoaCause};

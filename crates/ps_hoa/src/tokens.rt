@@ -1,19 +1,20 @@
 //! The tokens of an HOA text.
 
-ghost use Rattle.std.specs.Prelude.{◌≡◌, ℕ, ◌+◌, ◌-◌, ◌<◌, ◌≤◌, ◌↔◌, false, List, [], length, drop, slice_index};
-ghost use Rattle.std.specs.Prelude.{IfSome, IsTrue, ◌==◌, ◌&&◌};
+ghost use Rattle.std.specs.Prelude.{◌≡◌, ℕ, ◌+◌, ◌-◌, ◌<◌, ◌≤◌, ◌↔◌, false, List, [], length, drop};
+ghost use Rattle.std.specs.Prelude.{IfSome, IsTrue};
 ghost use Rattle.std.specs.Str.{bytes_eq};
 ghost use Rattle.ps_text.specs.Answers.{Piece};
+ghost use Rattle.ps_text.specs.Runs.{IsRun};
 ghost use Rattle.ps_hoa.specs.Bytes.{class_of as class, is_digit as digit, is_name_byte as names};
-ghost use Rattle.ps_hoa.specs.Scan.{alias_step, begins_with, behind_next, comment_len, comment_step, fresh};
-ghost use Rattle.ps_hoa.specs.Scan.{IsLexeme, IsNoBlank, IsTokenClass, IsTokenStep, lex, dash_step, name_step, next_of};
-ghost use Rattle.ps_hoa.specs.Scan.{number_step, quoted_len, SkipsSome, step_len, scan_step, stream_of, text_step};
+ghost use Rattle.ps_hoa.specs.Scan.{alias_step, begins_with, behind_next, comment_step, fresh};
+ghost use Rattle.ps_hoa.specs.Scan.{IsLexeme, IsNoBlank, IsTokenClass, lex, dash_step, name_step, next_of};
+ghost use Rattle.ps_hoa.specs.Scan.{number_step, quoted_len, scan_step, stream_of, text_step};
 ghost use Rattle.ps_hoa.specs.Tokens.{AreTokens, is_known, kind_here, in_context, history_after, Sign, with_occurred};
 ghost use Rattle.ps_hoa.specs.Inner.Lexemes.{IsFirstLexeme};
-ghost use Rattle.ps_hoa.specs.Inner.Runs.{IsRun};
 ghost use Rattle.ps_hoa.specs.Spans.{AreBlanks, IsKindHere, IsSpan, piece_of};
 
 use crate::header::items::{ONCE_COUNT, once_named};
+use ps_text::comments::{byte_at, comment_at};
 use std::marker::Model;
 
 /// The kind of a token (HOA v1, tokens).
@@ -178,48 +179,6 @@ fn quoted_at(bytes: &[u8]) -> Option<usize>
         }
     }
     None
-}
-
-/// The number of bytes up to and including the `*/` that closes a comment, in which others may be nested; `None` if
-/// none does. The bytes begin after its `/*`.
-fn comment_at(bytes: &[u8]) -> Option<usize>
-    ensures value { result ≡ comment_len bytes.now false 0 }
-    ensures within { IfSome result (λ n. n ≤ length bytes.now) }
-{
-    let mut skip = false;
-    let mut depth: usize = 0;
-    for at in 0..bytes.len() {
-        if skip {
-            skip = false;
-        } else if is_pair(bytes, at, b'*', b'/') {
-            if depth == 0 {
-                return Some(at + 2);
-            }
-            depth -= 1;
-            skip = true;
-        } else if is_pair(bytes, at, b'/', b'*') {
-            depth += 1;
-            skip = true;
-        }
-    }
-    None
-}
-
-/// Whether these two bytes are at an offset.
-fn is_pair(bytes: &[u8], at: usize, first: u8, second: u8) -> bool
-    requires some { 0 < second }
-    ensures value { result ≡ (slice_index bytes.now at == first && slice_index bytes.now (at + 1) == second) }
-    ensures within { IsTrue result → at + 1 < length bytes.now }
-{
-    at < bytes.len() && bytes[at] == first && byte_at(bytes, at + 1) == second
-}
-
-/// The byte at an offset, or 0 after the end.
-fn byte_at(bytes: &[u8], at: usize) -> u8
-    ensures value { result ≡ slice_index bytes.now at }
-    ensures within { 0 < result → at < length bytes.now }
-{
-    if at < bytes.len() { bytes[at] } else { 0 }
 }
 
 #[inline(always)]

@@ -1,3 +1,4 @@
 pub mod Combinators
 pub mod ParsedAnswers
 pub mod BytesAndDigits
+pub mod NestedComments

@@ -91,15 +91,18 @@ NoBadRun run f = ⊥
 
 -- ## Classes of bytes
 
+abbrev pub is_between : ℕ → ℕ → ℕ → Bool
+is_between low high b = nat_le low b && nat_le b high
+
 abbrev pub is_digit : ℕ → Bool
-is_digit b = nat_le 48 b && nat_le b 57
+is_digit b = is_between 48 57 b
 
 abbrev pub is_letter : ℕ → Bool
-is_letter b = (nat_le 65 b && nat_le b 90) || (nat_le 97 b && nat_le b 122)
+is_letter b = is_between 65 90 b || is_between 97 122 b
 
 -- a tab, a line break, another byte from 9 to 13, or a space
 abbrev pub is_blank : ℕ → Bool
-is_blank b = (nat_le 9 b && nat_le b 13) || (b == 32)
+is_blank b = is_between 9 13 b || (b == 32)
 
 -- a space or a tab
 abbrev pub is_space : ℕ → Bool

@@ -8,3 +8,4 @@ pub mod Outcomes
 pub mod Runs
 pub mod Bytes
 pub mod Cursors
+pub mod Comments

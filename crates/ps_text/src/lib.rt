@@ -10,6 +10,7 @@
 //! | `Cursor::comes(byte)`, `is_at_end` | whether this byte is next, or none |
 //! | `Cursor::step`, `byte`, `word`, `run`, `digits`, `finish` | moves past a byte, a word, a run, digits, or all |
 //! | `cursor::run_length(text, class)` | how many bytes of a class a text begins with |
+//! | `comments::comment_at(bytes)`, `byte_at` | how long a comment is that may nest others; a byte, or 0 |
 //! | `faults::Cause::number`, `name` | the number and name of a cause in psyn's list of faults |
 //! | `faults::Fault::number`, `name` | its cause's, or 24 and `OutOfMemory` |
 //! | `answers::one_answer` | a law: a text of a `Format` has at most one answer |
@@ -21,6 +22,7 @@
 #![tactic(auto)]
 
 pub mod answers;
+pub mod comments;
 pub mod cursor;
 pub mod faults;
 pub mod numbers;

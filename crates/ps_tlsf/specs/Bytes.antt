@@ -1,13 +1,11 @@
 -- The classes of bytes in a specification. The class of a byte determines which tokens it can begin.
-use Rattle.std.specs.Prelude.{ℕ, ◌&&◌, Bool, true, false, if◌then◌else◌, nat_le, nat_eq, not}
+use Rattle.std.specs.Prelude.{ℕ, Bool, true, false, if◌then◌else◌, nat_eq}
+use Rattle.ps_text.specs.Bytes.{is_between}
 use Rattle.ps_tlsf.specs.declared.words.Prefix.TheVariants.{Not}
 use Rattle.ps_tlsf.specs.declared.words.Sign.TheVariants as signs
 use Rattle.ps_tlsf.specs.declared.tokens.Class.{Class}
 use Rattle.ps_tlsf.specs.declared.tokens.Class.TheVariants.{Blank, Letter, Digit, Quote, Slash, Ampersand, Bar, Dash}
 use Rattle.ps_tlsf.specs.declared.tokens.Class.TheVariants.{Less, Sign, Other}
-
-abbrev pub is_between : ℕ → ℕ → ℕ → Bool
-is_between low high b = nat_le low b && nat_le b high
 
 -- Blanks are the bytes 9 to 13 and 32. Digits, `'` and `@` may stand in a word after its first byte.
 unfoldable pub class_of : ℕ → Class
@@ -44,11 +42,3 @@ goes_on _ = false
 -- a byte that a word may contain after its first byte
 abbrev pub is_word_byte : ℕ → Bool
 is_word_byte b = goes_on (class_of b)
-
--- every byte except the newline
-abbrev pub is_inner : ℕ → Bool
-is_inner b = not (nat_eq b 10)
-
--- every byte except the quote
-abbrev pub is_unquoted : ℕ → Bool
-is_unquoted b = not (nat_eq b 34)

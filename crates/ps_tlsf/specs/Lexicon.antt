@@ -10,10 +10,12 @@
 -- - `Token`: a token: its kind, its bytes, the offset of its first byte, and the offset after its last byte
 -- - `scan_step bytes`: what the bytes begin with, and its length: something to be skipped, or a token
 -- - `lex at bytes`: the tokens of the bytes, whose first byte is at the offset `at`
-use Rattle.std.specs.Prelude.{ℕ, zero, suc, ◌+◌, ◌-◌, ◌&&◌, Bool, true, false, List, [], ◌∷◌, length, take}
+use Rattle.std.specs.Prelude.{ℕ, zero, suc, ◌+◌, ◌-◌, ◌&&◌, false, List, [], ◌∷◌, length, take}
 use Rattle.std.specs.Prelude.{drop, if◌then◌else◌, nat_eq, nat_lt, Option, None, Some}
 use Rattle.std.specs.List.{prefix_len}
-use Rattle.ps_tlsf.specs.Bytes.{class_of, is_word_byte, is_inner, is_unquoted}
+use Rattle.ps_text.specs.Bytes.{is_inner, is_unquoted}
+use Rattle.ps_text.specs.Comments.{comment_len, head_or_zero}
+use Rattle.ps_tlsf.specs.Bytes.{class_of, is_word_byte}
 use Rattle.ps_tlsf.specs.Words.{word_sign}
 use Rattle.ps_tlsf.specs.declared.words.Infix.{Infix}
 use Rattle.ps_tlsf.specs.declared.words.Infix.TheVariants as infixes
@@ -30,26 +32,6 @@ pub record Token : Type 0 where
   pub text : List ℕ
   pub start : ℕ
   pub stop : ℕ
-
-abbrev pub head_or_zero : List ℕ → ℕ
-head_or_zero [] = 0
-head_or_zero (b ∷ bs) = b
-
-abbrev pub one_more : Option ℕ → Option ℕ
-one_more None = None
-one_more (Some n) = Some (suc n)
-
--- The given bytes begin inside a comment that is nested in `depth` further comments. The result is the number of bytes
--- up to and including the `*/` that closes the outermost comment. If `skip` is true, the first byte is the second byte
--- of a `/*` or a `*/`.
-unfoldable pub comment_len : List ℕ → Bool → ℕ → Option ℕ
-comment_len [] skip depth = None
-comment_len (b ∷ bs) true depth = one_more (comment_len bs false depth)
-comment_len (b ∷ bs) false depth =
-    if nat_eq b 42 && nat_eq (head_or_zero bs) 47 then (elim depth
-    [ zero ↦ Some 2 | suc d ↦ one_more (comment_len bs true d) ])
-    else (if nat_eq b 47 && nat_eq (head_or_zero bs) 42 then one_more (comment_len bs true (suc depth))
-    else one_more (comment_len bs false depth))
 
 abbrev pub wrong : Step
 wrong = Found signs.Wrong 1

@@ -1,13 +1,14 @@
 //! The tokens of a specification.
 
-ghost use Rattle.std.specs.Prelude.{◌≡◌, ◌+◌, ◌<◌, ◌≤◌, length, slice_index, IfSome, IsTrue, false};
-ghost use Rattle.std.specs.Prelude.{◌==◌, ◌&&◌};
-ghost use Rattle.ps_tlsf.specs.Bytes.{class_of as class, is_word_byte as in_word, is_inner, is_unquoted};
-ghost use Rattle.ps_tlsf.specs.Lexicon.{comment_len, scan_step, word_step, text_step, slash_step, pair_step};
-ghost use Rattle.ps_tlsf.specs.Lexicon.{arrow_step};
-ghost use Rattle.ps_tlsf.specs.Inner.Lexing.{IsRun, IsFirstOf, IsStep};
+ghost use Rattle.std.specs.Prelude.{◌≡◌, ◌+◌, ◌<◌, ◌≤◌, length};
+ghost use Rattle.ps_text.specs.Runs.{IsRun};
+ghost use Rattle.ps_tlsf.specs.Bytes.{class_of as class, is_word_byte as in_word};
+ghost use Rattle.ps_tlsf.specs.Lexicon.{scan_step, word_step, text_step, slash_step, pair_step, arrow_step};
+ghost use Rattle.ps_tlsf.specs.Inner.Lexing.{IsFirstOf, IsStep};
 
 use crate::words::{Infix, Prefix, Sign, word_sign};
+use ps_text::comments::{byte_at, comment_at};
+use ps_text::cursor::{self, run_length};
 use std::marker::Model;
 
 /// A byte by the blanks, comments and tokens that can begin with it.
@@ -84,72 +85,6 @@ fn word_at(bytes: &[u8]) -> usize
     count
 }
 
-/// How many bytes come before the first newline, or the end.
-fn line_at(bytes: &[u8]) -> usize
-    ensures { IsRun is_inner bytes.now result }
-{
-    let mut count = 0;
-    while count < bytes.len() && bytes[count] != b'\n' {
-        count += 1;
-    }
-    count
-}
-
-/// How many come before the first quote, or the end.
-fn quoted_at(bytes: &[u8]) -> usize
-    ensures { IsRun is_unquoted bytes.now result }
-{
-    let mut count = 0;
-    while count < bytes.len() && bytes[count] != b'"' {
-        count += 1;
-    }
-    count
-}
-
-/// How many bytes after `/*` the comment has, its `*/` included, with comments nested in it; `None` if it is not
-/// closed.
-fn comment_at(bytes: &[u8]) -> Option<usize>
-    ensures value { result ≡ comment_len bytes.now false 0 }
-    ensures within { IfSome result (λ n. n ≤ length bytes.now) }
-{
-    let mut skip = false;
-    let mut depth: usize = 0;
-    for at in 0..bytes.len() {
-        if skip {
-            skip = false;
-        } else if is_pair(bytes, at, b'*', b'/') {
-            if depth == 0 {
-                return Some(at + 2);
-            }
-            depth -= 1;
-            skip = true;
-        } else if is_pair(bytes, at, b'/', b'*') {
-            depth += 1;
-            skip = true;
-        }
-    }
-    None
-}
-
-/// Whether these two bytes are at an offset.
-#[inline(always)]
-fn is_pair(bytes: &[u8], at: usize, first: u8, second: u8) -> bool
-    requires some { 0 < second }
-    ensures value { result ≡ (slice_index bytes.now at == first && slice_index bytes.now (at + 1) == second) }
-    ensures within { IsTrue result → at + 1 < length bytes.now }
-{
-    at < bytes.len() && bytes[at] == first && byte_at(bytes, at + 1) == second
-}
-
-/// The byte at an offset, or 0 after the end.
-#[inline(always)]
-fn byte_at(bytes: &[u8], at: usize) -> u8
-    ensures value { result ≡ slice_index bytes.now at }
-    ensures within { 0 < result → at < length bytes.now }
-{
-    if at < bytes.len() { bytes[at] } else { 0 }
-}
-
 /// The word at the beginning.
 #[inline(always)]
 fn word_step(bytes: &[u8]) -> Step
@@ -166,7 +101,7 @@ fn text_step(bytes: &[u8]) -> Step
     requires { length bytes.now < usize.MAX }
     ensures { IsStep (text_step bytes.now) (1 + length bytes.now) result }
 {
-    let count = quoted_at(bytes);
+    let count = run_length(bytes, cursor::Class::Unquoted);
     if count < bytes.len() {
         Step::Found(Sign::Text, count + 2)
     } else {
@@ -181,7 +116,7 @@ fn slash_step(bytes: &[u8]) -> Step
     ensures { IsStep (slash_step bytes.now) (1 + length bytes.now) result }
 {
     match byte_at(bytes, 0) {
-        b'/' => Step::Skip(1 + line_at(bytes)),
+        b'/' => Step::Skip(1 + run_length(bytes, cursor::Class::Inner)),
         b'*' => match comment_at(&bytes[1..]) {
             None => Step::Found(Sign::Wrong, 1),
             Some(count) => Step::Skip(2 + count),

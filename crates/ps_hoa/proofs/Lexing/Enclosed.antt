@@ -7,7 +7,8 @@ use Rattle.std.specs.Prelude.{Some, nat_eq}
 use Rattle.std.proofs.lemmas.Bool.Decides.{eqb_tells}
 use Rattle.std.proofs.lemmas.Bool.{eq-eqb}
 use Rattle.ps_hoa.specs.Tokens.{Ends, closes_last, closes, opens, goes_on, IsQuoted, nothing, plain, escaped}
-use Rattle.ps_hoa.specs.Scan.{one_more, comment_len, quoted_len}
+use Rattle.ps_text.specs.Comments.{one_more, comment_len}
+use Rattle.ps_hoa.specs.Scan.{quoted_len}
 use Rattle.ps_hoa.proofs.Lexing.TokenSteps.{some_more, differ}
 
 -- ## What a step states about the bytes

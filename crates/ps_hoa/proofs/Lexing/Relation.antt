@@ -14,7 +14,8 @@ use Rattle.ps_hoa.specs.Bytes.{class_of}
 use Rattle.ps_hoa.specs.Tokens.{Sign, AreTokens, IsBlankPart, IsBlankRun, no_blank, blank, IsLongestToken, IsToken}
 use Rattle.ps_hoa.specs.Tokens.{IsNext}
 use Rattle.ps_hoa.specs.Spans.{AreBlanks}
-use Rattle.ps_hoa.specs.Scan.{IsNoBlank, comment_len, scan_step, comment_by, lex}
+use Rattle.ps_text.specs.Comments.{comment_len}
+use Rattle.ps_hoa.specs.Scan.{IsNoBlank, scan_step, comment_by, lex}
 use Rattle.ps_hoa.specs.declared.tokens.Kind.{Kind}
 use Rattle.ps_hoa.specs.declared.tokens.Kind.TheVariants.{OpenComment, Odd}
 use Rattle.ps_hoa.specs.declared.tokens.Class.TheVariants.{Blank, Slash}

@@ -1,22 +1,17 @@
--- Lemmas about moving forward by one byte in a string or a comment.
-use Rattle.std.proofs.Common.{◌≡◌, ◌≢◌, ℕ, suc, zero, ◌+◌, ◌-◌, ◌<◌, ◌≤◌, ◌&&◌, Bool, true, false, List, [], ◌∷◌, rules}
-use Rattle.std.proofs.Common.{length, get_or, take, drop, refl, ap, sym, ◌∙◌, arith, add-one, nat_eq}
-use Rattle.std.specs.Prelude.{Option, None, Some}
+-- Lemmas about moving forward by one byte in a string, and from token to token.
+use Rattle.std.proofs.Common.{◌≡◌, ◌≢◌, ℕ, suc, zero, ◌+◌, ◌-◌, ◌<◌, ◌≤◌, Bool, true, false, List, [], ◌∷◌, rules}
+use Rattle.std.proofs.Common.{length, get_or, take, drop, refl, ap, arith, add-one, nat_eq}
+use Rattle.std.specs.Prelude.{None, Some}
 use Rattle.std.proofs.Math.Seq.{drop-cons}
 use Rattle.std.proofs.lemmas.List.{drop_all, drop-drop}
+use Rattle.ps_text.proofs.NestedComments.{plus, plus-one_more}
 use Rattle.ps_text.specs.Answers.{Piece}
 use Rattle.ps_hoa.specs.Tokens.{Sign}
 use Rattle.ps_hoa.specs.declared.tokens.Kind.{Kind}
 use Rattle.ps_hoa.specs.declared.tokens.Step.{Step}
 use Rattle.ps_hoa.specs.declared.tokens.Step.TheVariants.{Skip, Found}
 use Rattle.ps_hoa.proofs.Lexing.TokenSteps.{differ}
-use Rattle.ps_hoa.specs.Scan.{plus, one_more, quoted_len, comment_len, head_or_zero, lex, lex_behind, scan_step}
-
-pub plus-one_more : (k : ℕ) (o : Option ℕ) → plus k (one_more o) ≡ plus (k + 1) o
-plus-one_more k o = search rules
-
-pub plus_zero : (o : Option ℕ) → plus 0 o ≡ o
-plus_zero o = search rules
+use Rattle.ps_hoa.specs.Scan.{quoted_len, lex, lex_behind, scan_step}
 
 pub quoted_skip : (bs : List ℕ) (at : ℕ) → at < length bs → plus at (quoted_len (drop at bs) true) ≡ plus (at + 1)
     (quoted_len (drop (at + 1) bs) false)
@@ -37,63 +32,6 @@ quoted_on bs at h is = search (rules, drop-cons, differ, plus-one_more)
 pub quoted_past : (bs : List ℕ) (skip : Bool) (at : ℕ) → length bs ≤ at → plus at (quoted_len (drop at bs) skip) ≡ None
 unfolding quoted_len
 quoted_past bs skip at h = rw (drop_all at bs h) refl
-
-head-drop : (bs : List ℕ) (at : ℕ) → head_or_zero (drop at bs) ≡ get_or bs at 0
-head-drop [] zero = refl
-head-drop [] (suc at) = refl
-head-drop (b ∷ bs) zero = refl
-head-drop (b ∷ bs) (suc at) = head-drop bs at
-
--- the next byte
-next-is : (bs : List ℕ) (at : ℕ) → head_or_zero (drop (suc at) bs) ≡ get_or bs (at + 1) 0
-next-is bs at = head-drop bs (suc at) ∙ ap (λ (k : ℕ). get_or bs k 0) (sym (add-one at))
-
-pub comment_skip : (bs : List ℕ) (at depth : ℕ) → at < length bs →
-    plus at (comment_len (drop at bs) true depth) ≡ plus (at + 1) (comment_len (drop (at + 1) bs) false depth)
-unfolding comment_len
-comment_skip bs at depth h =
-    rw (drop-cons bs at 0 h, add-one at) (rw add-one at (plus-one_more at (comment_len (drop (suc at) bs) false depth)))
-
-abbrev pub is_pair : List ℕ → ℕ → ℕ → ℕ → Bool
-is_pair bs at a b = nat_eq (get_or bs at 0) a && nat_eq (get_or bs (at + 1) 0) b
-
-pub comment_ends : (bs : List ℕ) (at : ℕ) → at < length bs → is_pair bs at 42 47 ≡ true →
-    plus at (comment_len (drop at bs) false 0) ≡ Some (at + 2)
-unfolding comment_len
-comment_ends bs at h close = rw (drop-cons bs at 0 h, next-is bs at, close) refl
-
-pub comment_closes : (bs : List ℕ) (at depth : ℕ) → at < length bs → 0 < depth → is_pair bs at 42 47 ≡ true →
-    plus at (comment_len (drop at bs) false depth) ≡ plus (at + 1) (comment_len (drop (at + 1) bs) true (depth - 1))
-unfolding comment_len
-comment_closes bs at zero h some close = absurd (omega arith)
-comment_closes bs at (suc depth) h some close = let same : suc depth - 1 ≡ depth = omega arith in
-    rw (drop-cons bs at 0 h, next-is bs at, close, add-one at, same)
-    (rw add-one at (plus-one_more at (comment_len (drop (suc at) bs) true depth)))
-
-pub comment_opens : (bs : List ℕ) (at depth : ℕ) → at < length bs → is_pair bs at 42 47 ≡ false →
-    is_pair bs at 47 42 ≡ true →
-    plus at (comment_len (drop at bs) false depth) ≡ plus (at + 1) (comment_len (drop (at + 1) bs) true (depth + 1))
-unfolding comment_len
-comment_opens bs at depth h close begin = grind (
-  arith,
-  drop-cons bs at 0 h,
-  next-is bs at,
-  add-one at,
-  add-one depth,
-  plus-one_more at (comment_len (drop (suc at) bs) true (suc depth)),
-)
-
-pub comment_on : (bs : List ℕ) (at depth : ℕ) → at < length bs → is_pair bs at 42 47 ≡ false →
-    is_pair bs at 47 42 ≡ false →
-    plus at (comment_len (drop at bs) false depth) ≡ plus (at + 1) (comment_len (drop (at + 1) bs) false depth)
-unfolding comment_len
-comment_on bs at depth h close begin = rw (drop-cons bs at 0 h, next-is bs at, close, begin, add-one at)
-    (rw add-one at (plus-one_more at (comment_len (drop (suc at) bs) false depth)))
-
-pub comment_past : (bs : List ℕ) (skip : Bool) (at depth : ℕ) → length bs ≤ at →
-    plus at (comment_len (drop at bs) skip depth) ≡ None
-unfolding comment_len
-comment_past bs skip at depth h = rw (drop_all at bs h) refl
 
 -- ## The list of tokens
 

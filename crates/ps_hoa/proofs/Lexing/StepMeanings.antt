@@ -11,7 +11,8 @@ use Rattle.std.proofs.lemmas.Slice.Eq.{bytes_eq-Decides}
 use Rattle.std.proofs.lemmas.List.Folds.{length-prefix_len}
 use Rattle.ps_hoa.specs.Bytes.{class_of, is_digit, is_name_byte}
 use Rattle.ps_hoa.specs.Tokens.{IsBlankPart, lengthens, StopsBefore, IsToken}
-use Rattle.ps_hoa.specs.Scan.{comment_len, quoted_len, head_or_zero, scan_step, class_step, name_step, text_by}
+use Rattle.ps_text.specs.Comments.{comment_len, head_or_zero}
+use Rattle.ps_hoa.specs.Scan.{quoted_len, scan_step, class_step, name_step, text_by}
 use Rattle.ps_hoa.specs.Scan.{comment_by, dash_step, begins_with, comment_step, alias_step, text_step}
 use Rattle.ps_hoa.specs.Scan.{is_finish}
 use Rattle.ps_hoa.specs.declared.tokens.Kind.{Kind}

@@ -11,7 +11,8 @@ use Rattle.std.proofs.Math.Seq.{drop-append_seam}
 use Rattle.ps_hoa.specs.Bytes.{class_of, is_digit, is_name_byte, goes_on as names}
 use Rattle.ps_hoa.specs.Tokens.{Ends, closes_last, closes, opens, goes_on, AllBytes, IsName, IsQuoted, nothing, plain}
 use Rattle.ps_hoa.specs.Tokens.{escaped, lengthens, StopsBefore, IsLongestToken}
-use Rattle.ps_hoa.specs.Scan.{one_more, comment_len, quoted_len, scan_step, class_step}
+use Rattle.ps_text.specs.Comments.{one_more, comment_len}
+use Rattle.ps_hoa.specs.Scan.{quoted_len, scan_step, class_step}
 use Rattle.ps_hoa.specs.declared.tokens.Kind.{Kind}
 use Rattle.ps_hoa.specs.declared.tokens.Kind.TheVariants.{Header, HeaderAgain, Word, AliasName, Int, ZeroRun, Text}
 use Rattle.ps_hoa.specs.declared.tokens.Kind.TheVariants.{Body, End, Abort, OpenComment, Odd, Behind, Finish}

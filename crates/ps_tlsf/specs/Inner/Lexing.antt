@@ -1,15 +1,9 @@
 -- What the functions that scan for tokens state.
-use Rattle.std.specs.Prelude.{◌≡◌, ℕ, ◌<◌, ◌≤◌, Bool, List, [], ◌∷◌, length, drop, Option, None, Some, slice_range}
-use Rattle.std.specs.List.{prefix_len}
+use Rattle.std.specs.Prelude.{◌≡◌, ℕ, ◌<◌, ◌≤◌, List, [], ◌∷◌, length, drop, Option, None, Some, slice_range}
 use Rattle.ps_tlsf.specs.Lexicon.{lex, Token}
 use Rattle.ps_tlsf.specs.declared.tokens.Step.{Step}
 use Rattle.ps_tlsf.specs.declared.tokens.Step.TheVariants.{Skip, Found}
 use Rattle.ps_tlsf.specs.declared.tokens.Lexeme.{Lexeme}
-
--- exactly the first `count` bytes come before the first byte that fails the test, or before the end of the text
-pub record IsRun (test : ℕ → Bool) (bytes : List ℕ) (count : ℕ) : Type 0 where
-  pub value : count ≡ prefix_len test bytes
-  pub within : count ≤ length bytes
 
 abbrev pub Within : ℕ → Step → Type 0
 Within most (Skip n) = (0 < n) × (n ≤ most)

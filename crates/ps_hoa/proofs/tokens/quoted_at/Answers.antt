@@ -1,5 +1,6 @@
 use Rattle.std.proofs.Common.{arith}
-use Rattle.ps_hoa.proofs.Lexing.Scanning.{quoted_skip, quoted_ends, quoted_on, quoted_past, plus_zero}
+use Rattle.ps_text.proofs.NestedComments.{plus_zero}
+use Rattle.ps_hoa.proofs.Lexing.Scanning.{quoted_skip, quoted_ends, quoted_on, quoted_past}
 use Rattle.ps_hoa.proofs.tokens.quoted_at.Goals as goal
 use Rattle.ps_hoa.proofs.tokens.quoted_at.Goals.{then-skip, else-skip+else-byte-eq34}
 

@@ -1,5 +1,6 @@
 use Rattle.std.proofs.Common.{◌≡◌, drop, false}
-use Rattle.ps_hoa.specs.Scan.{plus, quoted_len}
+use Rattle.ps_text.proofs.NestedComments.{plus}
+use Rattle.ps_hoa.specs.Scan.{quoted_len}
 use Rattle.ps_hoa.proofs.tokens.quoted_at.Given as goal
 
 abbrev pub invariant-loop-at : goal.invariant-loop-at

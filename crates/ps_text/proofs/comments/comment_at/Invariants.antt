@@ -1,7 +1,7 @@
 use Rattle.std.proofs.Common.{◌≡◌, ◌≤◌, drop, false}
-use Rattle.ps_tlsf.specs.Lexicon.{comment_len}
-use Rattle.ps_tlsf.proofs.OutlinedTexts.Scanning.{plus}
-use Rattle.ps_tlsf.proofs.tokens.comment_at.Given as goal
+use Rattle.ps_text.specs.Comments.{comment_len}
+use Rattle.ps_text.proofs.NestedComments.{plus}
+use Rattle.ps_text.proofs.comments.comment_at.Given as goal
 
 abbrev pub invariant-loop-at : goal.invariant-loop-at
 invariant-loop-at l = record {
