@@ -7,8 +7,6 @@ use Rattle.std.specs.Prelude.{◌≢◌, AllPairs}
 use Rattle.std.specs.List.{flat_map}
 use Rattle.std.proofs.lemmas.Bool.{cases_eq}
 use Rattle.std.proofs.lemmas.List.{length-map, get_or-map, same_lists}
-use Rattle.std.proofs.lemmas.List.Concat.{flat_map-cons}
-use Rattle.std.proofs.lemmas.List.Elements.{All-append}
 use Rattle.std.proofs.lemmas.Option.{slice_get_within, slice_get-get_or, get_or_from_slice_get}
 use Rattle.ps_circuit.specs.declared.builder.Sides.{Sides}
 use Rattle.ps_circuit.specs.declared.parts.Gate.{Gate}
@@ -19,6 +17,7 @@ use Rattle.ps_aiger.specs.Encoded.{IsTidy, IsTidyGate}
 use Rattle.ps_aiger.specs.Wires.{AreGates}
 use Rattle.ps_aiger.proofs.RangeLemmas.{even_literals, even-append, length-even, even-at}
 use Rattle.ps_circuit.proofs.GatesAndLinks.GateLemmas.{sides_are}
+use Rattle.ps_circuit.proofs.GatesAndLinks.LinksLemmas.{each_side}
 
 pub no_gate : Gate
 no_gate = record { literal = 0; first = 0; second = 0 }
@@ -30,18 +29,6 @@ pub none_at : (n k : ℕ) (e : Option (List ℕ)) → k < n → get_or (replicat
 none_at zero k e lt = absurd (omega arith)
 none_at (suc n) zero e lt = refl
 none_at (suc n) (suc k) e lt = none_at n k e (omega arith)
-
-two_hold : (P : ℕ → Type 0) (x y : ℕ) → P x → P y → All P (x ∷ y ∷ [])
-two_hold P x y h k = search rules
-
-each_side : (P : ℕ → Type 0) (gates : List Gate) → All (λ g. P g.first × P g.second) gates →
-    All P (flat_map (λ g. g.first ∷ g.second ∷ []) gates)
-each_side P [] all = λ k e lt. absurd (omega arith)
-each_side P (g ∷ gates) all =
-    let here = all 0 g (omega arith) in
-    subst (λ xs. All P xs) (sym (flat_map-cons (λ (g : Gate). g.first ∷ g.second ∷ []) g gates))
-    (All-append P (g.first ∷ g.second ∷ []) (flat_map (λ (g : Gate). g.first ∷ g.second ∷ []) gates)
-    (two_hold P g.first g.second here.0 here.1) (each_side P gates (λ k e lt. all (suc k) e (omega arith))))
 
 -- the circuit has `width` inputs and so many latches, and the gates of d
 pub record IsLaidOut (d : Drafted) (width latches : ℕ) (c : CircuitData) : Type 0 where

@@ -4,6 +4,7 @@ pub mod Values
 pub mod Drafts
 pub mod Building
 pub mod Gates
+pub mod GateGraphs
 pub mod Written
 pub mod Causes
 pub mod CauseNames

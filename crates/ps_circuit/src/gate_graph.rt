@@ -1,7 +1,7 @@
 //! The gates of a circuit as a graph.
 
 ghost use Rattle.ps_components.specs.Graphs.{LinksStayWithin};
-ghost use Rattle.ps_circuit.specs.Inner.GateGraphs.{graph_of};
+ghost use Rattle.ps_circuit.specs.GateGraphs.{gate_graph};
 
 use crate::links::Links;
 use ps_components::Graph;
@@ -11,11 +11,11 @@ use ps_components::Graph;
 pub struct GateGraph {
     /// For each gate, those that it reads.
     pub links: Vec<Links>,
-    pub ghost within: { LinksStayWithin (graph_of links.items) },
+    pub ghost within: { LinksStayWithin (gate_graph links.items) },
 }
 
 impl Graph for GateGraph {
-    ghost graph = { λ g. graph_of g.links.items };
+    ghost graph = { λ g. gate_graph g.links.items };
 
     fn count(&self) -> usize {
         self.links.len()

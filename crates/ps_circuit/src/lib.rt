@@ -15,6 +15,7 @@
 //! | `Circuit::in_order(parts)` | a circuit of parts in which each gate comes after those that it reads |
 //! | `Circuit::inputs`, `latches`, `outputs`, `gates` | its parts |
 //! | `Circuit::order` | an order in which the gates can be evaluated |
+//! | `gate_variables(gates)`, `links_to(gates, variables)`, `GateGraph` | gates as a graph, with edges to those that each reads |
 //! | `Circuit::input_name`, `latch_name`, `output_name` | the name of one of these, if it has one |
 //! | `Circuit::parts_fit` | a fact: no variable is defined twice, and no gate depends on itself |
 //! | `EncodeFault::number`, `name`, `AigCause::number`, `name` | the number and name of a fault or cause |
@@ -49,7 +50,9 @@ pub use builder::{Builder, Sides};
 pub use circuit::Circuit;
 pub use encode_fault::EncodeFault;
 pub use fault::{AigCause, AigFault};
+pub use gate_graph::GateGraph;
 pub use laws::{one_answer, read_circuit_is_circuit, some_answer};
+pub use links::{Links, gate_variables, links_to};
 pub use literal::Literal;
 pub use parts::{Gate, Latch, Parts};
 pub use reader::read;

@@ -1,9 +1,9 @@
 //! Which gates a gate reads.
 
-ghost use Rattle.std.specs.Prelude.{◌≡◌, ◌≢◌, IfOk, AllPairs, map};
+ghost use Rattle.std.specs.Prelude.{◌≡◌, ◌≢◌, IfOk, AllPairs};
 ghost use Rattle.ps_circuit.specs.Literals.{variable};
 ghost use Rattle.ps_circuit.specs.Drafts.{links_by, place_in};
-ghost use Rattle.ps_circuit.specs.Inner.GateGraphs.{AreLinksOf};
+ghost use Rattle.ps_circuit.specs.GateGraphs.{AreLinksOf, gate_variables};
 
 use crate::parts::Gate;
 use ps_ids::Ids;
@@ -21,14 +21,15 @@ pub fn links_of(alloc: Global, gates: &[Gate]) -> Result<Vec<Links>, AllocError>
     requires once { AllPairs (λ g h. variable g.literal ≢ variable h.literal) gates.now }
     ensures { IfOk result (λ links. AreLinksOf gates.now links.items) }
 {
-    let variables = variables_of(alloc, gates)?;
+    let variables = gate_variables(alloc, gates)?;
     let links = links_to(alloc, gates, &variables)?;
     Ok(links)
 }
 
-fn variables_of(alloc: Global, gates: &[Gate]) -> Result<Ids, AllocError>
+/// The variables that gates define, in their order. Fails if out of memory.
+pub fn gate_variables(alloc: Global, gates: &[Gate]) -> Result<Ids, AllocError>
     requires once { AllPairs (λ g h. variable g.literal ≢ variable h.literal) gates.now }
-    ensures { IfOk result (λ variables. variables ≡ map (λ g. variable g.literal) gates.now) }
+    ensures { IfOk result (λ variables. variables ≡ gate_variables gates.now) }
 {
     let least = gates.iter().map(|gate| gate.literal.variable()).min();
     let mut variables = Ids::starting_at(alloc, u64::from(least.unwrap_or(0)));
@@ -38,7 +39,8 @@ fn variables_of(alloc: Global, gates: &[Gate]) -> Result<Ids, AllocError>
     Ok(variables)
 }
 
-fn links_to(alloc: Global, gates: &[Gate], variables: &Ids) -> Result<Vec<Links>, AllocError>
+/// For each gate, where the variables of its two literals stand among these variables. Fails if out of memory.
+pub fn links_to(alloc: Global, gates: &[Gate], variables: &Ids) -> Result<Vec<Links>, AllocError>
     ensures { IfOk result (λ links. links.items ≡ links_by (place_in variables.now) gates.now) }
 {
     let mut links = Vec::new(alloc);

@@ -1,10 +1,9 @@
 -- The latches and gates that are needed make a circuit, together with all inputs and outputs.
 use Rattle.std.proofs.Common.{◌≡◌, ◌≢◌, ◌⊎◌, ℕ, ◌+◌, ◌<◌, Bool, true, false, List, [], ◌∷◌, ◌++◌, Some, All, AllPairs}
-use Rattle.std.proofs.Common.{length, map, ap, sym, ◌∙◌, arith, inl, inr, subst, length-append, rules, suc}
+use Rattle.std.proofs.Common.{length, map, ap, sym, ◌∙◌, arith, inl, inr, subst, length-append}
 use Rattle.std.specs.List.{filter, flat_map, slice_get}
 use Rattle.std.proofs.lemmas.Bool.{cases_lt}
 use Rattle.std.proofs.lemmas.List.{length-map}
-use Rattle.std.proofs.lemmas.List.Concat.{flat_map-cons}
 use Rattle.std.proofs.lemmas.List.Elements.{All-append}
 use Rattle.std.proofs.lemmas.List.Kept.{AllPairs-filter}
 use Rattle.std.proofs.lemmas.Option.{get_or_from_slice_get, slice_get-get_or, slice_get_within}
@@ -13,6 +12,7 @@ use Rattle.ps_circuit.specs.Circuits.{definitions}
 use Rattle.ps_circuit.specs.Literals.{variable}
 use Rattle.ps_circuit.specs.declared.parts.Gate.{Gate}
 use Rattle.ps_circuit.specs.declared.parts.Latch.{Latch}
+use Rattle.ps_circuit.proofs.GatesAndLinks.LinksLemmas.{each_side}
 use Rattle.ps_components.specs.Graphs.{last}
 use Rattle.ps_simulate.proofs.EvaluationPlans.PlacesLemmas.{next_known, output_known, sides_known}
 use Rattle.ps_cone.specs.Cones.{reader_of, readers}
@@ -73,18 +73,6 @@ known_by : (c : CircuitData) (m x y : ℕ) → slice_get (definitions c) m ≡ S
     IsKnown (definitions c) y
 known_by c m x y at same = inr (contains_at (map variable (definitions c)) m (variable y)
     (map_at variable (definitions c) m x at ∙ ap (λ v. Some v) same))
-
-two_hold : (P : ℕ → Type 0) (x y : ℕ) → P x → P y → All P (x ∷ y ∷ [])
-two_hold P x y h k = search rules
-
-each_side : (P : ℕ → Type 0) (gates : List Gate) → All (λ g. P g.first × P g.second) gates →
-    All P (flat_map (λ g. g.first ∷ g.second ∷ []) gates)
-each_side P [] all = λ k e lt. absurd (omega arith)
-each_side P (g ∷ gates) all =
-    let here = all 0 g (omega arith) in
-    subst (λ xs. All P xs) (sym (flat_map-cons (λ (g : Gate). g.first ∷ g.second ∷ []) g gates))
-    (All-append P (g.first ∷ g.second ∷ []) (flat_map (λ (g : Gate). g.first ∷ g.second ∷ []) gates)
-    (two_hold P g.first g.second here.0 here.1) (each_side P gates (λ k e lt. all (suc k) e (omega arith))))
 
 -- ## The cut
 

@@ -9,17 +9,17 @@ use Rattle.std.proofs.lemmas.List.{length-map}
 use Rattle.std.proofs.lemmas.Option.{get_or_from_slice_get, slice_get-map, slice_get-get_or, slice_get_within}
 use Rattle.ps_circuit.specs.Circuits.{CircuitData, IsCircuit}
 use Rattle.ps_circuit.specs.Drafts.{place_in}
-use Rattle.ps_circuit.specs.Inner.GateGraphs.{AreLinksOf}
+use Rattle.ps_circuit.specs.GateGraphs.{AreLinksOf, gate_graph, gate_variables}
 use Rattle.ps_circuit.specs.Literals.{variable}
+use Rattle.ps_circuit.specs.declared.links.Links.{Links}
 use Rattle.ps_circuit.specs.declared.parts.Gate.{Gate}
+use Rattle.ps_circuit.proofs.GatesAndLinks.LinksLemmas.{are_places}
 use Rattle.ps_components.specs.ComponentLists.{AreComponents, AreMet, ComponentsData}
 use Rattle.ps_components.specs.Graphs.{Digraph, Link, Way, last, next}
 use Rattle.ps_components.proofs.Ways.{Way-join}
 use Rattle.ps_cone.specs.Cones.{IsNeededVariable, ReadsVariable, readers}
 use Rattle.ps_cone.specs.Inner.Needed.{AreFlags, AreNeeded, roots_of}
-use Rattle.ps_cone.specs.Inner.Sources.{links_in, source_graph, variables_of}
-use Rattle.ps_cone.specs.declared.sources.Sources.{Sources}
-use Rattle.ps_cone.proofs.SourceLemmas.{chosen_from, chosen_there, place_back, place_forth, readers_once}
+use Rattle.ps_cone.proofs.SourceLemmas.{chosen_from, chosen_there, readers_once}
 use Rattle.ps_cone.proofs.SourceLemmas.{slot_of, some_same}
 
 -- ## Flags
@@ -43,10 +43,10 @@ flags_of {g} {roots} {c} {flags} are met e =
 
 -- ## Readers
 
-module _ (c : CircuitData) (is : IsCircuit c) (sources : List Sources)
-    (a : AreLinksOf (readers c) (links_in sources)) where
+module _ (c : CircuitData) (is : IsCircuit c) (links : List Links)
+    (a : AreLinksOf (readers c) links) where
   reads_of : {i j : ℕ} (g h : Gate) → slice_get (readers c) i ≡ Some g → slice_get (readers c) j ≡ Some h →
-      Link (source_graph sources) i j → ReadsVariable c (variable g.literal) (variable h.literal)
+      Link (gate_graph links) i j → ReadsVariable c (variable g.literal) (variable h.literal)
   reads_of {i} {j} g h at_i at_j l =
       let r = a.link_reads i j l in
       let one : r.reader ≡ g = some_same r.reader g (sym r.at_i ∙ at_i) in
@@ -65,18 +65,18 @@ module _ (c : CircuitData) (is : IsCircuit c) (sources : List Sources)
       }
 
   way_of : {i j : ℕ} (g h : Gate) → slice_get (readers c) i ≡ Some g → slice_get (readers c) j ≡ Some h →
-      Way (Link (source_graph sources)) i j → Way (ReadsVariable c) (variable g.literal) (variable h.literal)
+      Way (Link (gate_graph links)) i j → Way (ReadsVariable c) (variable g.literal) (variable h.literal)
   way_of g h at_i at_j (last l) = last (reads_of g h at_i at_j l)
   way_of {i} g h at_i at_j (next {j = k} l w) =
       let r = a.link_reads i k l in
       next (reads_of g r.read at_i r.at_j l) (way_of r.read h r.at_j at_j w)
 
-  module _ {variables roots : List ℕ} {needed : List Bool} (same : variables ≡ variables_of (readers c))
-      (roots_are : roots ≡ roots_of variables c.outputs) (f : AreFlags (source_graph sources) roots needed) where
+  module _ {variables roots : List ℕ} {needed : List Bool} (same : variables ≡ gate_variables (readers c))
+      (roots_are : roots ≡ roots_of variables c.outputs) (f : AreFlags (gate_graph links) roots needed) where
     place_own : (o k : ℕ) → place_in variables (variable o) ≡ Some k →
         (g : Gate) × (slice_get (readers c) k ≡ Some g) × (variable g.literal ≡ variable o)
     place_own o k e =
-        place_back (readers c) (variable o) k (ap (λ (vs : List ℕ). place_in vs (variable o)) (sym same) ∙ e)
+        (are_places (readers c) (readers_once is)).back (variable o) k (ap (λ (vs : List ℕ). place_in vs (variable o)) (sym same) ∙ e)
 
     marked : (i : ℕ) (g : Gate) → slice_get (readers c) i ≡ Some g → slice_get needed i ≡ Some true →
         IsNeededVariable c (variable g.literal)
@@ -100,7 +100,7 @@ module _ (c : CircuitData) (is : IsCircuit c) (sources : List Sources)
         variable g.literal ≡ variable output → slice_get needed i ≡ Some true
     rooted output i g there at e =
         let place : place_in variables (variable output) ≡ Some i = ap (place_in variables) (sym e)
-        ∙ ap (λ (vs : List ℕ). place_in vs (variable g.literal)) same ∙ place_forth (readers c) (readers_once is) i g at
+        ∙ ap (λ (vs : List ℕ). place_in vs (variable g.literal)) same ∙ (are_places (readers c) (readers_once is)).forth i g at
         in
         let root = chosen_there (λ o. place_in variables (variable o)) c.outputs there.0 output i
         (slot_of c.outputs output there) place in
@@ -119,7 +119,7 @@ module _ (c : CircuitData) (is : IsCircuit c) (sources : List Sources)
           r.1,
           r.2,
           elim r.3 [
-            | inl e ↦ inr (subst (λ v. Way (Link (source_graph sources)) v j) (sym e) (last link))
+            | inl e ↦ inr (subst (λ v. Way (Link (gate_graph links)) v j) (sym e) (last link))
             | inr w ↦ inr (Way-join w (last link))
           ],
         )
@@ -134,15 +134,15 @@ module _ (c : CircuitData) (is : IsCircuit c) (sources : List Sources)
 
 -- ## Calls
 
-pub roots_within : (c : CircuitData) (sources : List Sources) {variables roots : List ℕ} →
-    AreLinksOf (readers c) (links_in sources) →
-    variables ≡ variables_of (readers c) → roots ≡ roots_of variables c.outputs →
-    All (λ v. v < (source_graph sources).count) roots
-roots_within c sources {variables} {roots} a same e k d lt =
+pub roots_within : (c : CircuitData) (is : IsCircuit c) (links : List Links) {variables roots : List ℕ} →
+    AreLinksOf (readers c) links →
+    variables ≡ gate_variables (readers c) → roots ≡ roots_of variables c.outputs →
+    All (λ v. v < (gate_graph links).count) roots
+roots_within c is links {variables} {roots} a same e k d lt =
     let at : slice_get roots k ≡ Some (get_or roots k d) = slice_get-get_or roots k d lt in
     let v = get_or roots k d in
     let root = chosen_from (λ o. place_in variables (variable o)) c.outputs k v
     (ap (λ (l : List ℕ). slice_get l k) (sym e) ∙ at) in
-    let own = place_back (readers c) (variable root.0) v
+    let own = (are_places (readers c) (readers_once is)).back (variable root.0) v
     (ap (λ (vs : List ℕ). place_in vs (variable root.0)) (sym same) ∙ root.2) in
     subst (λ n. v < n) (sym a.each) (slice_get_within (readers c) v own.0 own.1)

@@ -1,28 +1,18 @@
--- Lemmas about the graph of the latches and gates.
+-- Lemmas about the latches and gates of a circuit as readers, and about elements chosen from lists.
 use Rattle.std.proofs.Common.{◌≡◌, ◌≢◌, ◌⊎◌, ℕ, zero, suc, ◌+◌, ◌<◌, List, [], ◌∷◌, ◌++◌, Some, None, Option}
-use Rattle.std.proofs.Common.{length, map, get_or, refl, ap, sym, ◌∙◌, arith, AllPairs, take, append_assoc, nat_eq, inl}
+use Rattle.std.proofs.Common.{length, map, get_or, refl, ap, sym, ◌∙◌, arith, AllPairs, take, append_assoc, inl}
 use Rattle.std.proofs.Common.{inr}
 use Rattle.std.proofs.Common.{length-append}
 use Rattle.std.specs.List.{Contains, cons_option, filter_map, slice_get}
-use Rattle.std.specs.Option.{option_map}
-use Rattle.std.proofs.lemmas.Bool.{eqb-true}
 use Rattle.std.proofs.lemmas.List.{get_or-append-add, get_or-map, length-map, map-append, take_more}
 use Rattle.std.proofs.lemmas.List.Elements.{filter_map-append}
-use Rattle.std.proofs.lemmas.List.Quantifiers.{position-Some}
-use Rattle.std.proofs.lemmas.Option.{slice_get_read, slice_get-map, slice_get_within, get_or_from_slice_get}
+use Rattle.std.proofs.lemmas.Option.{slice_get_within, get_or_from_slice_get}
 use Rattle.std.proofs.lemmas.Option.{slice_get-get_or}
 use Rattle.ps_circuit.specs.Circuits.{CircuitData, IsCircuit, definitions}
-use Rattle.ps_circuit.specs.Drafts.{links_by, place_in}
-use Rattle.ps_circuit.specs.Inner.GateGraphs.{AreLinksOf, target_of}
 use Rattle.ps_circuit.specs.Literals.{variable}
 use Rattle.ps_circuit.specs.declared.parts.Gate.{Gate}
 use Rattle.ps_circuit.specs.declared.parts.Latch.{Latch}
-use Rattle.ps_circuit.proofs.GatesAndLinks.LinksLemmas.{links-by_variables}
-use Rattle.ps_ids.proofs.IdPlaces.{position_here}
-use Rattle.ps_ids.specs.Ids.{AreDistinct}
 use Rattle.ps_cone.specs.Cones.{reader_of, readers}
-use Rattle.ps_cone.specs.declared.sources.Sources.{Sources}
-use Rattle.ps_cone.specs.Inner.Sources.{links_in, links_of, sources_of, variables_of}
 
 -- ## Lists
 
@@ -32,26 +22,6 @@ map_more f xs i x at =
     ap (map f) (take_more xs i x (slice_get_within xs i x at)
     ∙ ap (λ y. take i xs ++ y ∷ []) (get_or_from_slice_get xs i x x at))
     ∙ map-append f (take i xs) (x ∷ [])
-
--- ## Targets
-
-pub source_at : (sources : List Sources) (item : ℕ) (s : Sources) → item < length (links_in sources) →
-    s ≡ get_or sources item s → slice_get (links_in sources) item ≡ Some (links_of s)
-source_at sources item s lt is =
-    let at = slice_get_read sources (length sources) item s refl (rw (← length-map sources links_of) lt) is in
-    slice_get-map links_of sources item ∙ ap (option_map links_of) at
-
-pub second_at : (sources : List Sources) (item place : ℕ) (s : Sources) → item < length (links_in sources) →
-    s ≡ get_or sources item s → place < 2 → place ≢ 0 →
-    s.second ≡ target_of (slice_get (links_in sources) item) place
-second_at sources item place s lt is below positive =
-    let one : place ≡ 1 = omega (arith, below, positive) in
-    rw (one, source_at sources item s lt is) refl
-
-links_are : (variables : List ℕ) (gates : List Gate) →
-    links_in (map (sources_of variables) gates) ≡ links_by (place_in variables) gates
-links_are variables [] = refl
-links_are variables (g ∷ gates) = ap (λ ls. links_of (sources_of variables g) ∷ ls) (links_are variables gates)
 
 -- ## The variables of the readers
 
@@ -81,46 +51,6 @@ readers_once {c} is i j d less lt e =
     let below : i < length (readers c) = omega (arith, less, lt) in
     is.draft.once (length c.inputs + i) (length c.inputs + j) 0 (omega (arith, less)) (omega (arith, lt, size))
     (ap variable (at i below) ∙ e ∙ ap variable (sym (at j lt)))
-
-module _ (gates : List Gate) where
-  variable_at : (k : ℕ) (g : Gate) → slice_get gates k ≡ Some g → get_or (variables_of gates) k 0 ≡ variable g.literal
-  variable_at k g at = get_or-map (λ (h : Gate). variable h.literal) gates k g 0 (slice_get_within gates k g at)
-      ∙ ap (λ (h : Gate). variable h.literal) (get_or_from_slice_get gates k g g at)
-
-  -- the variable that is found belongs to the reader there
-  pub place_back : (v k : ℕ) → place_in (variables_of gates) v ≡ Some k →
-      (g : Gate) × (slice_get gates k ≡ Some g) × (variable g.literal ≡ v)
-  place_back v k e =
-      let at = position-Some (λ other. nat_eq v other) (variables_of gates) k 0 e in
-      let lt : k < length gates = omega (arith, at.0, length-map gates (λ (g : Gate). variable g.literal)) in
-      let none : Gate = record { literal = 0; first = 0; second = 0 } in
-      let g = get_or gates k none in
-      let there : slice_get gates k ≡ Some g = slice_get-get_or gates k none lt in
-      (g, there, sym (variable_at k g there) ∙ sym (eqb-true v _ at.1))
-
-  module _ (once : AllPairs (λ g h. variable g.literal ≢ variable h.literal) gates) where
-    distinct : AreDistinct (variables_of gates)
-    distinct i j d less lt e =
-        let size = length-map gates (λ (g : Gate). variable g.literal) in
-        let none : Gate = record { literal = 0; first = 0; second = 0 } in
-        let lj : j < length gates = omega (arith, lt, size) in
-        let li : i < length gates = omega (arith, less, lj) in
-        once i j none less lj (sym (get_or-map (λ (g : Gate). variable g.literal) gates i none d li) ∙ e
-        ∙ get_or-map (λ (g : Gate). variable g.literal) gates j none d lj)
-
-    -- the variable of a reader is found at the reader's place
-    pub place_forth : (k : ℕ) (g : Gate) → slice_get gates k ≡ Some g →
-        place_in (variables_of gates) (variable g.literal) ≡ Some k
-    place_forth k g at =
-        let lt = slice_get_within gates k g at in
-        let size = length-map gates (λ (h : Gate). variable h.literal) in
-        position_here (variables_of gates) (variable g.literal) k distinct (omega (arith, lt, size))
-        (variable_at k g at)
-
-    pub are_links : {variables : List ℕ} {sources : List Sources} → variables ≡ variables_of gates →
-        sources ≡ map (sources_of variables) gates → AreLinksOf gates (links_in sources)
-    are_links {variables} {sources} same e =
-        links-by_variables once same (ap links_in e ∙ links_are variables gates)
 
 -- ## Elements of chosen lists
 

@@ -1,5 +1,4 @@
 -- Definitions that only private contracts use; no public clause refers to them.
 
-pub mod Sources
 pub mod Needed
 pub mod Cuts

@@ -14,6 +14,6 @@ mod cone;
 pub mod laws;
 mod names;
 mod needed;
-mod sources;
+mod readers;
 
 pub use cone::reduced;

@@ -1,11 +1,11 @@
 //! What the outputs depend on.
 
 ghost use Rattle.std.specs.Prelude.{◌≡◌, ◌<◌, All, IfOk, is_some, length, map};
+ghost use Rattle.ps_circuit.specs.GateGraphs.{gate_graph};
 ghost use Rattle.ps_cone.specs.Inner.Needed.{AreFlags, AreNeeded, roots_of};
-ghost use Rattle.ps_cone.specs.Inner.Sources.{source_graph};
 
-use crate::sources::{SourceGraph, readers_of, sources_of, variables_of};
-use ps_circuit::{Circuit, Literal};
+use crate::readers::readers_of;
+use ps_circuit::{Circuit, GateGraph, Literal, gate_variables, links_to};
 use ps_components::{Components, components_from};
 use ps_ids::Ids;
 use std::alloc::{AllocError, Global};
@@ -16,10 +16,10 @@ pub(crate) fn needed(alloc: Global, circuit: &Circuit) -> Result<Vec<bool>, Allo
 {
     let outputs = circuit.outputs();
     let readers = readers_of(alloc, circuit)?;
-    let variables = variables_of(alloc, &readers)?;
+    let variables = gate_variables(alloc, &readers)?;
     let roots = roots_of(alloc, outputs, &variables)?;
-    let sources = sources_of(alloc, &readers, &variables)?;
-    let graph = SourceGraph { sources };
+    let links = links_to(alloc, &readers, &variables)?;
+    let graph = GateGraph { links };
     reached(alloc, &graph, &roots)
 }
 
@@ -36,12 +36,12 @@ fn roots_of(alloc: Global, outputs: &[Literal], variables: &Ids) -> Result<Vec<u
 }
 
 /// For each vertex, whether it is a root or reached from one.
-fn reached(alloc: Global, graph: &SourceGraph, roots: &[usize]) -> Result<Vec<bool>, AllocError>
-    requires { All (λ v. v < (source_graph graph.now.sources.items).count) roots.now }
-    ensures { IfOk result (λ flags. AreFlags (source_graph graph.now.sources.items) roots.now flags.items) }
+fn reached(alloc: Global, graph: &GateGraph, roots: &[usize]) -> Result<Vec<bool>, AllocError>
+    requires { All (λ v. v < (gate_graph graph.now.links.items).count) roots.now }
+    ensures { IfOk result (λ flags. AreFlags (gate_graph graph.now.links.items) roots.now flags.items) }
 {
     let components = components_from(alloc, graph, roots)?;
-    marked(alloc, &components, graph.sources.len())
+    marked(alloc, &components, graph.links.len())
 }
 
 fn marked(alloc: Global, components: &Components, count: usize) -> Result<Vec<bool>, AllocError>

@@ -2,7 +2,10 @@
 -- reads.
 use Rattle.std.proofs.Common.{◌≡◌, ◌≢◌, ℕ, ◌+◌, ◌<◌, IfSome, List, [], ◌∷◌, ◌++◌, map, length, get_or, refl, sym, ap}
 use Rattle.std.proofs.Common.{ap₂, subst, ◌∙◌, arith, nat_eq, Some, None, Option, slice_get, suc, rules, AllPairs}
-use Rattle.std.proofs.Common.{Contains, take, length-append}
+use Rattle.std.proofs.Common.{Contains, take, length-append, All}
+use Rattle.std.specs.List.{flat_map}
+use Rattle.std.proofs.lemmas.List.Concat.{flat_map-cons}
+use Rattle.std.proofs.lemmas.List.Elements.{All-append}
 use Rattle.std.proofs.lemmas.Option.{slice_get_within, slice_get-map, slice_get-get_or, get_or_from_slice_get}
 use Rattle.std.proofs.lemmas.List.{length-map, get_or-map, get_or-append-add, map-append, take_more}
 use Rattle.std.proofs.lemmas.List.Quantifiers.{position-Some}
@@ -17,19 +20,16 @@ use Rattle.ps_circuit.specs.Drafts.{links_by, place_in}
 use Rattle.ps_ids.specs.Ids.{AreDistinct}
 use Rattle.ps_ids.proofs.IdPlaces.{position_here}
 use Rattle.ps_ids.proofs.Members.{absent_before}
-use Rattle.ps_circuit.specs.Inner.GateGraphs.{side_of, target_of, graph_of, AreLinksOf}
+use Rattle.ps_circuit.specs.GateGraphs.{side_of, target_of, gate_graph, gate_variables, AreLinksOf}
 use Rattle.ps_components.proofs.Ways.{Way-map}
 
 no_gate : Gate
 no_gate = record { literal = 0; first = 0; second = 0 }
 
 -- `place_of` maps the variable of each gate to the gate's index, and every other variable to `None`
-record ArePlaces (gates : List Gate) (place_of : ℕ → Option ℕ) : Type 0 where
-  back : (v k : ℕ) → place_of v ≡ Some k → (g : Gate) × (slice_get gates k ≡ Some g) × (variable g.literal ≡ v)
-  forth : (k : ℕ) (g : Gate) → slice_get gates k ≡ Some g → place_of (variable g.literal) ≡ Some k
-
-abbrev pub gate_variables : List Gate → List ℕ
-gate_variables gates = map (λ g. variable g.literal) gates
+pub record ArePlaces (gates : List Gate) (place_of : ℕ → Option ℕ) : Type 0 where
+  pub back : (v k : ℕ) → place_of v ≡ Some k → (g : Gate) × (slice_get gates k ≡ Some g) × (variable g.literal ≡ v)
+  pub forth : (k : ℕ) (g : Gate) → slice_get gates k ≡ Some g → place_of (variable g.literal) ≡ Some k
 
 -- in this module, the gates of a list have distinct variables
 module _ (gates : List Gate) (once : AllPairs (λ g h. variable g.literal ≢ variable h.literal) gates) where
@@ -54,7 +54,7 @@ module _ (gates : List Gate) (once : AllPairs (λ g h. variable g.literal ≢ va
       take (k + 1) (gate_variables gates) ≡ take k (gate_variables gates) ++ variable (get_or gates k g).literal ∷ []
   variables_more k g l = grind (arith, take_more (gate_variables gates) k 0 (omega (arith, many)), variable_at k 0 g l)
 
-  are_places : ArePlaces gates (place_in (gate_variables gates))
+  pub are_places : ArePlaces gates (place_in (gate_variables gates))
   are_places = record {
     back = λ v k e.
         let at = position-Some (λ other. nat_eq v other) (gate_variables gates) k 0 e in
@@ -102,10 +102,10 @@ pub links-by_variables : {gates : List Gate} {variables : List ℕ} {links : Lis
 links-by_variables {gates} once are e = links-by_places (are_places gates once) (grind arith)
 
 module _ (gates : List Gate) (links : List Links) (a : AreLinksOf gates links) where
-  pub links_within : LinksStayWithin (graph_of links)
+  pub links_within : LinksStayWithin (gate_graph links)
   links_within i j l = omega (arith, a.each, slice_get_within gates j _ (a.link_reads i j l).at_j)
 
-  pub order-of_links : {order : List ℕ} → IsOrder (Link (graph_of links)) (length links) order →
+  pub order-of_links : {order : List ℕ} → IsOrder (Link (gate_graph links)) (length links) order →
       IsOrder (ReadsGate gates) (length gates) order
   order-of_links o = record {
     within = λ k i h. omega (arith, o.within k i h, a.each);
@@ -114,11 +114,24 @@ module _ (gates : List Gate) (links : List Links) (a : AreLinksOf gates links) w
     behind = λ k l i j hk hl r. o.behind k l i j hk hl (a.reads_link i j r);
   }
 
-  pub acyclic-of_links : ((i : ℕ) → Way (Link (graph_of links)) i i → ⊥) → (i : ℕ) → Way (ReadsGate gates) i i → ⊥
+  pub acyclic-of_links : ((i : ℕ) → Way (Link (gate_graph links)) i i → ⊥) → (i : ℕ) → Way (ReadsGate gates) i i → ⊥
   acyclic-of_links none i w = none i (Way-map a.reads_link w)
 
-  pub cyclic-of_links : {i : ℕ} → IsFirstOnCycle (Link (graph_of links)) i → IsFirstOnCycle (ReadsGate gates) i
+  pub cyclic-of_links : {i : ℕ} → IsFirstOnCycle (Link (gate_graph links)) i → IsFirstOnCycle (ReadsGate gates) i
   cyclic-of_links c = search (rules, Way-map, c.cyclic, c.first)
+
+two_hold : (P : ℕ → Type 0) (x y : ℕ) → P x → P y → All P (x ∷ y ∷ [])
+two_hold P x y h k = search rules
+
+-- what holds for both sides of each gate holds for all sides
+pub each_side : (P : ℕ → Type 0) (gates : List Gate) → All (λ g. P g.first × P g.second) gates →
+    All P (flat_map (λ g. g.first ∷ g.second ∷ []) gates)
+each_side P [] all = λ k e lt. absurd (omega arith)
+each_side P (g ∷ gates) all =
+    let here = all 0 g (omega arith) in
+    subst (λ xs. All P xs) (sym (flat_map-cons (λ (g : Gate). g.first ∷ g.second ∷ []) g gates))
+    (All-append P (g.first ∷ g.second ∷ []) (flat_map (λ (g : Gate). g.first ∷ g.second ∷ []) gates)
+    (two_hold P g.first g.second here.0 here.1) (each_side P gates (λ k e lt. all (suc k) e (omega arith))))
 
 -- the gates of a circuit have distinct variables
 pub gates_once : (c : CircuitData) → AllPairs (λ l m. variable l ≢ variable m) (definitions c) →
@@ -131,7 +144,7 @@ gates_once c once i j d lt within e = grind (arith, length-append, many, length-
 
 -- the index that a gate's `Links` have for its first or second literal, if there is one, is less than the number of
 -- gates
-pub side_within : (links : List Links) (item place : ℕ) {sides : Links} → LinksStayWithin (graph_of links) →
+pub side_within : (links : List Links) (item place : ℕ) {sides : Links} → LinksStayWithin (gate_graph links) →
     slice_get links item ≡ Some sides → place < 2 → IfSome (side_of sides place) (λ to. to < length links)
 side_within links item place {sides} within at lt = which (side_of sides place) refl
   where

@@ -1,6 +1,6 @@
 use Rattle.std.proofs.Common.{arith}
 use Rattle.ps_circuit.proofs.GatesAndLinks.LinksLemmas.{variable_fresh, variables_more}
-use Rattle.ps_circuit.proofs.links.variables_of.Goals as goal
+use Rattle.ps_circuit.proofs.links.gate_variables.Goals as goal
 
 pub push-requires : goal.push-requires
 push-requires c =
