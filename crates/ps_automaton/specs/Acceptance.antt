@@ -6,7 +6,7 @@ use Rattle.std.specs.Prelude.{◌≡◌, ℕ, zero, suc, ◌+◌, ◌*◌, ◌<�
 use Rattle.ps_hoa.specs.Files.{FileData}
 use Rattle.ps_hoa.specs.Edges.{Goes}
 use Rattle.ps_automaton.specs.Chains.{holds, is_met}
-use Rattle.ps_automaton.specs.Words.{lasso_word}
+use Rattle.ps_label.specs.Words.{lasso_word}
 
 -- `states` has the state before each letter, and `sets` has the acceptance sets of the edge that is taken at the letter
 pub record IsRun (file : FileData) (w : ℕ → ℕ) (count : ℕ) (states : ℕ → ℕ) (sets : ℕ → ℕ → Bool) : Type 0 where

@@ -1,5 +1,4 @@
 pub mod Chains
-pub mod Words
 pub mod Autos
 pub mod Acceptance
 pub mod Automata

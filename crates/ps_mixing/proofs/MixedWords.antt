@@ -8,7 +8,7 @@ use Rattle.ps_hoa.specs.Edges.{Goes}
 use Rattle.ps_hoa.specs.Files.{FileData}
 use Rattle.ps_automaton.specs.Acceptance.{IsAccepted, IsRun, part}
 use Rattle.ps_automaton.specs.Chains.{holds, is_met}
-use Rattle.ps_automaton.specs.Words.{lasso_word}
+use Rattle.ps_label.specs.Words.{lasso_word}
 use Rattle.ps_mixing.specs.MixedFiles.{IsMixingOf, mixed_file, moved_word}
 use Rattle.ps_mixing.specs.Mixings.{Mixing, moved}
 use Rattle.ps_mixing.proofs.MixedSteps.{steps_back, steps_there}

@@ -12,7 +12,7 @@ use Rattle.ps_hoa.specs.Files.{FileData}
 use Rattle.ps_automaton.specs.Acceptance.{IsAccepted}
 use Rattle.ps_automaton.specs.Autos.{Auto, IsAutoOf, greatest_from, priority_at, state_at}
 use Rattle.ps_automaton.specs.Chains.{Chain, chain_of, is_even}
-use Rattle.ps_automaton.specs.Words.{Repeats, lasso_word}
+use Rattle.ps_label.specs.Words.{Repeats, lasso_word}
 use Rattle.ps_automaton.proofs.AdmittedFiles.Accepting.{accepted_is_even, even_is_accepted}
 use Rattle.ps_automaton.proofs.AdmittedFiles.Orbits.{any_return_decides, priorities_repeat, word_behind, word_repeats}
 use Rattle.ps_automaton.proofs.AdmittedFiles.Orbits.{word_within}

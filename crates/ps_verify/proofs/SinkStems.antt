@@ -15,7 +15,7 @@ use Rattle.ps_automaton.specs.Acceptance.{IsAccepted}
 use Rattle.ps_automaton.specs.Automata.{AutomatonData, IsBuiltFrom, auto_of}
 use Rattle.ps_automaton.specs.Autos.{Auto, IsAutoOf, greatest_from, priority_at, state_at, state_behind}
 use Rattle.ps_automaton.specs.Chains.{Chain, chain_of, is_even}
-use Rattle.ps_automaton.specs.Words.{Repeats, lasso_word}
+use Rattle.ps_label.specs.Words.{Repeats, lasso_word}
 use Rattle.ps_automaton.proofs.AdmittedFiles.Orbits.{any_return_decides, list_is_read}
 use Rattle.ps_circuit.specs.Circuits.{CircuitData, IsCircuit}
 use Rattle.ps_circuit.specs.Values.{GoesOn, HasOneValues, Moment, bit_of}

@@ -10,7 +10,7 @@ use Rattle.std.proofs.lemmas.Bool.{cases_lt}
 use Rattle.ps_hoa.specs.Files.{FileData}
 use Rattle.ps_hoa.specs.Edges.{Goes}
 use Rattle.ps_automaton.specs.Chains.{Chain, chain_of, level, holds, is_met, is_even, greatest_level}
-use Rattle.ps_automaton.specs.Words.{lasso_word}
+use Rattle.ps_label.specs.Words.{lasso_word}
 use Rattle.ps_automaton.specs.Autos.{Auto, TakesEdge, IsAutoOf, state_at, priority_at, greatest_from, state_behind}
 use Rattle.ps_automaton.specs.Autos.{state_after, greatest_of_laps}
 use Rattle.ps_automaton.specs.Acceptance.{IsRun, IsAccepted, part}

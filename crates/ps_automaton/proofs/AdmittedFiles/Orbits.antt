@@ -6,7 +6,7 @@ use Rattle.std.proofs.Math.Nat.{eq-or-lt_of_le, le_antisymm, mod-lt, div-add-mod
 use Rattle.std.proofs.Math.Nat.{mul-le-mul_left, suc-add, add-suc}
 use Rattle.std.proofs.lemmas.Bool.{le-ltb, lt-ltb}
 use Rattle.std.proofs.lemmas.Nat.{mod-mul-add}
-use Rattle.ps_automaton.specs.Words.{lasso_word, Repeats}
+use Rattle.ps_label.specs.Words.{lasso_word, Repeats}
 use Rattle.ps_automaton.specs.Autos.{Auto, state_at, priority_at, greatest_from, state_behind, greatest_along}
 use Rattle.ps_automaton.specs.Autos.{state_after, greatest_of_laps}
 

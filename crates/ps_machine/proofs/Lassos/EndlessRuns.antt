@@ -9,7 +9,7 @@ use Rattle.std.proofs.lemmas.Nat.{mod-mul-add}
 use Rattle.std.proofs.lemmas.List.{length-append, get_or-append-add}
 use Rattle.std.proofs.lemmas.Bool.{cases_Bool, cases_lt, le-ltb, lt-ltb}
 use Rattle.ps_label.specs.Truth.{is_in}
-use Rattle.ps_automaton.specs.Words.{lasso_word}
+use Rattle.ps_label.specs.Words.{lasso_word}
 use Rattle.ps_automaton.proofs.AdmittedFiles.Orbits.{word_within, word_behind}
 use Rattle.ps_machine.specs.Boards.{Board}
 use Rattle.ps_machine.specs.Behaviours.{Behaviour, IsMachine, IsInput, IsOutput, IsLasso, Makes}

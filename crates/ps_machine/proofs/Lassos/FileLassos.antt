@@ -8,7 +8,7 @@ use Rattle.std.proofs.lemmas.Bool.{eq-eqb, eqb-true}
 use Rattle.ps_hoa.specs.Files.{FileData}
 use Rattle.ps_automaton.specs.Acceptance.{IsAccepted}
 use Rattle.ps_automaton.specs.Autos.{state_at, priority_at, greatest_from}
-use Rattle.ps_automaton.specs.Words.{lasso_word}
+use Rattle.ps_label.specs.Words.{lasso_word}
 use Rattle.ps_automaton.proofs.AdmittedFiles.Accepting.{even_is_accepted, accepted_is_even}
 use Rattle.ps_game.specs.Games.{NamedGameData}
 use Rattle.ps_certificate.specs.Certificates.{CertificateData, Fits, IsValid}

@@ -9,7 +9,7 @@ use Rattle.ps_automaton.specs.Acceptance.{IsAccepted}
 use Rattle.ps_automaton.specs.Automata.{AutomatonData, IsBuiltFrom, auto_of}
 use Rattle.ps_automaton.specs.Autos.{state_at, priority_at, greatest_from}
 use Rattle.ps_automaton.specs.Chains.{Chain}
-use Rattle.ps_automaton.specs.Words.{lasso_word}
+use Rattle.ps_label.specs.Words.{lasso_word}
 use Rattle.ps_automaton.proofs.AdmittedFiles.Accepting.{even_is_accepted, accepted_is_even}
 use Rattle.ps_game.specs.Games.{ParityGame}
 use Rattle.ps_certificate.specs.Certificates.{CertificateData, Fits, IsValid}

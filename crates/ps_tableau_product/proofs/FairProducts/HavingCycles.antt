@@ -1,6 +1,6 @@
 -- A lasso trace of the circuit whose word satisfies the formula of the tableau gives a fair cycle of each graph that is
 -- the product.
-use Rattle.std.proofs.Common.{◌≡◌, ℕ, zero, suc, ◌+◌, ◌-◌, ◌<◌, ◌≤◌, inl, inr, Bool, List, length, get_or}
+use Rattle.std.proofs.Common.{◌≡◌, ℕ, zero, suc, ◌+◌, ◌-◌, ◌<◌, Bool, List, length, get_or}
 use Rattle.std.proofs.Common.{false, refl, sym, ap, subst, ◌∙◌, arith}
 use Rattle.std.specs.Prelude.{Contains}
 use Rattle.std.proofs.Math.Numerals.{add-one}
@@ -11,12 +11,13 @@ use Rattle.ps_components.specs.Graphs.{Digraph}
 use Rattle.ps_fairness.specs.Marks.{IsEdge, IsFairCycle, IsMarked, Leads}
 use Rattle.ps_fairness.specs.declared.edge.Edge.{Edge}
 use Rattle.ps_formula.specs.Formulas.{Formula}
-use Rattle.ps_formula.specs.NormalForms.{NormalFormula, truth, literal, both, either, after, reaches, keeps, plain}
-use Rattle.ps_formula.specs.Satisfaction.{IsDecidedWord, Satisfies}
+use Rattle.ps_formula.specs.NormalForms.{NormalFormula, truth}
+use Rattle.ps_formula.specs.Satisfaction.{Satisfies}
 use Rattle.ps_formula.proofs.LassoTruths.{lasso_is_decided}
 use Rattle.ps_tableau.specs.Covers.{Cover, Fits, SatisfiesAll}
 use Rattle.ps_tableau.specs.Runs.{HasRound, Tableau}
 use Rattle.ps_tableau.proofs.Rounds.{fair_run_has_round_lem}
+use Rattle.ps_tableau.proofs.Complete.{is_free}
 use Rattle.ps_circuit.specs.Circuits.{CircuitData}
 use Rattle.ps_traces.specs.Traces.{IsLassoWord}
 use Rattle.ps_tableau_product.specs.Products.{IsCoveredStep, IsTableauFor, ModelEdge, ModelVertex, begins_at}
@@ -24,24 +25,6 @@ use Rattle.ps_tableau_product.specs.Products.{start_vertex}
 use Rattle.ps_tableau_product.specs.ProductGraphs.{IsProductGraph, ProductGraph, edge_at}
 use Rattle.ps_tableau_product.proofs.LassoWords.WordSteps.{begins_with, entries_from, entry_at, length-entries_from}
 use Rattle.ps_tableau_product.proofs.LassoWords.WordSteps.{letter_there, moment, some_letter, steps_at}
-
--- an until that is postponed holds at the next index, so its end comes, and there it is not postponed
-pub not_postponed : (w : ℕ → ℕ) (run : ℕ → Cover) → IsDecidedWord w → ((i : ℕ) → Fits (run i) w i) →
-    (f : NormalFormula) (i : ℕ) → (j : ℕ) × (i ≤ j) × ¬ Contains (run j).postponed f
-not_postponed w run decided fits (reaches f g) i = elim (decided.each (plain (reaches f g)) (i + 1)) [
-  | inl holds ↦ (
-    holds.end,
-    (let h = holds.later in omega arith),
-    λ postponed. ((fits holds.end).postponed (reaches f g) postponed).0 holds.there,
-  )
-  | inr fails ↦ (i, omega arith, λ postponed. fails ((fits i).postponed (reaches f g) postponed).1)
-]
-not_postponed w run decided fits (truth b) i = (i, omega arith, λ h. (fits i).postponed (truth b) h)
-not_postponed w run decided fits (literal b p) i = (i, omega arith, λ h. (fits i).postponed (literal b p) h)
-not_postponed w run decided fits (both f g) i = (i, omega arith, λ h. (fits i).postponed (both f g) h)
-not_postponed w run decided fits (either f g) i = (i, omega arith, λ h. (fits i).postponed (either f g) h)
-not_postponed w run decided fits (after f) i = (i, omega arith, λ h. (fits i).postponed (after f) h)
-not_postponed w run decided fits (keeps f g) i = (i, omega arith, λ h. (fits i).postponed (keeps f g) h)
 
 -- edges one after another are a walk
 leads_to : (g : Digraph) (e : ℕ → Edge) → ((i : ℕ) → IsEdge g (e i) (e (suc i)).vertex) → (i n j : ℕ) → i + n ≡ j →
@@ -132,7 +115,7 @@ module _ {names : List (List ℕ)} {c : CircuitData} {t : Tableau} {state : ℕ}
 
     round : HasRound t.untils run (λ i. (edge i).vertex)
     round = fair_run_has_round_lem t.untils run (λ i. (edge i).vertex) p.graph.count (record {
-      often = λ until known i. not_postponed w run (lasso_is_decided stem lap (some_letter word))
+      often = λ until known i. is_free w run (lasso_is_decided stem lap (some_letter word))
           (λ k. (step k (here k)).fits) until i;
     }) (λ i. (here i).within)
 

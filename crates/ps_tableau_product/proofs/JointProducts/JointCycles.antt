@@ -16,7 +16,6 @@ use Rattle.ps_components.specs.Graphs.{Digraph}
 use Rattle.ps_fairness.specs.Marks.{IsEdge, IsFairCycle, IsMarked, Leads}
 use Rattle.ps_fairness.specs.declared.edge.Edge.{Edge}
 use Rattle.ps_hoa.specs.Files.{FileData}
-use Rattle.ps_label.specs.Words.{lasso_word}
 use Rattle.ps_formula.specs.Formulas.{Formula}
 use Rattle.ps_formula.specs.NormalForms.{NormalFormula, truth}
 use Rattle.ps_formula.specs.Satisfaction.{IsDecidedWord, Satisfies}
@@ -24,16 +23,16 @@ use Rattle.ps_formula.proofs.LassoTruths.{lasso_is_decided}
 use Rattle.ps_tableau.specs.Covers.{Cover, Fits, SatisfiesAll}
 use Rattle.ps_tableau.specs.Runs.{HasRound, Tableau}
 use Rattle.ps_tableau.proofs.Rounds.{fair_run_has_round_lem}
+use Rattle.ps_tableau.proofs.Complete.{is_free}
 use Rattle.ps_automaton.specs.Acceptance.{IsAccepted}
 use Rattle.ps_automaton.specs.Autos.{Auto, IsAutoOf, greatest_from, priority_at, state_at}
 use Rattle.ps_automaton.specs.Chains.{Chain, chain_of, is_even}
-use Rattle.ps_automaton.specs.Words.{Repeats}
+use Rattle.ps_label.specs.Words.{Repeats, lasso_word}
 use Rattle.ps_automaton.proofs.AdmittedFiles.Accepting.{accepted_is_even, even_is_accepted}
 use Rattle.ps_automaton.proofs.AdmittedFiles.Orbits.{any_return_decides, place_below, priorities_repeat, states_repeat}
 use Rattle.ps_automaton.proofs.AdmittedFiles.Orbits.{word_repeats}
 use Rattle.ps_tableau_product.specs.Joints.{IsJointProduct, JointProduct, JointVertex, capped, capped_marks, joint_at}
 use Rattle.ps_tableau_product.specs.Products.{IsTableauFor}
-use Rattle.ps_tableau_product.proofs.FairProducts.HavingCycles.{not_postponed}
 use Rattle.ps_tableau_product.proofs.LassoWords.LassoWalks.{along_both}
 use Rattle.ps_tableau_product.proofs.LassoWords.Rotations.{IsAttained, apart_by, attained, repeats_later}
 use Rattle.ps_tableau_product.proofs.LassoWords.WordSteps.{entries_from, entry_at, length-entries_from}
@@ -156,7 +155,7 @@ module _ {a : Auto} {read : ℕ → ℕ} {few : ℕ} {t : Tableau} {p : JointPro
       round : HasRound t.untils (λ i. run (behind i)) number
       round = fair_run_has_round_lem t.untils (λ i. run (behind i)) number (length lap * p.graph.count) (record {
         often = λ until known i.
-            (let free = not_postponed w run decided (λ k. (step k (here k)).fits) until (behind i) in
+            (let free = is_free w run decided (λ k. (step k (here k)).fits) until (behind i) in
             let low = free.1 in
             let back : behind (free.0 - length stem) ≡ free.0 = omega arith in (
               free.0 - length stem,

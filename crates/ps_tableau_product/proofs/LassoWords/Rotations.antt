@@ -4,7 +4,7 @@ use Rattle.std.proofs.Common.{arith}
 use Rattle.std.proofs.Math.Nat.{div-add-mod, mul-le-mul_left}
 use Rattle.std.proofs.lemmas.Bool.{cases_lt}
 use Rattle.ps_automaton.specs.Autos.{greatest_from}
-use Rattle.ps_automaton.specs.Words.{Repeats}
+use Rattle.ps_label.specs.Words.{Repeats}
 
 -- the greatest value is one of the values
 pub record IsAttained (f : ℕ → ℕ) (from count : ℕ) : Type 0 where
