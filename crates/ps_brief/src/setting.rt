@@ -1,11 +1,10 @@
 //! An automaton, and who moves first in its game.
 
 ghost use Rattle.std.specs.Prelude.{◌≡◌};
-ghost use Rattle.ps_machine.specs.Boards.{is_first_of};
 ghost use Rattle.ps_brief.specs.Settings.{HasMasks};
 
 use ps_automaton::Automaton;
-use ps_machine::Order;
+use ps_machine::{Order, is_first};
 
 /// An automaton with the order of moves in its game, and the propositions of both players.
 #[derive(Drop)]
@@ -30,7 +29,7 @@ impl<'a> Setting<'a> {
         let mut first = 0;
         let mut second = 0;
         for proposition in 0..automaton.names().len() {
-            if moves_first(automaton.controllable(), order, proposition as u32) {
+            if is_first(order, automaton.controllable(), proposition as u32) {
                 first += 1 << proposition;
             } else {
                 second += 1 << proposition;
@@ -42,16 +41,5 @@ impl<'a> Setting<'a> {
             first,
             second,
         }
-    }
-}
-
-/// Whether a proposition belongs to the player who moves first.
-fn moves_first(controllable: &[u32], order: Order, proposition: u32) -> bool
-    ensures { result ≡ is_first_of order controllable.now proposition }
-{
-    let controls = controllable.contains(&proposition);
-    match order {
-        Order::Mealy => !controls,
-        Order::Moore => controls,
     }
 }

@@ -11,6 +11,7 @@
 //! | Call | What it gives |
 //! |---|---|
 //! | `game_of(automaton, order)` | the game with ids and names; `Order` states who moves first |
+//! | `is_first(order, controllable, proposition)` | whether a proposition belongs to the player who moves first |
 //! | `AutomatonGame::build(automaton, order)` | the same game with the key of each vertex: what it stands for |
 //! | `machine_of_certificate`, `extract` | the machine of the winner of vertex 0, by a valid certificate |
 //! | `machine_of_bits(.., parts)` | the machine of these diagrams, one for each bit of its output letters |
@@ -54,6 +55,7 @@ pub use laws::{
     one_game, one_game_of_file, one_machine, one_machine_of_file,
 };
 pub use machine::{Machine, Row};
+pub use moves::is_first;
 pub use ps_solver::{
     BuiltIn, Replay, SolveFault, Solver, each_game_has_a_certificate, least_certificate,
 };

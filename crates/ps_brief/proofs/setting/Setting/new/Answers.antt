@@ -3,7 +3,7 @@ use Rattle.std.proofs.lemmas.List.{length-map}
 use Rattle.ps_machine.proofs.Machines.Diagrams.MaskLemmas.{mask_fits, mask_whole, mask_with, mask_without}
 use Rattle.ps_brief.proofs.BasesOfLetters.Masks.{second_whole}
 use Rattle.ps_brief.proofs.setting.Setting.new.Goals as goal
-use Rattle.ps_brief.proofs.setting.Setting.new.Goals.{then-moves_first, else-moves_first}
+use Rattle.ps_brief.proofs.setting.Setting.new.Goals.{then-is_first, else-is_first}
 
 pub overflow_add-first : goal.overflow_add-first
 overflow_add-first c = search (rules, length-map, mask_fits)
@@ -13,8 +13,8 @@ overflow_add-second c = search (rules, length-map, mask_fits)
 
 pub loop-proposition-preserved : goal.loop-proposition-preserved
 loop-proposition-preserved c = record {
-  first = grind (arith, length-map, then-moves_first, mask_with, else-moves_first, mask_without);
-  second = grind (arith, length-map, then-moves_first, mask_with, else-moves_first, mask_without);
+  first = grind (arith, length-map, then-is_first, mask_with, else-is_first, mask_without);
+  second = grind (arith, length-map, then-is_first, mask_with, else-is_first, mask_without);
 }
 
 pub returns-clause-masks : goal.returns-clause-masks
