@@ -17,7 +17,7 @@ use Rattle.ps_machine.specs.declared.key.Key.{Key}
 use Rattle.ps_machine.specs.declared.key.Key.TheVariants.{First, Second}
 use Rattle.ps_machine.proofs.AutomatonGames.DecidedMoves.{move_there}
 use Rattle.ps_machine.proofs.AutomatonGames.GameKeys.GameSound.{board_game_is_game}
-use Rattle.ps_machine.proofs.AutomatonGames.GameKeys.Standing.{same_some}
+use Rattle.ps_machine.proofs.AutomatonGames.GameKeys.Standing.{same_some, no_second}
 use Rattle.ps_certificate.specs.Certificates.{CertificateData, Fits, IsValid}
 use Rattle.ps_pruning.specs.Lifting.{Pruning, IsCovered, IsKeptAs, IsGuide, MayReplace, CoversVertex}
 use Rattle.ps_pruning.specs.Lifting.{AreCandidates, Serves}
@@ -31,7 +31,7 @@ use Rattle.ps_basis.proofs.ArenaKeys.{Vertex, key_at, edge_key, key_edge, next_v
 use Rattle.ps_basis.proofs.ArenaKeys.{from_map, entered_from}
 use Rattle.ps_basis.proofs.ArenaEdges.{Behind, in_game, in_arena, first_leads, first_letter}
 use Rattle.ps_basis.proofs.ArenaEdges.{behind_first, behind_second}
-use Rattle.ps_basis.proofs.ArenaEdges.{first_not_second, kept_there, kept_by_key, arena_pruning}
+use Rattle.ps_basis.proofs.ArenaEdges.{kept_there, kept_by_key, arena_pruning}
 
 -- the keys behind a letter are those of the steps that the second player can make
 next_less : (board : Board) (q x c : ℕ) (one other : List Key) → ReachesNoMore board q x c →
@@ -106,10 +106,10 @@ module _ (board : Board) (bases : ℕ → List ℕ) (mover : ℕ) (keys others :
       let here : GameVertex u (Second r d) = vertex_of u (Second r d) at_u in
       let (t, s, is_key) = behind_second board bases mover keys others game arena is of u r d here (Second q c)
       (key_to u v (Second r d) (Second q c) here at_v edge) in
-      absurd (first_not_second (sym is_key))
+      absurd (no_second (sym is_key))
 
   entered : (v q c : ℕ) → StandsAt keys v (Second q c) → Entered q c
-  entered zero q c at = absurd (first_not_second (same_some (sym is.by_keys.begins ∙ at)))
+  entered zero q c at = absurd (no_second (same_some (sym is.by_keys.begins ∙ at)))
   entered (suc v) q c at =
       let below : suc v < vertex_count game = (vertex_of (suc v) (Second q c) at).below in
       let (u, edge) = entered_from game (suc v) is.numbered (omega arith) below in
@@ -140,7 +140,7 @@ module _ (board : Board) (bases : ℕ → List ℕ) (mover : ℕ) (keys others :
           let here : GameVertex u (Second r d) = vertex_of u (Second r d) at_u in
           let (t, s, is_key) = behind_second board bases mover keys others game arena is of u r d here (Second q c)
           (key_to u v (Second r d) (Second q c) here at_v edge) in
-          absurd (first_not_second (sym is_key))
+          absurd (no_second (sym is_key))
 
       enters : (u : ℕ) → HasEdge game u v → HasEdge game u w
       enters u edge =

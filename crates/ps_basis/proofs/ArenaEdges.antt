@@ -47,9 +47,6 @@ second_letter_same e = cc
 pub second_state_same : {q x r y : ℕ} → Second q x ≡ Second r y → q ≡ r
 second_state_same e = cc
 
-pub first_not_second : {q p r x : ℕ} → First q p ≡ Second r x → ⊥
-first_not_second e = cc
-
 -- ## Keys that a key leads to
 
 -- the keys behind a second player's key do not depend on the list of its moves

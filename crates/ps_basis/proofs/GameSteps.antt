@@ -14,12 +14,12 @@ use Rattle.ps_machine.specs.Numbering.{StandsAt}
 use Rattle.ps_machine.specs.declared.key.Key.{Key}
 use Rattle.ps_machine.specs.declared.key.Key.TheVariants.{First, Second}
 use Rattle.ps_machine.proofs.AutomatonGames.DecidedMoves.{first_or_not, second_or_not, same_priorities, same_states}
-use Rattle.ps_machine.proofs.AutomatonGames.GameKeys.Standing.{same_some}
+use Rattle.ps_machine.proofs.AutomatonGames.GameKeys.Standing.{same_some, no_second}
 use Rattle.ps_machine.proofs.AutomatonGames.LeastLetters.{least_there}
 use Rattle.ps_basis.specs.ArenaMoves.{GoesThere}
 use Rattle.ps_basis.specs.Bases.{CanGoTo}
 use Rattle.ps_basis.specs.PairOrder.{HasStepTo, IsLeastStep}
-use Rattle.ps_basis.proofs.ArenaEdges.{class_behind, class_leads, first_not_second, second_letter_same}
+use Rattle.ps_basis.proofs.ArenaEdges.{class_behind, class_leads, second_letter_same}
 use Rattle.ps_basis.proofs.ArenaEdges.{second_state_same}
 use Rattle.ps_basis.proofs.ArenaKeys.{Vertex, edge_key, key_at, key_edge, next_vertex, stands_in, vertex_at}
 use Rattle.ps_basis.proofs.ArenaSteps.{ReachedAt, key_reached, reached_key}
@@ -118,7 +118,7 @@ module _ (board : Board) (mover : ℕ) (keys : List Key) (game : ParityGame) (is
                 (subst (λ (b : ℕ). IsClassLetter board o b) letter from.is_class);
           }
       by_key (Second o c) at_u =
-          absurd (first_not_second (sym (from_second u v o c (Second q x) at_u at edge).is_key))
+          absurd (no_second (sym (from_second u v o c (Second q x) at_u at edge).is_key))
 
   -- an edge into a vertex of the first player
   pub record IntoFirst (u r s : ℕ) : Type 0 where
@@ -132,7 +132,7 @@ module _ (board : Board) (mover : ℕ) (keys : List Key) (game : ParityGame) (is
       let (key, at_u) = key_at (LeadsTo board) mover start keys game is.by_keys u edge.0 in by_key key at_u
     where
       by_key : (key : Key) → StandsAt keys u key → IntoFirst u r s
-      by_key (First o p) at_u = absurd (first_not_second (from_first u v o p (First r s) at_u at edge).is_key)
+      by_key (First o p) at_u = absurd (no_second (from_first u v o p (First r s) at_u at edge).is_key)
       by_key (Second o c) at_u =
           let to : ReachedAt board o c (First r s) = from_second u v o c (First r s) at_u at edge in
           record {
@@ -165,7 +165,7 @@ module _ (board : Board) (mover : ℕ) (keys : List Key) (game : ParityGame) (is
 
   pub after_start : (v q x : ℕ) → StandsAt keys v (Second q x) → 0 < v
   after_start v q x at = elim (cases_eq v 0) [
-    | inl zero_is ↦ absurd (first_not_second (same_some
+    | inl zero_is ↦ absurd (no_second (same_some
         (sym is.by_keys.begins ∙ subst (λ (u : ℕ). StandsAt keys u (Second q x)) zero_is at)))
     | inr other ↦ omega (arith, other)
   ]

@@ -10,12 +10,13 @@ use Rattle.std.proofs.lemmas.List.{length-append}
 use Rattle.std.proofs.lemmas.List.Elements.{Contains-append_left, Contains-append_right}
 use Rattle.std.proofs.lemmas.Option.{slice_get-get_or, slice_get_within}
 use Rattle.ps_diagram.specs.Letters.{IsBefore}
+use Rattle.ps_diagram.proofs.ClassesOfLetters.Distinct.{at_left}
 use Rattle.ps_machine.specs.Boards.{Board}
 use Rattle.ps_machine.specs.Numbering.{StandsAt}
 use Rattle.ps_machine.specs.declared.key.Key.{Key}
 use Rattle.ps_machine.specs.declared.key.Key.TheVariants.{First}
 use Rattle.ps_machine.proofs.AutomatonGames.DecidedMoves.{same_priorities, same_states}
-use Rattle.ps_machine.proofs.AutomatonGames.GameKeys.Standing.{one_state, slice_get-left}
+use Rattle.ps_machine.proofs.AutomatonGames.GameKeys.Standing.{one_state}
 use Rattle.ps_basis.specs.Listing.{AddsNew, AreTargets, IsSooner, IsListedUpTo, begun, visited, passed}
 use Rattle.ps_basis.specs.PairOrder.{HasStepTo, IsLeastStep, IsMadeAt, IsEarlier, IsMadeBelow, IsInOrder}
 use Rattle.ps_basis.proofs.ArenaKeys.{index_once, stands_in, stands_there}
@@ -43,7 +44,7 @@ in_part (y ∷ xs) ys (suc j) x at = elim (in_part xs ys j x at) [
       record { place = rest.place; index = omega (arith, same); at = rest.at })
 ]
 
-front_at : (xs ys : List Key) (j : ℕ) (x : Key) → j < length xs → StandsAt (xs ++ ys) j x → StandsAt xs j x
+pub front_at : (xs ys : List Key) (j : ℕ) (x : Key) → j < length xs → StandsAt (xs ++ ys) j x → StandsAt xs j x
 front_at xs ys j x less at = elim (in_part xs ys j x at) [
   | inl front ↦ front.at
   | inr rest ↦ absurd (let same = rest.index in omega (arith, same, less))
@@ -111,7 +112,7 @@ module _ (board : Board) (n : ℕ) (keys : List Key) (listed : AfterVisits board
   below = slice_get_within keys n (First q p) at
 
   left : (j : ℕ) (x : Key) → StandsAt keys j x → StandsAt (keys ++ more) j x
-  left j x there = slice_get-left keys more j there
+  left j x there = at_left keys more j there
 
   at_now : StandsAt (keys ++ more) n (First q p)
   at_now = left n (First q p) at

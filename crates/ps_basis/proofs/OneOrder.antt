@@ -4,25 +4,22 @@
 -- - `numbered_alike`: the law
 use Rattle.std.specs.Prelude.{◌≡◌, ℕ, zero, suc, ◌<◌, ◌≤◌, ◌⊎◌, List, slice_get}
 use Rattle.std.specs.List.{Contains}
-use Rattle.std.proofs.Common.{sym, ◌∙◌, subst, ap, inl, inr, arith, rules}
+use Rattle.std.proofs.Common.{sym, ◌∙◌, subst, ap, inl, inr, arith}
 use Rattle.std.proofs.lemmas.Bool.{cases_eq, cases_lt}
 use Rattle.ps_diagram.specs.Letters.{IsBefore}
-use Rattle.ps_diagram.proofs.NodeTables.Cells.{true_is_not_false}
 use Rattle.ps_machine.specs.Boards.{Board}
 use Rattle.ps_machine.specs.Numbering.{StandsAt}
 use Rattle.ps_machine.specs.declared.key.Key.{Key}
 use Rattle.ps_machine.specs.declared.key.Key.TheVariants.{First}
 use Rattle.ps_machine.proofs.AutomatonGames.DecidedMoves.{same_states}
 use Rattle.ps_machine.proofs.AutomatonGames.GameKeys.Standing.{same_some}
+use Rattle.ps_machine.proofs.Uniqueness.OneGame.{not_both}
 use Rattle.ps_basis.specs.PairOrder.{HasStepTo, IsLeastStep, IsMadeAt, IsEarlier, IsMadeBelow, IsInOrder}
 use Rattle.ps_basis.specs.PairOrder.{AreNumberedAlike}
 use Rattle.ps_basis.proofs.ArenaKeys.{index_once, stands_in, stands_there}
 use Rattle.ps_basis.proofs.ClassKeys.{least_leads}
 
 -- ## Triples of an index and two letters
-
-not_both : (x y : ℕ) → IsBefore x y → IsBefore y x → ⊥
-not_both x y a b = search (rules, cases_eq, true_is_not_false, cases_lt)
 
 not_after : (i x y l z w : ℕ) → IsEarlier i x y l z w → i ≤ l
 not_after i x y l z w (inl less) = omega (arith, less)

@@ -1,18 +1,14 @@
 -- Lemmas about one step of each loop in the writer of game texts.
-use Rattle.std.proofs.Common.{◌≡◌, ℕ, ◌+◌, ◌<◌, ◌≤◌, List, [], ◌∷◌, ◌++◌, length, get_or, take, drop, Option, None, sym}
-use Rattle.std.proofs.Common.{ap, subst, ◌∙◌, arith, append_assoc}
+use Rattle.std.proofs.Common.{◌≡◌, ℕ, ◌+◌, ◌<◌, ◌≤◌, List, [], ◌∷◌, ◌++◌, length, get_or, drop, Option, None, sym}
+use Rattle.std.proofs.Common.{ap, ◌∙◌, arith, append_assoc}
 use Rattle.std.specs.Prelude.{decimal, max}
-use Rattle.std.specs.List.{All}
-use Rattle.std.proofs.lemmas.List.{drop_more, drop_all, take_all}
+use Rattle.std.proofs.lemmas.List.{drop_more, drop_all}
 use Rattle.std.proofs.lemmas.List.Elements.{Contains-get_or}
 use Rattle.ps_game.specs.Games.{ParityGame, IsGame, no_vertex, vertex_count, successors_of}
 use Rattle.ps_game.specs.Plays.{greatest}
 use Rattle.ps_pgsolver.specs.Written.{commas, list_text, vertex_line, vertex_lines}
 
 -- ## Lists
-
-pub all_taken_all : {X : Type 0} (P : X → Type 0) (xs : List X) (v : ℕ) → length xs ≤ v → All P (take v xs) → All P xs
-all_taken_all P xs v le h = subst (All P) (take_all v xs le) h
 
 -- ## The greatest id
 

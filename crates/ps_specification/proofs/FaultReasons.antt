@@ -10,7 +10,7 @@ use Rattle.ps_automaton.specs.declared.fault.AutomatonFault.{AutomatonFault}
 use Rattle.ps_automaton.specs.declared.fault.AutomatonFault.TheVariants as automaton
 use Rattle.ps_circuit.specs.Circuits.{CircuitData}
 use Rattle.ps_hoa.specs.Files.{FileData}
-use Rattle.ps_hoa.specs.Texts.{ReadsFile}
+use Rattle.ps_hoa.specs.Texts.{ReadsFile, at_offset}
 use Rattle.ps_hoa.specs.declared.fault.HoaCause.{HoaCause}
 use Rattle.ps_hoa.specs.declared.fault.HoaCause.TheVariants as causes
 use Rattle.ps_solver.specs.Solvers.{MayAnswer}
@@ -39,9 +39,6 @@ abbrev pub Apart : Type 0
 Apart = (file : FileData) (fault : AutomatonFault) → fault ≢ automaton.OutOfMemory → IsAdmitted file →
     IsRefused file fault → ⊥
 
-abbrev pub error_at : HoaCause → ℕ → Result FileData (Found HoaCause)
-error_at cause offset = Err (record { cause = cause; offset = offset })
-
 abbrev pub file_or : FileData → Result FileData (Found HoaCause) → FileData
 file_or other (Ok file) = file
 file_or other (Err found) = other
@@ -51,18 +48,18 @@ cause_or other (Ok file) = other
 cause_or other (Err found) = found.cause
 
 module _ (one : OneFile) (apart : Apart) (hoa : List ℕ) where
-  pub no_limit : (cause : HoaCause) (offset : ℕ) → ReadsFile hoa (error_at cause offset) → cause ≢ causes.Limit →
+  pub no_limit : (cause : HoaCause) (offset : ℕ) → ReadsFile hoa (at_offset cause offset) → cause ≢ causes.Limit →
       IsBeyondLimits hoa → ⊥
   no_limit cause offset reads other (at, limit) =
-      other (ap (cause_or causes.Limit) (one hoa (error_at cause offset) (error_at causes.Limit at) reads limit))
+      other (ap (cause_or causes.Limit) (one hoa (at_offset cause offset) (at_offset causes.Limit at) reads limit))
 
-  pub no_file : (cause : HoaCause) (offset : ℕ) → ReadsFile hoa (error_at cause offset) → DescribesAutomaton hoa → ⊥
+  pub no_file : (cause : HoaCause) (offset : ℕ) → ReadsFile hoa (at_offset cause offset) → DescribesAutomaton hoa → ⊥
   no_file cause offset reads (file, accepted) =
-      let same = one hoa (Ok file) (error_at cause offset) accepted.reads reads in cc
+      let same = one hoa (Ok file) (at_offset cause offset) accepted.reads reads in cc
 
   pub no_limit_in_file : (fault : AutomatonFault) → HasNoAutomaton hoa fault → IsBeyondLimits hoa → ⊥
   no_limit_in_file fault refused (at, limit) =
-      let same = one hoa (Ok refused.file) (error_at causes.Limit at) refused.reads limit in cc
+      let same = one hoa (Ok refused.file) (at_offset causes.Limit at) refused.reads limit in cc
 
   pub no_automaton : (fault : AutomatonFault) → HasNoAutomaton hoa fault → DescribesAutomaton hoa → ⊥
   no_automaton fault refused (file, accepted) =
@@ -71,7 +68,7 @@ module _ (one : OneFile) (apart : Apart) (hoa : List ℕ) where
       (subst IsAdmitted (ap (file_or file) same) accepted.admitted) refused.refused
 
   module _ (May : MayAnswer) (spec : Specification) where
-    cause_reason : (cause : HoaCause) (offset : ℕ) → ReadsFile hoa (error_at cause offset) →
+    cause_reason : (cause : HoaCause) (offset : ℕ) → ReadsFile hoa (at_offset cause offset) →
         IsFaultBy May spec hoa (fault_of_hoa cause)
     cause_reason causes.Limit offset reads = (offset, reads)
     cause_reason cause offset reads = inl (

@@ -9,6 +9,7 @@ use Rattle.ps_automaton.specs.Chains.{Chain}
 use Rattle.ps_hoa.specs.Files.{FileData}
 use Rattle.ps_hoa.specs.declared.fault.HoaCause.{HoaCause}
 use Rattle.ps_hoa.specs.declared.fault.HoaCause.TheVariants as causes
+use Rattle.ps_hoa.specs.Texts.{at_offset}
 use Rattle.ps_models.specs.Agreements.{ArePropositionsOf, IsAcceptedWrongly, IsAgreeing, IsRejectedWrongly}
 use Rattle.ps_synthesis.specs.Promises.{IsAcceptedText}
 use Rattle.ps_synthesis.specs.Stages.{IsTextFault}
@@ -23,13 +24,13 @@ use Rattle.ps_specification.specs.Translating.{IsBeyondLimits, MayGive}
 use Rattle.ps_specification.specs.TranslationFaults.{IsTranslationFault, IsTranslationFaultBy}
 use Rattle.ps_specification.specs.declared.fault.SpecificationFault.{SpecificationFault}
 use Rattle.ps_specification.specs.declared.fault.SpecificationFault.TheVariants as specification
-use Rattle.ps_specification.proofs.FaultReasons.{Apart, OneFile, error_at, file_or, no_automaton, no_file, no_limit}
+use Rattle.ps_specification.proofs.FaultReasons.{Apart, OneFile, file_or, no_automaton, no_file, no_limit}
 use Rattle.ps_specification.proofs.FaultReasons.{no_limit_in_file}
 
 module _ (one : OneFile) (hoa : List ℕ) where
   pub within_limits : (file : FileData) → IsAcceptedText hoa file → IsBeyondLimits hoa → ⊥
   within_limits file accepted (at, limit) =
-      let same = one hoa (Ok file) (error_at causes.Limit at) accepted.reads limit in cc
+      let same = one hoa (Ok file) (at_offset causes.Limit at) accepted.reads limit in cc
 
   one_file : (file other : FileData) → IsAcceptedText hoa file → IsAcceptedText hoa other → other ≡ file
   one_file file other accepted accepted' =

@@ -9,8 +9,8 @@ use Rattle.std.specs.Prelude.{is_some}
 use Rattle.ps_automaton.specs.Automata.{AutomatonData}
 use Rattle.ps_diagram.proofs.NodeTables.Keys.{and_both}
 use Rattle.ps_diagram.specs.Table.{IsNode, Keeps, Table}
+use Rattle.ps_diagram.proofs.TreeOperations.Truths.{leaf_kept}
 use Rattle.ps_formula.proofs.Tables.{old_or_pushed}
-use Rattle.ps_product.proofs.CircuitFunctions.TruthLemmas.{leaf_kept}
 use Rattle.ps_tableau_product.specs.Inner.Alphabets.{AreMeetings, AreMet}
 use Rattle.ps_tableau_product.specs.declared.meetings.Meetings.{Meetings}
 

@@ -1,15 +1,15 @@
 -- Lemmas about the bits of letters: the sum of letters without a common bit, and the letter with given bits at given
 -- propositions.
-use Rattle.std.proofs.Common.{◌≡◌, ℕ, zero, suc, ◌+◌, ◌/◌, ◌%◌, ◌^◌, ◌<◌, ◌≤◌, ◌⊎◌, inl, inr, Bool, true, false, cond}
+use Rattle.std.proofs.Common.{◌≡◌, ℕ, zero, suc, ◌+◌, ◌^◌, ◌<◌, ◌≤◌, ◌⊎◌, inl, inr, Bool, true, false, cond}
 use Rattle.std.proofs.Common.{List, [], ◌∷◌, length, get_or, nat_eq, refl, ap, sym, ◌∙◌, subst, arith, rules}
-use Rattle.std.specs.Int.{bit_at}
 use Rattle.std.specs.List.{AllPairs}
 use Rattle.std.proofs.lemmas.Bool.{cases_eq, cases_lt, eq-eqb, ne_eqb, eqb-true}
-use Rattle.std.proofs.lemmas.Nat.Bits.{bit_at_lowest, bit_at-suc, bit_at-zero, bit_at-lt, bit_at-pow_same}
+use Rattle.std.proofs.lemmas.Nat.Bits.{bit_at-zero, bit_at-lt, bit_at-pow_same}
 use Rattle.std.proofs.lemmas.Nat.Bits.{bit_at-pow_other, same_from_bits}
 use Rattle.ps_label.specs.Truth.{is_in}
 use Rattle.ps_diagram.specs.Letters.{letter_of}
 use Rattle.ps_diagram.proofs.Letters.{letter_is, letter_lt, no_bit}
+use Rattle.ps_diagram.proofs.ClassesOfLetters.LetterSums.{bit_of_sum, AreApart}
 use Rattle.ps_hoa.specs.Files.{is_among}
 use Rattle.ps_automaton.proofs.ChainsOfSets.Bits.{same_bit}
 use Rattle.ps_aiger.specs.Encoded.{letter_over}
@@ -28,23 +28,6 @@ few_bits n x off =
     subst (λ y. y < 2 ^ n) same (letter_lt n bit)
 
 -- ## Sums
-
--- no bit is set in both of two numbers
-pub record AreApart (x y : ℕ) : Type 0 where
-  pub apart : (p : ℕ) → bit_at x p + bit_at y p < 2
-
-low_apart : (x y : ℕ) → AreApart x y → x % 2 + y % 2 < 2
-low_apart x y h = omega (arith, bit_at_lowest x, bit_at_lowest y, h.apart 0)
-
-rest_apart : (x y : ℕ) → AreApart x y → AreApart (x / 2) (y / 2)
-rest_apart x y h = record { apart = λ p. omega (arith, bit_at-suc x p, bit_at-suc y p, h.apart (suc p)) }
-
-bit_of_sum : (p x y : ℕ) → AreApart x y → bit_at (x + y) p ≡ bit_at x p + bit_at y p
-bit_of_sum zero x y h = omega (arith, bit_at_lowest (x + y), low_apart x y h, bit_at_lowest x, bit_at_lowest y)
-bit_of_sum (suc p) x y h =
-    let half : (x + y) / 2 ≡ x / 2 + y / 2 = omega (arith, low_apart x y h) in
-    let rest = bit_of_sum p (x / 2) (y / 2) (rest_apart x y h) in
-    rw (bit_at-suc (x + y) p, bit_at-suc x p, bit_at-suc y p, half) rest
 
 -- let no bit be set in both of two numbers; if one of the numbers lacks a bit, their sum has this bit exactly if the
 -- other number has it

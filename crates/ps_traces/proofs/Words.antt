@@ -7,6 +7,7 @@ use Rattle.std.proofs.lemmas.List.{get_or-map}
 use Rattle.std.proofs.lemmas.List.Elements.{All-head, All-tail}
 use Rattle.ps_label.specs.Truth.{is_in}
 use Rattle.ps_diagram.proofs.Letters.{no_bit}
+use Rattle.ps_diagram.proofs.ClassesOfLetters.LetterSums.{AreApart}
 use Rattle.ps_hoa.specs.Files.{FileData, is_among}
 use Rattle.ps_circuit.specs.Circuits.{CircuitData}
 use Rattle.ps_circuit.specs.Values.{Moment, GoesOn, Steps, resets}
@@ -17,7 +18,7 @@ use Rattle.ps_simulate.specs.Lassos.{IsLetterOf, AreLetters, latches_along}
 use Rattle.ps_simulate.proofs.LapsOfRuns.LassoLemmas.{AreLetters-append, GoesOn-append, along_more, at_end}
 use Rattle.ps_simulate.proofs.LapsOfRuns.LassoLemmas.{length_letters}
 use Rattle.ps_traces.specs.Traces.{IsLassoWord, AllAccepted, NoneAccepted}
-use Rattle.ps_traces.proofs.LetterBits.{AreApart, are_apart, few_bits, bit_with, bit_with_at, bit_with_none}
+use Rattle.ps_traces.proofs.LetterBits.{are_apart, few_bits, bit_with, bit_with_at, bit_with_none}
 use Rattle.ps_traces.proofs.LetterBits.{in_letter_over}
 use Rattle.ps_traces.proofs.LetterBits.{in_sum_left, in_sum_right, same_letter, stands_in}
 

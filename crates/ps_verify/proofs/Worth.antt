@@ -34,7 +34,7 @@ use Rattle.ps_verify.proofs.TracesOn.{same_word}
 -- ## A word that shows that a circuit loses
 
 -- the inputs that a trace reads have a bit for each input of the circuit
-inputs_wide : (c : CircuitData) (from to : List Bool) (ms : List Moment) → GoesOn c from ms to →
+pub inputs_wide : (c : CircuitData) (from to : List Bool) (ms : List Moment) → GoesOn c from ms to →
     (k : ℕ) (d : List Bool) → k < length (inputs_of ms) → length (get_or (inputs_of ms) k d) ≡ length c.inputs
 inputs_wide c from to [] goes k d within = absurd (omega arith)
 inputs_wide c from to (m ∷ ms) (next, at, steps, rest) zero d within =

@@ -17,10 +17,6 @@ pub kept_leaf : {t u : Table} → Keeps t u → {node : ℕ} (letter : ℕ) → 
     leaf_of u node letter ≡ leaf_of t node letter
 kept_leaf keeps {node} letter held = ap (λ (tree : Tree). leaf_at tree (assignment letter)) (keeps.same node held)
 
--- if store u keeps the nodes of store t, and store v keeps those of u, then v keeps the nodes of t
-pub keeps_both : {t u v : Table} → Keeps t u → Keeps u v → Keeps t v
-keeps_both a b = grind arith
-
 pub mapped_some : (f : ℕ → ℕ) (o : Option ℕ) {x : ℕ} → option_map f o ≡ Some x → (y : ℕ) × (o ≡ Some y)
 mapped_some f None {x} e = absurd (none_is_some x e)
 mapped_some f (Some y) e = (y, refl)

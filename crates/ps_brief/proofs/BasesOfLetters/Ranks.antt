@@ -5,13 +5,13 @@ use Rattle.std.specs.Prelude.{◌≡◌, ℕ, zero, suc, ◌+◌, ◌-◌, ◌*�
 use Rattle.std.specs.Int.{reverse_bits, reverse_bits_onto, w64, bit_at}
 use Rattle.std.proofs.Common.{ap, sym, ◌∙◌, refl, inl, inr, arith}
 use Rattle.std.proofs.Math.Nat.{pow-suc}
-use Rattle.std.proofs.lemmas.Bool.{cases_lt, eqb-true}
+use Rattle.std.proofs.lemmas.Bool.{eqb-true}
 use Rattle.std.proofs.lemmas.Bool.Decides.{nat_tests}
-use Rattle.std.proofs.lemmas.Nat.Bits.{bit_at-suc, bit_at_lowest, bit_at-lt}
+use Rattle.std.proofs.lemmas.Nat.Bits.{bit_at_lowest, bit_at-lt}
 use Rattle.ps_label.specs.Truth.{is_in}
 use Rattle.ps_diagram.specs.Letters.{IsBefore}
-use Rattle.ps_diagram.proofs.Letters.{no_bit}
 use Rattle.ps_machine.proofs.AutomatonGames.BoardLetters.{compared}
+use Rattle.ps_machine.proofs.AutomatonGames.LeastLetters.{true_is_within, half_bit}
 use Rattle.ps_brief.specs.Inner.Placing.{letter_pair_place}
 
 twice : (n : ℕ) → 2 ^ suc n ≡ 2 ^ n + 2 ^ n
@@ -60,9 +60,6 @@ onto_lt (suc n) x =
     bit_times (x % 2) (2 ^ n) (reverse_bits_onto n (x / 2) 0) (omega arith) (onto_lt n (x / 2)) in
     omega (arith, onto_first n x, less, twice n)
 
-half_bit : (x p : ℕ) → is_in p (x / 2) ≡ is_in (suc p) x
-half_bit x p = ap (λ n. nat_eq n 1) (sym (bit_at-suc x p))
-
 not_set : (b : ℕ) → b < 2 → nat_eq b 1 ≡ false → b ≡ 0
 not_set b small isnt = grind (arith, nat_tests)
 
@@ -99,15 +96,9 @@ rises (suc n) x y (suc first) within one other same =
     (lowest_same x y (same 0 (omega arith))) behind in
     omega (arith, onto_first n x, onto_first n y, less)
 
-true_within : (n y p : ℕ) → y < 2 ^ n → is_in p y ≡ true → p < n
-true_within n y p within is = elim (cases_lt p n) [
-  | inl less ↦ less
-  | inr more ↦ absurd (cc (no_bit n y p within more, is))
-]
-
 pub reversed_rises : (x y : ℕ) → y < 2 ^ 64 → IsBefore x y → reverse_bits w64 x < reverse_bits w64 y
 reversed_rises x y within before =
-    rises 64 x y before.first (true_within 64 y before.first within before.is_true) before.is_false before.is_true
+    rises 64 x y before.first (true_is_within 64 y before.first within before.is_true) before.is_false before.is_true
     before.same
 
 pub reversed_lt : (x : ℕ) → reverse_bits w64 x < 2 ^ 64

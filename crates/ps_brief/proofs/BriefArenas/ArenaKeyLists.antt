@@ -11,6 +11,7 @@ use Rattle.std.proofs.lemmas.List.FromFn.{get_or-range_with_len, length-range_wi
 use Rattle.std.proofs.lemmas.List.Elements.{Contains-append_cases}
 use Rattle.indexmap.specs.IndexMap.{get}
 use Rattle.ps_diagram.specs.Letters.{IsBefore}
+use Rattle.ps_diagram.proofs.ClassesOfLetters.Distinct.{at_left}
 use Rattle.ps_machine.specs.Numbering.{StandsAt}
 use Rattle.ps_machine.specs.declared.key.Key.{Key}
 use Rattle.ps_machine.specs.declared.key.Key.TheVariants.{First, Second}
@@ -18,8 +19,8 @@ use Rattle.ps_machine.specs.Inner.Exploring.{GetNumbers}
 use Rattle.ps_machine.proofs.AutomatonGames.BoardLetters.{not_before_itself}
 use Rattle.ps_machine.proofs.AutomatonGames.BoardSteps.{pairs_map}
 use Rattle.ps_machine.proofs.AutomatonGames.GameKeys.Getting.{numbers_new}
-use Rattle.ps_machine.proofs.AutomatonGames.GameKeys.Standing.{one_state, slice_get-left, stand-left, stand-within}
-use Rattle.ps_basis.proofs.ArenaEdges.{first_not_second, second_letter_same, second_state_same}
+use Rattle.ps_machine.proofs.AutomatonGames.GameKeys.Standing.{one_state, stand-left, stand-within, no_second}
+use Rattle.ps_basis.proofs.ArenaEdges.{second_letter_same, second_state_same}
 use Rattle.ps_basis.proofs.ArenaKeys.{from_map}
 use Rattle.ps_automaton.specs.declared.step.Step.{Step}
 use Rattle.ps_brief.specs.ArenaGames.{letters_at}
@@ -60,10 +61,10 @@ is_some o x e = subst (λ p. IsSome p) (sym e) refl
 
 module _ (listing : Listing) (bases : Bases) where
   -- no listed key is one of the second player
-  no_second : (q x : ℕ) → Contains (listed_keys listing) (Second q x) → ⊥
-  no_second q x inside =
+  none_second : (q x : ℕ) → Contains (listed_keys listing) (Second q x) → ⊥
+  none_second q x inside =
       let (step, there, same) = from_map key_of_step listing.entered.keys no_step (Second q x) inside in
-      first_not_second (sym same)
+      no_second (sym same)
 
   pub keys_begun : (made : ArenaKeys) → AllPairs (λ x y. x ≢ y) (listed_keys listing) →
       made.list.items ≡ listed_keys listing → ((q : ℕ) → get nat_eq made.firsts q ≡ None) →
@@ -71,7 +72,7 @@ module _ (listing : Listing) (bases : Bases) where
   keys_begun made differ same none = record {
     front = λ v key at. subst (λ (xs : List Key). StandsAt xs v key) (sym same) at;
     firsts = λ q p inside. subst (λ (xs : List Key). Contains xs (First q p)) same inside;
-    seconds = λ q x inside. absurd (no_second q x (subst (λ (xs : List Key). Contains xs (Second q x)) same inside));
+    seconds = λ q x inside. absurd (none_second q x (subst (λ (xs : List Key). Contains xs (Second q x)) same inside));
     different = subst (λ (xs : List Key). AllPairs (λ x y. x ≢ y) xs) (sym same) differ;
     stand = λ q first at. (let never : None ≡ Some first = sym (none q) ∙ at in absurd (cc));
     visited = λ k q p below at. absurd (omega (arith, below));
@@ -148,7 +149,7 @@ module _ (listing : Listing) (bases : Bases) where
     firsts_now r o inside = elim (old_or_added (First r o) inside) [
       | inl before ↦ are.firsts r o before
       | inr more ↦ let (x, listed, same) = from_map (λ y. Second q y) (letters_at bases q) 0 (First r o) more in
-          absurd (first_not_second same)
+          absurd (no_second same)
     ]
 
     added_now : (r x : ℕ) → IsAdded bases old r x → IsAdded bases now r x
@@ -185,7 +186,7 @@ module _ (listing : Listing) (bases : Bases) where
     pub keys_added : AreArenaKeys listing bases now (n + 1)
     keys_added = keys_known now n q p (record {
       front = λ v key stands. subst (λ (xs : List Key). StandsAt xs v key) (sym list)
-          (slice_get-left keys added v (are.front v key stands));
+          (at_left keys added v (are.front v key stands));
       firsts = firsts_now;
       seconds = seconds_now;
       different = subst (λ (xs : List Key). AllPairs (λ x y. x ≢ y) xs) (sym list)

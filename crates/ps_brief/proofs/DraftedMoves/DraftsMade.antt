@@ -1,10 +1,11 @@
 -- What the functions that make drafts need of a plan.
 -- - `ready_kept`: a plan is ready for each store that keeps the nodes
 -- - `joined_is`: the moves that are joined from two others
-use Rattle.std.specs.Prelude.{◌≡◌, ℕ, Option, None, Some}
-use Rattle.std.proofs.Common.{◌∙◌, ap, ap₂, refl}
-use Rattle.ps_diagram.specs.Leaves.{chosen, either_leaf}
+use Rattle.std.specs.Prelude.{◌≡◌, ℕ, Option}
+use Rattle.std.proofs.Common.{◌∙◌, ap, ap₂}
+use Rattle.ps_diagram.specs.Leaves.{chosen}
 use Rattle.ps_diagram.specs.Table.{Table, IsNode, Keeps, leaf_of}
+use Rattle.ps_diagram.proofs.TreeOperations.Hiding.{first_chosen}
 use Rattle.ps_brief.specs.Inner.Drafts.{IsJoined, IsReady}
 use Rattle.ps_brief.specs.declared.drafts.Moves.{Moves}
 use Rattle.ps_brief.specs.declared.drafts.Plan.{Plan}
@@ -17,10 +18,6 @@ ready_kept plan keeps ready = record {
   states = ready.states;
   leaves = ready.leaves;
 }
-
-first_chosen : (l h : Option ℕ) → chosen l l h ≡ either_leaf l h
-first_chosen None h = refl
-first_chosen (Some y) h = refl
 
 -- the moves that are joined from two others, with the steps first
 pub joined_is : {s m t : Table} (first second : Moves) (steps making : ℕ) → Keeps s m → Keeps m t →

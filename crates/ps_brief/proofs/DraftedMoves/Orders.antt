@@ -16,11 +16,11 @@ use Rattle.ps_machine.specs.Numbering.{StandsAt}
 use Rattle.ps_solver.specs.Solving.{winner_at_start}
 use Rattle.ps_machine.specs.declared.key.Key.{Key}
 use Rattle.ps_machine.specs.declared.key.Key.TheVariants.{First, Second}
-use Rattle.ps_machine.proofs.AutomatonGames.GameKeys.Standing.{same_some, stand-within}
+use Rattle.ps_machine.proofs.AutomatonGames.GameKeys.Standing.{same_some, stand-within, no_second}
 use Rattle.ps_basis.specs.Arenas.{AreOrders, IsArenaOf, LeadsWithin}
 use Rattle.ps_basis.specs.Memories.{Play}
 use Rattle.ps_basis.specs.PairOrder.{AreNumberedAlike, IsInOrder}
-use Rattle.ps_basis.proofs.ArenaEdges.{Behind, behind_first, behind_second, first_not_second, in_arena, in_game}
+use Rattle.ps_basis.proofs.ArenaEdges.{Behind, behind_first, behind_second, in_arena, in_game}
 use Rattle.ps_basis.proofs.ArenaEdges.{second_state_same}
 use Rattle.ps_basis.proofs.ArenaKeys.{Vertex, edge_key, entered_from, index_once, key_at, key_edge, stands_in, in_map}
 use Rattle.ps_basis.proofs.ArenaKeys.{stands_there}
@@ -29,14 +29,12 @@ use Rattle.ps_basis.proofs.OneOrder.{numbered_alike}
 use Rattle.ps_brief.specs.Drawing.{order_by, order_from}
 use Rattle.ps_brief.specs.Inner.Playable.{IsPlayable, IsSecondMove}
 use Rattle.ps_brief.proofs.DrawnMachines.Playing.{first_listed, first_move, second_can_move, second_listed, second_move}
+use Rattle.ps_brief.proofs.DraftedMoves.Drafting.{first_states}
 
 -- vertices of the list with the same state have the same successors
 abbrev SameSuccessors : ParityGame → ℕ → List Key → Type 0
 SameSuccessors arena v list = (i j q p o : ℕ) → StandsAt list i (First q p) → StandsAt list j (First q o) →
     successors_of arena (v + i) ≡ successors_of arena (v + j)
-
-first_state_same : {q p r s : ℕ} → First q p ≡ First r s → q ≡ r
-first_state_same e = cc
 
 behind_one : (arena : ParityGame) (v : ℕ) (key : Key) (list : List Key) → SameSuccessors arena v (key ∷ list) →
     SameSuccessors arena (v + 1) list
@@ -52,7 +50,7 @@ tried_from : (arena : ParityGame) (v : ℕ) (list : List Key) → SameSuccessors
 tried_from arena v [] same i q p at = let gone : None ≡ Some (First q p) = at in absurd (cc gone)
 tried_from arena v (First r o ∷ list) same zero q p at =
     let is : First r o ≡ First q p = same_some at in
-    let test : nat_eq q r ≡ true = eq-eqb q r (sym (first_state_same is)) in
+    let test : nat_eq q r ≡ true = eq-eqb q r (sym (first_states is)) in
     let zero_is : v + 0 ≡ v = omega arith in
     rw test (ap (λ (a : ℕ). successors_of arena a) zero_is)
 tried_from arena v (First r o ∷ list) same (suc i) q p at = elim (cases_eq q r) [
@@ -67,7 +65,7 @@ tried_from arena v (First r o ∷ list) same (suc i) q p at = elim (cases_eq q r
       rw test (ap (λ (a : ℕ). successors_of arena a) next
       ∙ tried_from arena (v + 1) list (behind_one arena v (First r o) list same) i q p at)
 ]
-tried_from arena v (Second r x ∷ list) same zero q p at = absurd (first_not_second (sym (same_some at)))
+tried_from arena v (Second r x ∷ list) same zero q p at = absurd (no_second (sym (same_some at)))
 tried_from arena v (Second r x ∷ list) same (suc i) q p at =
     let next : v + suc i ≡ v + 1 + i = omega arith in
     ap (λ (a : ℕ). successors_of arena a) next
@@ -131,7 +129,7 @@ module _ (board : Board) (bases : ℕ → List ℕ) (mover : ℕ) (keys others l
       entering e key at_e edge
     where
       not_first : (u : ℕ) → StandsAt keys u (Second q x) → 0 < u
-      not_first zero at = absurd (first_not_second (same_some (sym is.by_keys.begins ∙ at)))
+      not_first zero at = absurd (no_second (same_some (sym is.by_keys.begins ∙ at)))
       not_first (suc u) at = omega arith
 
       entering : (e : ℕ) (key : Key) → StandsAt keys e key → HasEdge game e u → (p : ℕ) × Contains keys (First q p)
@@ -146,7 +144,7 @@ module _ (board : Board) (bases : ℕ → List ℕ) (mover : ℕ) (keys others l
           let here = in_game board bases mover keys others game arena is of e (Second r y) at_e in
           let (s, o, gone) = behind_second board bases mover keys others game arena is of e r y here (Second q x)
           (edge_key (LeadsTo board) mover first keys game is.by_keys e u (Second r y) (Second q x) here at edge) in
-          absurd (first_not_second (sym gone))
+          absurd (no_second (sym gone))
 
   pub are_orders : AreOrders others order
   are_orders u q x at =

@@ -7,10 +7,8 @@
 use Rattle.std.specs.Prelude.{◌≡◌, ◌≢◌, ℕ, ◌^◌, ◌<◌, Bool, true, false, [], ◌∷◌, List, length, map, Option, None, Some}
 use Rattle.std.specs.Prelude.{is_some, option_map, slice_index, slice_index_or, IfOk, IfSome, Result, Ok, Err}
 use Rattle.std.specs.Prelude.{IsSomeAnd}
-use Rattle.std.specs.Bool.{Decides}
 use Rattle.std.specs.List.{All, AllPairs, Contains, IsDistinct}
-use Rattle.std.proofs.Common.{sym, ◌∙◌, subst, ap, ap₂, refl, get_or, arith, rules, suc}
-use Rattle.std.proofs.lemmas.Bool.{eq-eqb}
+use Rattle.std.proofs.Common.{sym, ◌∙◌, subst, ap, ap₂, refl, get_or, arith, suc}
 use Rattle.std.proofs.lemmas.List.{get_or_default, get_or-map, length-map}
 use Rattle.std.proofs.lemmas.Map.Made.{AllPairs-from_IsDistinct}
 use Rattle.std.proofs.lemmas.Option.{slice_get_within}
@@ -21,8 +19,8 @@ use Rattle.ps_diagram.specs.Inner.Known.{pair_eq}
 use Rattle.ps_diagram.specs.Letters.{assignment, letter_of}
 use Rattle.ps_diagram.specs.Pairs.{IsPaired}
 use Rattle.ps_diagram.specs.Table.{Table, IsNode, IsSoundTable, leaf_of, tree_of}
-use Rattle.ps_diagram.proofs.NodeTables.KnownLemmas.{pair_same}
 use Rattle.ps_diagram.proofs.Letters.{leaf_by_number, letter_is, letter_lt}
+use Rattle.ps_diagram.proofs.TreeOperations.Pairing.{pair_decides}
 use Rattle.ps_machine.specs.BitMachines.{BitMachineData, bit_behaviour, nodes_of}
 use Rattle.ps_machine.specs.BitParts.{AreSameForOther, IsBitDiagram, IsNextDiagram, own_propositions}
 use Rattle.ps_machine.specs.Boards.{Board}
@@ -248,9 +246,6 @@ module _ (plan : Plan) {t : Table} (ready : IsReady plan t) (sound : IsSoundTabl
     }
 
 -- ## The pairs' indices
-
-pair_decides : (a b : ℕ × ℕ) → Decides (pair_eq a b) (a ≡ b)
-pair_decides a b = ((λ e. pair_same a b e), (λ e. search (rules, eq-eqb)))
 
 pub pairs_differ : (pairs : List (ℕ × ℕ)) → IsDistinct pair_eq pairs → AllPairs (λ x y. x ≢ y) pairs
 pairs_differ pairs distinct = AllPairs-from_IsDistinct pair_decides pairs distinct

@@ -20,10 +20,11 @@ use Rattle.ps_diagram.specs.Bits.{have_leaves, propositions_in}
 use Rattle.ps_diagram.specs.Table.{Table, IsNode, Keeps, leaf_of}
 use Rattle.ps_diagram.proofs.TreeOperations.BitLists.{bits_kept, leaves_kept}
 use Rattle.ps_diagram.proofs.NodeTables.Cells.{true_is_not_false}
+use Rattle.ps_diagram.proofs.ClassesOfLetters.Distinct.{at_left}
 use Rattle.ps_machine.specs.Inner.Drawing.{anchor_of}
 use Rattle.ps_machine.specs.Numbering.{StandsAt}
 use Rattle.ps_machine.specs.declared.key.Key.TheVariants.{First}
-use Rattle.ps_machine.proofs.AutomatonGames.GameKeys.Standing.{same_some, slice_get-left}
+use Rattle.ps_machine.proofs.AutomatonGames.GameKeys.Standing.{same_some}
 use Rattle.ps_basis.specs.ArenaMoves.{at_start}
 use Rattle.ps_brief.specs.Inner.Drafts.{IsDraft, IsDraftAt, IsDrafted, own_mask, play_of}
 use Rattle.ps_brief.specs.Inner.Playable.{Comes}
@@ -166,18 +167,18 @@ module _ (plan : Plan) {s t : Table} (keeps : Keeps s t) (old new : Reached) (n 
     }
   ]
 
-  at_left : (i w : ℕ) → i < n → slice_get new.places.keys i ≡ Some w → slice_get old.places.keys i ≡ Some w
-  at_left i w less at =
+  stood_left : (i w : ℕ) → i < n → slice_get new.places.keys i ≡ Some w → slice_get old.places.keys i ≡ Some w
+  stood_left i w less at =
       let inside : i < length old.places.keys =
       omega (arith, less, slice_get_within old.places.keys n v here) in
       let there : slice_get old.places.keys i ≡ Some (get_or old.places.keys i 0) =
       slice_get-get_or old.places.keys i 0 inside in
       let now : slice_get new.places.keys i ≡ Some (get_or old.places.keys i 0) =
-      ap (λ (xs : List ℕ). slice_get xs i) grows.1 ∙ slice_get-left old.places.keys grows.0 i there in
+      ap (λ (xs : List ℕ). slice_get xs i) grows.1 ∙ at_left old.places.keys grows.0 i there in
       there ∙ sym now ∙ at
 
   at_here : slice_get new.places.keys n ≡ Some v
-  at_here = ap (λ (xs : List ℕ). slice_get xs n) grows.1 ∙ slice_get-left old.places.keys grows.0 n here
+  at_here = ap (λ (xs : List ℕ). slice_get xs n) grows.1 ∙ at_left old.places.keys grows.0 n here
 
   pub visited_now : IsReachedUpTo plan s old n → IsReachedUpTo plan t new (n + 1)
   visited_now up = record {
@@ -185,7 +186,7 @@ module _ (plan : Plan) {s t : Table} (keeps : Keeps s t) (old new : Reached) (n 
         (Contains-append_left old.places.keys grows.0 0 up.start);
     each = each;
     visited = λ i w r o less at stands. elim (cases_lt i n) [
-      | inl below ↦ still_has w r (up.visited i w r o below (at_left i w below at) stands)
+      | inl below ↦ still_has w r (up.visited i w r o below (stood_left i w below at) stands)
       | inr above ↦
           let is_n : i ≡ n = omega (arith, less, above) in
           let same : w ≡ v = some_same (slice_get new.places.keys n) w v

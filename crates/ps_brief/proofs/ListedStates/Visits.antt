@@ -15,6 +15,7 @@ use Rattle.std.proofs.lemmas.Option.{slice_get-get_or, slice_get_within}
 use Rattle.indexmap.specs.IndexMap.{get}
 use Rattle.ps_diagram.specs.Letters.{IsBefore}
 use Rattle.ps_diagram.specs.Table.{Table, Keeps}
+use Rattle.ps_diagram.proofs.ClassesOfLetters.Distinct.{at_left}
 use Rattle.ps_automaton.specs.Automata.{IsWhole, pair_of}
 use Rattle.ps_automaton.specs.declared.step.Step.{Step}
 use Rattle.ps_machine.specs.Boards.{Board}
@@ -22,10 +23,11 @@ use Rattle.ps_machine.specs.Numbering.{StandsAt}
 use Rattle.ps_machine.specs.declared.key.Key.{Key}
 use Rattle.ps_machine.specs.declared.key.Key.TheVariants.{First}
 use Rattle.ps_machine.proofs.AutomatonGames.BoardLetters.{not_before_itself}
-use Rattle.ps_machine.proofs.AutomatonGames.GameKeys.Standing.{one_state, slice_get-left}
+use Rattle.ps_machine.proofs.AutomatonGames.GameKeys.Standing.{one_state}
 use Rattle.ps_basis.specs.Listing.{AreTargets, IsListedUpTo, IsSooner, begun, passed, visited}
 use Rattle.ps_basis.proofs.LeastSteps.{one_first, one_second}
 use Rattle.ps_basis.proofs.ArenaKeys.{from_map, stands_in, stands_there}
+use Rattle.ps_basis.proofs.ListedOrder.{front_at}
 use Rattle.ps_brief.specs.Inner.Visiting.{Adding, IsVisiting, WasVisited}
 use Rattle.ps_brief.specs.Listings.{AreTargetsAt, IsListing, keys_of, listed_keys}
 use Rattle.ps_brief.specs.Settings.{Fits, board_in}
@@ -89,11 +91,6 @@ target_within setting targets whole are r o here =
     ∙ ap (λ (t : Target). t.state) is ∙ sym (same_firsts same).0 in
     subst (λ (k : ℕ). k ≤ setting.automaton.now.states) state (whole.targets one.leaf each.within)
 
-front : (xs ys : List Key) (j : ℕ) (x : Key) → j < length xs → StandsAt (xs ++ ys) j x → StandsAt xs j x
-front [] ys j x less at = absurd (omega (arith, less))
-front (y ∷ xs) ys zero x less at = at
-front (y ∷ xs) ys (suc j) x less at = front xs ys j x (omega (arith, less)) at
-
 -- the key whose state was found at a place
 pub key_there : (steps : List Step) (place q : ℕ) →
     Some q ≡ option_map (λ (step : Step). step.state) (slice_get steps place) →
@@ -148,7 +145,7 @@ module _ (setting : Setting) where
     index = was.index;
     priority = was.priority;
     below = (let below = was.below in omega (arith, below, less));
-    stands = slice_get-left keys more was.index was.stands;
+    stands = at_left keys more was.index was.stands;
   }
 
   -- a key whose state was visited
@@ -235,7 +232,7 @@ module _ (setting : Setting) where
               let inside : was.index < length keys =
               (let below = was.below in omega (arith, below, slice_get_within keys n (First q p) at)) in
               let old_stands : StandsAt keys was.index (First r was.priority) =
-              front keys adding.more was.index (First r was.priority) inside stands in
+              front_at keys adding.more was.index (First r was.priority) inside stands in
               let not_n : was.index ≢ n = λ same. differ (one_state keys n was.priority p
               (subst (λ (k : ℕ). StandsAt keys k (First r was.priority)) same old_stands) at) in
               record {
@@ -252,7 +249,7 @@ module _ (setting : Setting) where
           priority = p;
           below = omega arith;
           stands = subst (λ (xs : List Key). StandsAt xs n (First r p)) (sym keys_now)
-              (slice_get-left keys adding.more n (subst (λ (a : ℕ). StandsAt keys n (First a p)) (sym same) at));
+              (at_left keys adding.more n (subst (λ (a : ℕ). StandsAt keys n (First a p)) (sym same) at));
         }
         | inr differ ↦ subst (λ (xs : List Key). WasVisited xs (n + 1) r) (sym keys_now)
             (was_kept keys adding.more n (n + 1) r (omega arith)

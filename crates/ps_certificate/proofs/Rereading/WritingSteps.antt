@@ -2,11 +2,10 @@
 -- - `all_taken`, `all_taken_all`: a property holds for all elements that a loop has taken so far
 -- - `head_joined`: the lines of a certificate that come before the lines of the vertices are written one after the
 --   other
-use Rattle.std.proofs.Common.{◌≡◌, ℕ, ◌+◌, ◌<◌, ◌≤◌, List, [], ◌∷◌, ◌++◌, length, get_or}
-use Rattle.std.proofs.Common.{take, subst, append_assoc, arith}
+use Rattle.std.proofs.Common.{◌≡◌, ℕ, ◌+◌, ◌<◌, List, [], ◌∷◌, ◌++◌, length, get_or}
+use Rattle.std.proofs.Common.{take, append_assoc, arith}
 use Rattle.std.specs.List.{All}
 use Rattle.std.proofs.Math.Seq.{take-suc}
-use Rattle.std.proofs.lemmas.List.{take_all}
 use Rattle.std.proofs.lemmas.List.Elements.{All-nil, All-cons, All-append}
 
 pub all_taken : {X : Type 0} (P : X → Type 0) (xs : List X) (v : ℕ) (d : X) → v < length xs → All P (take v xs)
@@ -14,9 +13,6 @@ pub all_taken : {X : Type 0} (P : X → Type 0) (xs : List X) (v : ℕ) (d : X) 
 all_taken P xs v d lt h p =
     let x = get_or xs v d in
     grind (arith, take-suc xs v d lt, All-append P (take v xs) (x ∷ []) h (All-cons P x [] p (All-nil P)))
-
-pub all_taken_all : {X : Type 0} (P : X → Type 0) (xs : List X) (v : ℕ) → length xs ≤ v → All P (take v xs) → All P xs
-all_taken_all P xs v le h = subst (All P) (take_all v xs le) h
 
 eight_joined : (o w a b c d e f g : List ℕ) → (((((((o ++ w) ++ a) ++ b) ++ c) ++ d) ++ e) ++ f) ++ g ≡ o ++
     (((((((w ++ a) ++ b) ++ c) ++ d) ++ e) ++ f) ++ g)

@@ -11,7 +11,6 @@ use Rattle.std.proofs.lemmas.List.Elements.{All-head, All-tail}
 use Rattle.ps_text.specs.Parts.{many}
 use Rattle.ps_text.specs.Runs.{AllOf}
 use Rattle.ps_text.proofs.BytesAndDigits.Decimals.{number_text}
-use Rattle.ps_text.proofs.Combinators.Laws.{Laws, Nothing}
 use Rattle.ps_text.proofs.Combinators.Simple.{none_is_some, laws_give}
 use Rattle.ps_text.proofs.ParsedAnswers.Exits.{reads_next}
 use Rattle.ps_text.proofs.ParsedAnswers.Branches.{right_otherwise, many_reads, many_ends}
@@ -27,13 +26,13 @@ use Rattle.ps_circuit.proofs.ReadCircuits.Judges.{bad_symbol}
 use Rattle.ps_circuit.proofs.ReadCircuits.CircuitTextLaws.{letter, symbol_number, chain_letter, chain_number}
 use Rattle.ps_circuit.proofs.ReadCircuits.CircuitTextLaws.{chain_space}
 use Rattle.ps_circuit.proofs.ReadCircuits.CircuitTextLaws.{chain_name}
-use Rattle.ps_circuit.proofs.ReadCircuits.CircuitTextLaws.{laws_symbol_line, chain_c_line}
-use Rattle.ps_circuit.proofs.ReadCircuits.SignLaws.{AtKind}
+use Rattle.ps_circuit.proofs.ReadCircuits.CircuitTextLaws.{chain_c_line}
 use Rattle.ps_circuit.proofs.CircuitRereading.RereadFields.{from, Reread, Rereads, reread_then, reread_mapped}
 use Rattle.ps_circuit.proofs.CircuitRereading.RereadFields.{reread_as}
 use Rattle.ps_circuit.proofs.CircuitRereading.RereadFields.{reread_branch, reread_give, reread_run, number_then}
 use Rattle.ps_circuit.proofs.CircuitRereading.RereadFields.{AnyValue}
 use Rattle.ps_circuit.proofs.CircuitRereading.RereadFields.{reread_byte, reread_newline}
+use Rattle.ps_circuit.proofs.ReadCircuits.SymbolLemmas.{symbol_laws}
 
 abbrev pub letter_of : Kind → ℕ
 letter_of OfInput = 105
@@ -95,9 +94,6 @@ module _ (names : NamesData) (kind : Kind) (k : ℕ) (small : k < 2 ^ 64)
 symbol_is : (kind : Kind) (k : ℕ) (name rest : List ℕ) → written.symbol_line (letter_of kind) k (Some name) ++
     rest ≡ letter_of kind ∷ (decimal k ++ 32 ∷ (name ++ 10 ∷ rest))
 symbol_is kind k name rest = grind (arith, append_assoc)
-
-symbol_laws : (names : NamesData) → Laws Odd (symbol_line names) AtKind Nothing ⊥
-symbol_laws names = (laws_symbol_line names).laws
 
 reread_many : {names names' : NamesData} {text mid rest : List ℕ} {Good : NamesData → Type 0} →
     Rereads (symbol_line names) (λ d. d ≡ names') text mid → Rereads (many symbol_line names') Good mid rest →

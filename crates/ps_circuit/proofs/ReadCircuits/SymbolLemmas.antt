@@ -148,7 +148,7 @@ enters_symbol names s e = enters_then (letter names) (symbol_number names) (chai
     go (Some t) h =
         let k = letter_at t (kind_byte t h) in enters_one take_kind (IsBadSymbol names) t (inl (k.1, k.2))
 
-symbol_laws : (names : NamesData) → Laws Odd (symbol_line names) AtKind Nothing ⊥
+pub symbol_laws : (names : NamesData) → Laws Odd (symbol_line names) AtKind Nothing ⊥
 symbol_laws names = (laws_symbol_line names).laws
 
 pub names_fail : (names : NamesData) (s : Stream Seen) (o : Option (Found AigCause)) → is_kind (next_byte s) ≡ true →

@@ -7,16 +7,16 @@ use Rattle.ps_diagram.specs.Hidden.{IsClear, IsOver}
 use Rattle.ps_diagram.proofs.NodeTables.Cells.{bool_cases}
 
 -- no bit is set in both of two numbers
-record AreApart (x y : ℕ) : Type 0 where
-  apart : (p : ℕ) → bit_at x p + bit_at y p < 2
+pub record AreApart (x y : ℕ) : Type 0 where
+  pub apart : (p : ℕ) → bit_at x p + bit_at y p < 2
 
-low_apart : (x y : ℕ) → AreApart x y → x % 2 + y % 2 < 2
+pub low_apart : (x y : ℕ) → AreApart x y → x % 2 + y % 2 < 2
 low_apart x y h = omega (arith, bit_at_lowest x, bit_at_lowest y, h.apart 0)
 
-rest_apart : (x y : ℕ) → AreApart x y → AreApart (x / 2) (y / 2)
+pub rest_apart : (x y : ℕ) → AreApart x y → AreApart (x / 2) (y / 2)
 rest_apart x y h = record { apart = λ p. omega (arith, bit_at-suc x p, bit_at-suc y p, h.apart (suc p)) }
 
-bit_of_sum : (p x y : ℕ) → AreApart x y → bit_at (x + y) p ≡ bit_at x p + bit_at y p
+pub bit_of_sum : (p x y : ℕ) → AreApart x y → bit_at (x + y) p ≡ bit_at x p + bit_at y p
 bit_of_sum zero x y h = omega (arith, bit_at_lowest (x + y), low_apart x y h, bit_at_lowest x, bit_at_lowest y)
 bit_of_sum (suc p) x y h =
     let half : (x + y) / 2 ≡ x / 2 + y / 2 = omega (arith, low_apart x y h) in

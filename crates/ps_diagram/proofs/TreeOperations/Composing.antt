@@ -7,11 +7,11 @@ use Rattle.ps_diagram.specs.Inner.Composed.{AreBitsAt, IsComposed, IsOnlySide}
 use Rattle.ps_diagram.specs.Inner.Known.{Knows}
 use Rattle.ps_diagram.specs.Inner.Parts.{IsChoice}
 use Rattle.ps_diagram.specs.Leaves.{chosen}
-use Rattle.ps_diagram.specs.Letters.{assignment}
 use Rattle.ps_diagram.specs.Table.{Table, IsNode, Keeps, MakesDiagram, MakesTree, leaf_of, tree_of}
 use Rattle.ps_diagram.specs.Tree.{Tree, leaf_at}
 use Rattle.ps_diagram.proofs.NodeTables.Cells.{bool_cases}
 use Rattle.ps_diagram.proofs.NodeTables.MadeDiagrams.{by-sides}
+use Rattle.ps_diagram.proofs.TreeOperations.Truths.{leaf_kept}
 
 -- if only one side of a test is needed, since the function in place of the proposition is constant, this side is an
 -- earlier node
@@ -22,16 +22,12 @@ side_of t {low} {high} truth {side} h only = let e = only 0 in elim (bool_cases 
   | inr is ↦ let same : side ≡ low = rw is at e in rw same (h.low_earlier, h.low_held)
 ]
 
-leaf_same : {t u : Table} {node : ℕ} (letter : ℕ) → Keeps t u → IsNode t node →
-    leaf_of u node letter ≡ leaf_of t node letter
-leaf_same {node} letter k h = ap (λ (x : Tree). leaf_at x (assignment letter)) (k.same node h)
-
 module _ {t u : Table} (truths : List ℕ) (k : Keeps t u) (held : All (IsNode t) truths) where
   pub bits_before : (letter : ℕ) (f : ℕ → Bool) → AreBitsAt u truths letter f → AreBitsAt t truths letter f
-  bits_before letter f bits p lt = bits p lt ∙ ap is_some (leaf_same letter k (held p 0 lt))
+  bits_before letter f bits p lt = bits p lt ∙ ap is_some (leaf_kept letter k (held p 0 lt))
 
   pub bits_after : (letter : ℕ) (f : ℕ → Bool) → AreBitsAt t truths letter f → AreBitsAt u truths letter f
-  bits_after letter f bits p lt = bits p lt ∙ sym (ap is_some (leaf_same letter k (held p 0 lt)))
+  bits_after letter f bits p lt = bits p lt ∙ sym (ap is_some (leaf_kept letter k (held p 0 lt)))
 
   -- when the table of nodes grows, each entry of the memo table still relates a node to the node that was made from it
   pub composed_kept : (s : Table) (known : ℕ → Option ℕ) → Knows (IsComposed t truths) s t known →
@@ -40,7 +36,7 @@ module _ {t u : Table} (truths : List ℕ) (k : Keeps t u) (held : All (IsNode t
       let r = h node made e in (
         r.0,
         k.held made r.1,
-        (λ letter f bits. leaf_same letter k r.1 ∙ r.2 letter f (bits_before letter f bits)),
+        (λ letter f bits. leaf_kept letter k r.1 ∙ r.2 letter f (bits_before letter f bits)),
       )
 
 chosen_side : (x a b : Option ℕ) → chosen x a b ≡ cond (is_some x) a b
@@ -64,10 +60,10 @@ composed_sides {s = s} {r = r} {u = u} {v = v} {w = w} truths held {p = p} {low 
     let x = leaf_of v (get_or truths p 0) letter in
     let n : IsNode r (get_or truths p 0) = held p 0 named in
     let same : is_some x ≡ f p =
-    ap is_some (leaf_same letter m (k.held (get_or truths p 0) n) ∙ leaf_same letter k n) ∙ sym (bits p named) in
+    ap is_some (leaf_kept letter m (k.held (get_or truths p 0) n) ∙ leaf_kept letter k n) ∙ sym (bits p named) in
     let one : leaf_of v high' letter ≡ leaf_at (tree_of s high) f =
     g.leaf letter f (bits_after truths k held letter f bits) in
-    let other : leaf_of v low' letter ≡ leaf_at (tree_of s low) f = leaf_same letter m l.held ∙ l.leaf letter f bits in
+    let other : leaf_of v low' letter ≡ leaf_at (tree_of s low) f = leaf_kept letter m l.held ∙ l.leaf letter f bits in
     made.leaf letter ∙ chosen_side x (leaf_of v high' letter) (leaf_of v low' letter)
     ∙ ap (λ b. cond b (leaf_of v high' letter) (leaf_of v low' letter)) same
     ∙ ap (λ y. cond (f p) y (leaf_of v low' letter)) one

@@ -14,7 +14,7 @@ use Rattle.ps_diagram.specs.Inner.Parts.{IsChoice}
 use Rattle.ps_diagram.specs.Inner.Rests.{mixed}
 use Rattle.ps_diagram.specs.Leaves.{chosen, either_leaf}
 use Rattle.ps_diagram.specs.Letters.{assignment}
-use Rattle.ps_diagram.specs.Table.{Table, IsNode, MakesTree, tree_of}
+use Rattle.ps_diagram.specs.Table.{Table, MakesTree, tree_of}
 use Rattle.ps_diagram.specs.Tree.{Tree, empty, final, choice, leaf_at, IsBlind, IsFrom}
 use Rattle.ps_diagram.proofs.TreesFromData.Alone.{bit_true}
 use Rattle.ps_diagram.proofs.Canon.{blind-from}
@@ -22,6 +22,7 @@ use Rattle.ps_diagram.proofs.NodeTables.Cells.{bool_cases, keeps_refl, true_is_n
 use Rattle.ps_diagram.proofs.Letters.{no_bit}
 use Rattle.ps_diagram.proofs.TreesFromData.Literals.{in_or, in_power}
 use Rattle.ps_diagram.proofs.NodeTables.MadeDiagrams.{by-last, by-sides}
+use Rattle.ps_diagram.specs.Inner.Bits.{Agree}
 
 -- ## The steps of the call
 
@@ -61,7 +62,7 @@ pub bit_not_zero : (mask p : ℕ) → (bit_and (mask / 2 ^ p) 1 ≡ 0 → ⊥) �
 bit_not_zero mask p ne =
     let one : bit_and (mask / 2 ^ p) 1 ≡ 1 = omega (arith, shr_and_one mask p, bit_at-lt mask p) in bit_true mask p one
 
-first_chosen : (l h : Option ℕ) → chosen l l h ≡ either_leaf l h
+pub first_chosen : (l h : Option ℕ) → chosen l l h ≡ either_leaf l h
 first_chosen None h = refl
 first_chosen (Some y) h = refl
 
@@ -82,10 +83,6 @@ in_same p y = rw (in_or p y (2 ^ p), in_power p p, eq-eqb p p refl) (or-true (is
 
 pub none_some : {leaf : Option ℕ} → leaf ≡ None → IsSome leaf → ⊥
 none_some none some = true_is_not_false (sym (subst IsSome none some))
-
--- f and g agree at each proposition outside the mask
-abbrev pub Agree : ℕ → (ℕ → Bool) → (ℕ → Bool) → Type 0
-Agree mask f g = (q : ℕ) → is_in q mask ≡ false → f q ≡ g q
 
 -- no letter that agrees with f outside the mask leads to a leaf
 pub record LeadsNowhere (mask : ℕ) (a : Tree) (f : ℕ → Bool) : Type 0 where

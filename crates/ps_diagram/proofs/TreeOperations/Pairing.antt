@@ -72,7 +72,7 @@ knows_with_more t known h k a b made e =
 
 -- A pair has only one index in the list. So if two diagrams depend only on propositions from `level` on, the diagram of
 -- their pairs does, too.
-pair_decides : (a b : ℕ × ℕ) → Decides (pair_eq a b) (a ≡ b)
+pub pair_decides : (a b : ℕ × ℕ) → Decides (pair_eq a b) (a ≡ b)
 pair_decides a b = ((λ e. pair_same a b e), (λ e. search (rules, eq-eqb)))
 
 paired_alike : (xs : List (ℕ × ℕ)) → IsDistinct pair_eq xs → (a b c d : Option ℕ) → IsPaired xs a b c →

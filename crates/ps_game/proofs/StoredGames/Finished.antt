@@ -11,7 +11,7 @@ use Rattle.std.proofs.lemmas.Bool.Decides.{nat_tests}
 use Rattle.ps_game.specs.Games.{ParityGame, IsGame, no_vertex, vertex_count, owner_of, successors_of}
 use Rattle.ps_game.specs.Drafts.{distinct, vertex_without_repeats, without_repeats, NoneBare, NoneUnknown}
 
-All-distinct : (P : ℕ → Type 0) (xs : List ℕ) → All P xs → All P (distinct xs)
+pub All-distinct : (P : ℕ → Type 0) (xs : List ℕ) → All P xs → All P (distinct xs)
 All-distinct P [] all = all
 All-distinct P (x ∷ xs) all = All-cons P x (filter (λ y. not (x == y)) (distinct xs)) (all 0 0 (omega arith))
     (All-filter (λ y. not (x == y)) P (distinct xs) (All-distinct P xs (λ k d within. all (suc k) d (omega arith))))

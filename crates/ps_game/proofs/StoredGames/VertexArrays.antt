@@ -166,7 +166,7 @@ filter_none x [] all = refl
 filter_none x (y ∷ ys) all =
     rw (ne_eqb x y (all 0 y (omega arith))) (ap (λ zs. y ∷ zs) (filter_none x ys (All-tail (λ y. x ≢ y) y ys all)))
 
-distinct_same : (xs : List ℕ) → AllPairs (λ x y. x ≢ y) xs → distinct xs ≡ xs
+pub distinct_same : (xs : List ℕ) → AllPairs (λ x y. x ≢ y) xs → distinct xs ≡ xs
 distinct_same [] differ = refl
 distinct_same (x ∷ xs) differ = ap (λ ys. x ∷ filter (λ y. not (x == y)) ys)
     (distinct_same xs (λ i j d lt within. differ (suc i) (suc j) d (omega arith) (omega arith)))

@@ -26,9 +26,10 @@ use Rattle.ps_hoa.proofs.Soundness.KeptByParts.{Keeps, keeps_then, keeps_mapped}
 use Rattle.ps_hoa.proofs.Soundness.SoundBodies.{AreSets, IsStateOf, IsScoped, IsGuardKept, IsEdgeKept, IsRowKept}
 use Rattle.ps_hoa.proofs.Soundness.SoundBodies.{HasRightCount, IsBodyDone, LabelledBy, way_of, way, keeps_body}
 use Rattle.ps_hoa.proofs.Soundness.HeaderKept.{Kept}
-use Rattle.ps_hoa.proofs.Soundness.SoundHeaders.{HasNoFlaw, keeps_header, sound_aliases}
+use Rattle.ps_hoa.proofs.Soundness.SoundHeaders.{keeps_header, sound_aliases}
 use Rattle.ps_hoa.proofs.Soundness.SoundLabels.{NamesBelow, below, label_from}
 use Rattle.ps_hoa.proofs.Soundness.SoundLaws.{all_at}
+use Rattle.ps_hoa.specs.Inner.Flaws.{IsSoundHeader}
 
 -- ## The number of states
 
@@ -137,7 +138,7 @@ labelled_right : (propositions : ℕ) (o : Option Expression) (es : List EdgeDat
     ((way o es ≡ ByPlace) × (length es ≢ 2 ^ propositions) → ⊥) → AreLabelled propositions o es
 labelled_right propositions o es h k = search (rules, eqb_tells, way_of)
 
-module _ (h : HeaderData) (b : BodyData) (k : Kept h) (n : HasNoFlaw h) (d : IsBodyDone h b) where
+module _ (h : HeaderData) (b : BodyData) (k : Kept h) (n : IsSoundHeader h) (d : IsBodyDone h b) where
   abbrev whole : FileData
   whole = file_of h b
 

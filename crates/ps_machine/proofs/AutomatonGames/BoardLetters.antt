@@ -18,7 +18,7 @@ sum_step : (a b : Bool) (k l : ℕ) {m : ℕ} (s : ℕ) → (a && b) ≡ false �
     (k + cond a s 0) + (l + cond b s 0) ≡ m + cond (a || b) s 0
 sum_step a b k l s apart e = grind (arith, true_is_not_false, apart)
 
-sum_of : (n : ℕ) (f g : ℕ → Bool) → ((p : ℕ) → (f p && g p) ≡ false) →
+pub sum_of : (n : ℕ) (f g : ℕ → Bool) → ((p : ℕ) → (f p && g p) ≡ false) →
     letter_of n f + letter_of n g ≡ letter_of n (λ p. f p || g p)
 sum_of zero f g apart = omega arith
 sum_of (suc n) f g apart = sum_step (f n) (g n) (letter_of n f) (letter_of n g) (2 ^ n) (apart n) (sum_of n f g apart)

@@ -49,7 +49,7 @@ rank_rises from (suc n) x y first low high one other same = elim (cases_eq from 
       (rank_rises (from + 1) n x y first (omega arith) (omega arith) one other same)
 ]
 
-true_is_within : (n y p : ℕ) → y < 2 ^ n → is_in p y ≡ true → p < n
+pub true_is_within : (n y p : ℕ) → y < 2 ^ n → is_in p y ≡ true → p < n
 true_is_within n y p within is = search (rules, cases_lt, no_bit)
 
 pub before_ranks : (n : ℕ) {x y : ℕ} → y < 2 ^ n → IsBefore x y → rank 0 n x < rank 0 n y
@@ -101,7 +101,7 @@ least_there n P tell within y here = down_to_least n P tell within (rank 0 n y +
 bits_apart : (a b : ℕ) → a < 2 → b < 2 → (nat_eq a 1 ≡ true → nat_eq b 1 ≡ false) → a + b < 2
 bits_apart a b h k apart = grind (arith, nat_tests)
 
-half_bit : (x p : ℕ) → is_in p (x / 2) ≡ is_in (suc p) x
+pub half_bit : (x p : ℕ) → is_in p (x / 2) ≡ is_in (suc p) x
 half_bit x p = ap (λ n. nat_eq n 1) (sym (bit_at-suc x p))
 
 half_within : (n x : ℕ) → x < 2 ^ suc n → x / 2 < 2 ^ n

@@ -34,7 +34,7 @@ among_there p (m ∷ list) among = elim (cases_eq p m) [
   | inr other ↦ (let c = among_there p list (grind (arith, ne_eqb)) in (suc c.0, omega (arith, c.1), c.2))
 ]
 
-there_among : (p : ℕ) (list : List ℕ) → Contains list p → is_among p list ≡ true
+pub there_among : (p : ℕ) (list : List ℕ) → Contains list p → is_among p list ≡ true
 there_among p list c = rw c.2 at (get_among list c.0 p c.1)
 
 -- the ascending list of the numbers less than n with a property is unique

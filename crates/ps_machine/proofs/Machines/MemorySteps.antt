@@ -17,7 +17,8 @@ use Rattle.ps_machine.specs.declared.key.Key.{Key}
 use Rattle.ps_machine.specs.declared.key.Key.TheVariants.{First}
 use Rattle.ps_machine.proofs.AutomatonGames.GameKeys.Exploring.{less_or_last}
 use Rattle.ps_machine.proofs.Machines.UsedVertices.{different_push, inserted}
-use Rattle.ps_machine.proofs.AutomatonGames.GameKeys.Standing.{one_state, slice_get-left, slice_get-seam}
+use Rattle.ps_machine.proofs.AutomatonGames.GameKeys.Standing.{one_state, slice_get-seam}
+use Rattle.ps_diagram.proofs.ClassesOfLetters.Distinct.{at_left}
 
 not_not : (b : Bool) → not (not b) ≡ b
 not_not b = search rules
@@ -98,7 +99,7 @@ module _ (is_first : Bool) (keys : List Key) (used : List ℕ) where
     has_left v x h =
         let within : h.memory < length kept =
         omega (arith, slice_get_within anchors h.memory x h.is_anchored, m.many) in
-        grind (arith, slice_get-left, kept_left)
+        grind (arith, at_left, kept_left)
 
     has_last : HasMemory new_kept new_anchors n new_anchor
     has_last = search (rules, slice_get-seam, kept_last)
@@ -106,7 +107,7 @@ module _ (is_first : Bool) (keys : List Key) (used : List ℕ) where
     memory_left : (memory : ℕ) → memory < length kept → IsMemory is_first keys used new_kept new_anchors memory
     memory_left memory within =
         let old = m.each memory within in
-        grind (arith, kept_left, slice_get-left)
+        grind (arith, kept_left, at_left)
 
     memory_last : IsMemory is_first keys used new_kept new_anchors (length kept)
     memory_last = record {

@@ -17,13 +17,13 @@ use Rattle.ps_machine.specs.declared.key.Key.TheVariants.{First, Second}
 use Rattle.ps_machine.proofs.AutomatonGames.GameKeys.Exploring.{less_or_last}
 use Rattle.ps_machine.proofs.Uniqueness.Rising.{same_rising}
 use Rattle.ps_machine.proofs.Lassos.Rounds.{one_place}
-use Rattle.ps_machine.proofs.AutomatonGames.GameKeys.Standing.{came, same_some, zip_at}
+use Rattle.ps_machine.proofs.AutomatonGames.GameKeys.Standing.{came, same_some, zip_at, not_second}
 use Rattle.ps_machine.proofs.Uniqueness.Counting.{Counts, counts_one, counts_below, has_it, counts_old, counts_new}
 use Rattle.ps_machine.proofs.Uniqueness.Counting.{none, counts_front, old_or_next}
 
 -- ## Letters in their order
 
-not_both : (x y : ℕ) → IsBefore x y → IsBefore y x → ⊥
+pub not_both : (x y : ℕ) → IsBefore x y → IsBefore y x → ⊥
 not_both x y a b = search (rules, cases_eq, true_is_not_false, cases_lt)
 
 one_list : {P : ℕ → Type 0} {xs ys : List ℕ} → IsListOf P xs → IsListOf P ys → xs ≡ ys
@@ -36,9 +36,6 @@ one_next : (board : Board) (key : Key) {one other : List Key} → LeadsTo board 
 one_next board (First q p) a b = a.2 ∙ ap (map (λ x. Second q x)) (one_list a.1 b.1) ∙ sym b.2
 one_next board (Second q x) a b = grind (arith, one_list a.1 b.1)
 
-first_not_second : {q p r x : ℕ} → Second r x ≡ First q p → ⊥
-first_not_second e = search rules
-
 in_map : (f : ℕ → Key) (xs : List ℕ) {key : Key} → Contains (map f xs) key → (x : ℕ) × (f x ≡ key)
 in_map f xs {key} c =
     let within : c.0 < length xs = omega (arith, c.1, length-map xs f) in
@@ -48,11 +45,11 @@ in_map f xs {key} c =
 not_itself : (board : Board) (key : Key) (next : List Key) → LeadsTo board key next → Contains next key → ⊥
 not_itself board (First q p) next a c =
     (let at = in_map (λ x. Second q x) a.0 (subst (λ l. Contains l (First q p)) a.2 c) in
-    first_not_second at.1)
+    not_second at.1)
 not_itself board (Second q x) next a c =
     let f : ℕ → Key = λ y. First (board.auto.next q (x + y)) (board.auto.priority q (x + y)) in
     let at = in_map f a.0 (subst (λ l. Contains l (Second q x)) a.2 c) in
-    first_not_second (sym at.1)
+    not_second (sym at.1)
 
 -- ## Two numberings, step by step
 

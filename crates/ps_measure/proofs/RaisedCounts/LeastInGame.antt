@@ -12,6 +12,7 @@ use Rattle.ps_game.specs.Games.{IsGame, vertex_count, priority_of}
 use Rattle.ps_game.specs.Plays.{greatest, other_player}
 use Rattle.ps_game.specs.Regions.{has, move_at}
 use Rattle.ps_game.specs.Ranking.{KeepRuleWithin}
+use Rattle.ps_game.proofs.PathsAndLoops.LoopPriorities.{le-greatest}
 use Rattle.ps_measure.specs.Sums.{sum_below}
 use Rattle.ps_measure.specs.Inner.Remaining.{RemainingData, remaining_graph, source_graph, IsReverse, LowData}
 use Rattle.ps_measure.specs.Inner.Remaining.{low_graph, low_weight}
@@ -26,15 +27,10 @@ greatest-bound [] p each = omega arith
 greatest-bound (x ∷ xs) p each =
     omega (arith, each zero (omega arith), greatest-bound xs p (λ k within. each (suc k) (omega arith)))
 
-greatest-least : (xs : List ℕ) (k : ℕ) → k < length xs → get_or xs k 0 ≤ greatest xs
-greatest-least [] k within = absurd (omega arith)
-greatest-least (x ∷ xs) zero within = omega arith
-greatest-least (x ∷ xs) (suc k) within = omega (arith, greatest-least xs k (omega arith))
-
 -- if no number of a list is greater than its entry at index k, this entry is the list's greatest number
 greatest_at : (xs : List ℕ) (k p : ℕ) → k < length xs → get_or xs k 0 ≡ p →
     ((j : ℕ) → j < length xs → get_or xs j 0 ≤ p) → greatest xs ≡ p
-greatest_at xs k p within is each = omega (arith, is, greatest-bound xs p each, greatest-least xs k within)
+greatest_at xs k p within is each = omega (arith, is, greatest-bound xs p each, le-greatest xs k within)
 
 module _ (r : RemainingData) (low : LowData) (is_game : IsGame r.game) (levels : AreLevels r.game low.levels)
     (reverse : IsReverse (remaining_graph r) (source_graph low.sources)) (regions : low.region ≡ r.region) where

@@ -1,5 +1,5 @@
 -- The bits of the sum of two letters, in which no proposition is true in both.
-use Rattle.std.specs.Prelude.{◌≡◌, ℕ, zero, suc, ◌+◌, ◌^◌, ◌<◌, ◌||◌, ◌&&◌, Bool, true, false, cond}
+use Rattle.std.specs.Prelude.{◌≡◌, ℕ, ◌+◌, ◌^◌, ◌<◌, ◌||◌, ◌&&◌, Bool, true, false, cond}
 use Rattle.std.proofs.Common.{refl, sym, ap, ◌∙◌, inl, inr, arith}
 use Rattle.std.proofs.lemmas.Bool.{cases_lt}
 use Rattle.ps_label.specs.Truth.{is_in}
@@ -8,6 +8,7 @@ use Rattle.ps_diagram.proofs.TreesFromData.Alone.{same_letter}
 use Rattle.ps_diagram.proofs.NodeTables.Cells.{bool_cases}
 use Rattle.ps_diagram.proofs.Letters.{letter_is, letter_lt, no_bit}
 use Rattle.ps_machine.specs.Boards.{Board, IsFirstLetter, IsSecondLetter}
+use Rattle.ps_machine.proofs.AutomatonGames.BoardLetters.{sum_of}
 
 sum_step : (a b : Bool) (k l m s : ℕ) → (a && b) ≡ false → k + l ≡ m →
     (k + cond a s 0) + (l + cond b s 0) ≡ m + cond (a || b) s 0
@@ -15,12 +16,6 @@ sum_step true true k l m s apart same = absurd (cc apart)
 sum_step true false k l m s apart same = omega (arith, same)
 sum_step false true k l m s apart same = omega (arith, same)
 sum_step false false k l m s apart same = omega (arith, same)
-
-sum_of : (n : ℕ) (f g : ℕ → Bool) → ((p : ℕ) → (f p && g p) ≡ false) →
-    letter_of n f + letter_of n g ≡ letter_of n (λ p. f p || g p)
-sum_of zero f g apart = omega arith
-sum_of (suc n) f g apart = sum_step (f n) (g n) (letter_of n f) (letter_of n g) (letter_of n (λ p. f p || g p)) (2 ^ n)
-    (apart n) (sum_of n f g apart)
 
 number_is : (n x : ℕ) → x < 2 ^ n → x ≡ letter_of n (λ p. is_in p x)
 number_is n x lt = same_letter n x (letter_of n (λ p. is_in p x)) lt (letter_lt n (λ p. is_in p x))

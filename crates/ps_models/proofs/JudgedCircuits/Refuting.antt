@@ -3,11 +3,11 @@
 -- - `losing_by`: if the word of a lasso trace is wrong, the inputs that the trace reads are a counterexample
 -- - `word_is_wrong`, `losing_word`: on a counterexample, the words that are found are wrong
 -- - `apart`: a circuit does not both win and lose
-use Rattle.std.proofs.Common.{◌≡◌, ◌∙◌, ℕ, zero, suc, ◌<◌, ◌↔◌, Bool, List, [], ◌∷◌, length, get_or, refl, sym, ap}
+use Rattle.std.proofs.Common.{◌≡◌, ◌∙◌, ℕ, ◌↔◌, List, refl, sym}
 use Rattle.std.proofs.Common.{subst, arith}
 use Rattle.std.proofs.lemmas.List.{length-map}
 use Rattle.ps_circuit.specs.Circuits.{CircuitData, IsCircuit}
-use Rattle.ps_circuit.specs.Values.{Moment, GoesOn, HasOneValues, bit_of, resets}
+use Rattle.ps_circuit.specs.Values.{Moment, HasOneValues, resets}
 use Rattle.ps_formula.specs.Satisfaction.{Satisfies}
 use Rattle.ps_machine.specs.declared.key.Order.{Order}
 use Rattle.ps_simulate.specs.Lassos.{IsWordOf}
@@ -22,18 +22,10 @@ use Rattle.ps_traces.specs.Traces.{IsLassoWord}
 use Rattle.ps_verify.specs.Stimulated.{IsWordOn}
 use Rattle.ps_verify.proofs.TracesOn.{same_word}
 use Rattle.ps_verify.proofs.WordsOn.{word_on}
+use Rattle.ps_verify.proofs.Worth.{inputs_wide}
 use Rattle.ps_models.specs.Judgements.{IsLosingFor, IsSatisfied, IsWinningFor, NamedFormula}
 
 -- ## A word that shows that a circuit loses
-
--- the inputs that a trace reads have a bit for each input of the circuit
-inputs_wide : (c : CircuitData) (from to : List Bool) (ms : List Moment) → GoesOn c from ms to →
-    (k : ℕ) (d : List Bool) → k < length (inputs_of ms) → length (get_or (inputs_of ms) k d) ≡ length c.inputs
-inputs_wide c from to [] goes k d within = absurd (omega arith)
-inputs_wide c from to (m ∷ ms) (next, at, steps, rest) zero d within =
-    ap length (sym steps.are_values.inputs_are) ∙ length-map c.inputs (bit_of steps.values)
-inputs_wide c from to (m ∷ ms) (next, at, steps, rest) (suc k) d within =
-    inputs_wide c next to ms rest k d (omega arith)
 
 module _ {role : Role} (f : NamedFormula) {c : CircuitData} (is_circuit : IsCircuit c) (one : HasOneValues c)
     (symbols : HasSymbols role f.names f.controllable c) where

@@ -1,27 +1,27 @@
 -- Diagrams whose leaves also distinguish the values that given Boolean functions have at a letter.
 use Rattle.std.proofs.Common.{◌≡◌, ℕ, suc, ◌^◌, ◌<◌, Bool, true, false, cond, List, [], ◌∷◌, ◌++◌, Option, None}
 use Rattle.std.proofs.Common.{Some, All}
-use Rattle.std.proofs.Common.{refl, ap, sym, ◌∙◌, arith, get_or, length, rules, Result, Ok, Err, IfOk, take}
+use Rattle.std.proofs.Common.{refl, ap, sym, ◌∙◌, arith, get_or, length, Result, Ok, Err, IfOk, take}
 use Rattle.std.specs.Prelude.{is_some, slice_get}
 use Rattle.std.proofs.lemmas.List.{get_or-map, map-append}
 use Rattle.std.proofs.lemmas.List.Elements.{All-take}
 use Rattle.std.specs.List.{IsDistinct}
 use Rattle.std.specs.Option.{unwrap_or}
 use Rattle.ps_diagram.specs.Inner.Known.{pair_eq}
-use Rattle.ps_diagram.proofs.NodeTables.KnownLemmas.{pair_same, some_nat}
-use Rattle.std.specs.Bool.{Decides}
-use Rattle.std.proofs.lemmas.Bool.{eq-eqb}
+use Rattle.ps_diagram.proofs.NodeTables.KnownLemmas.{some_nat}
 use Rattle.ps_diagram.proofs.ClassesOfLetters.Distinct.{one_place}
 use Rattle.ps_simulate.proofs.NamingLemmas.{some_same}
 use Rattle.ps_diagram.specs.Labels.{IsOneOrNone}
 use Rattle.ps_diagram.specs.Pairs.{IsPaired}
 use Rattle.ps_diagram.specs.Table.{Table, IsNode, Keeps, leaf_of}
+use Rattle.ps_diagram.proofs.TreeOperations.Truths.{leaf_kept}
+use Rattle.ps_diagram.proofs.TreeOperations.Pairing.{pair_decides}
 use Rattle.ps_product.specs.Groups.{IsGroupedBy, IsTotal}
 use Rattle.ps_product.specs.Inner.Edges.{IsToldApart}
 use Rattle.ps_product.specs.Truths.{IsTruth, bits_of, with_sign, truth_at}
 use Rattle.ps_product.specs.declared.truth.Truth.{Truth}
 use Rattle.ps_product.specs.declared.truth.Truth.TheVariants.{Sometimes}
-use Rattle.ps_product.proofs.CircuitFunctions.TruthLemmas.{leaf_kept, signed_same, truth_same}
+use Rattle.ps_product.proofs.CircuitFunctions.TruthLemmas.{signed_same, truth_same}
 
 -- ## No function, and one function more
 
@@ -114,9 +114,6 @@ paired_same pairs (Some k) (Some l) m n c d sa sb h g e =
     sym h.2 ∙ ap (slice_get pairs) place ∙ g.2 in
     let both : (k, m) ≡ (l, n) = some_same (k, m) (l, n) pair in
     (ap (λ (p : ℕ × ℕ). Some p.0) both, ap (λ (p : ℕ × ℕ). p.1) both)
-
-pair_decides : (a b : ℕ × ℕ) → Decides (pair_eq a b) (a ≡ b)
-pair_decides a b = ((λ e. pair_same a b e), (λ e. search (rules, eq-eqb)))
 
 paired_alike : (pairs : List (ℕ × ℕ)) → IsDistinct pair_eq pairs → (a : Option ℕ) (m : ℕ) (c d : Option ℕ) →
     IsPaired pairs a (Some m) c → IsPaired pairs a (Some m) d → c ≡ d

@@ -114,12 +114,6 @@ module _ (names : List (List ℕ)) (controllable : List ℕ) (wanted : Bool) (sy
           h.differ j k x.0 y.0 (x.1 ∙ sym y.1);
     }
 
--- if the test finds a number in a list, the list contains it
-pub contained : (p : ℕ) (list : List ℕ) → is_among p list ≡ true → Contains list p
-contained p list e =
-    let at = among_at p list e in
-    (at.0, at.1, get_or_default list at.0 p 0 at.1 ∙ at.2)
-
 -- ## Inputs and outputs together
 
 same_or_not : (b r : Bool) → (b ≡ r) ⊎ (b ≡ not r)

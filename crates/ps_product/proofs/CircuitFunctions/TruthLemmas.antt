@@ -5,10 +5,9 @@ use Rattle.std.specs.Prelude.{◌&&◌, if◌then◌else◌, is_some}
 use Rattle.std.proofs.lemmas.Bool.{cases_eq}
 use Rattle.ps_diagram.specs.Labels.{IsOneOrNone, one_where}
 use Rattle.ps_diagram.specs.Leaves.{chosen}
-use Rattle.ps_diagram.specs.Letters.{assignment}
-use Rattle.ps_diagram.specs.Table.{Table, IsNode, Keeps, leaf_of}
-use Rattle.ps_diagram.specs.Tree.{leaf_at}
+use Rattle.ps_diagram.specs.Table.{Table, Keeps}
 use Rattle.ps_diagram.proofs.NodeTables.KnownLemmas.{keeps_trans}
+use Rattle.ps_diagram.proofs.TreeOperations.Truths.{leaf_kept}
 use Rattle.ps_circuit.specs.Values.{AreValues}
 use Rattle.ps_product.specs.Inner.Knowing.{IsReady, IsSite, IsTruthAt, Knows, Learns}
 use Rattle.ps_product.specs.Inner.Nets.{value_at}
@@ -16,10 +15,6 @@ use Rattle.ps_product.specs.Truths.{IsTruth, IsVarying, bits_at, with_sign, trut
 use Rattle.ps_product.specs.declared.site.Site.{Site}
 use Rattle.ps_product.specs.declared.truth.Truth.{Truth}
 use Rattle.ps_product.specs.declared.truth.Truth.TheVariants.{Never, Always, Sometimes}
-
-pub leaf_kept : {t u : Table} {node : ℕ} (letter : ℕ) → Keeps t u → IsNode t node →
-    leaf_of u node letter ≡ leaf_of t node letter
-leaf_kept {node} letter k h = ap (λ x. leaf_at x (assignment letter)) (k.same node h)
 
 varying_kept : {t u : Table} {node : ℕ} → Keeps t u → IsVarying t node → IsVarying u node
 varying_kept {t} {u} {node} k v = record {

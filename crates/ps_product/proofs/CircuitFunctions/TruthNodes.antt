@@ -6,12 +6,13 @@ use Rattle.std.proofs.lemmas.List.{get_or_default}
 use Rattle.ps_diagram.specs.Labels.{one_where}
 use Rattle.ps_diagram.specs.Table.{Table, IsNode, Keeps, leaf_of}
 use Rattle.ps_diagram.proofs.NodeTables.Cells.{push_each}
+use Rattle.ps_diagram.proofs.TreeOperations.Truths.{leaf_kept}
 use Rattle.ps_label.specs.Truth.{is_in}
 use Rattle.ps_product.specs.Groups.{AreDifferent, IsNodeFor, StandFor}
 use Rattle.ps_product.specs.Truths.{IsTruth, truth_at}
 use Rattle.ps_product.specs.declared.truth.Truth.{Truth}
 use Rattle.ps_product.specs.declared.truth.Truth.TheVariants.{Never}
-use Rattle.ps_product.proofs.CircuitFunctions.TruthLemmas.{leaf_kept, some_where, truth_kept, truth_same}
+use Rattle.ps_product.proofs.CircuitFunctions.TruthLemmas.{some_where, truth_kept, truth_same}
 
 pub truths_kept : {t u : Table} (truths : List Truth) → Keeps t u → All (IsTruth t) truths → All (IsTruth u) truths
 truths_kept truths k all i d lt = truth_kept k (get_or truths i d) (all i d lt)

@@ -1,8 +1,8 @@
 -- Lemmas about the product while its vertices are being explored, one after another.
-use Rattle.std.proofs.Common.{◌≡◌, ◌≢◌, ◌⊎◌, ℕ, suc, zero, ◌+◌, ◌<◌, ◌≤◌, List, [], ◌∷◌, ◌++◌, length, map, get_or, Vec}
-use Rattle.std.proofs.Common.{None, Some, refl, ap, sym, ◌∙◌, arith, inl, inr, length-append, All}
+use Rattle.std.proofs.Common.{◌≡◌, ℕ, suc, zero, ◌+◌, ◌<◌, ◌≤◌, List, [], ◌∷◌, ◌++◌, length, get_or, Vec}
+use Rattle.std.proofs.Common.{Some, refl, ap, sym, ◌∙◌, arith, inl, inr, length-append}
 use Rattle.std.specs.Global.{Global}
-use Rattle.std.specs.List.{AllPairs, Contains, slice_get}
+use Rattle.std.specs.List.{Contains, slice_get}
 use Rattle.std.proofs.Math.ListN.{get_or-append}
 use Rattle.std.proofs.Math.Seq.{get_or-append_seam}
 use Rattle.std.proofs.lemmas.Bool.{cases_lt}
@@ -271,7 +271,7 @@ module _ {s : Setting} (is_whole : IsWhole s.automaton) {d e : DraftData} {i : �
 
 -- ## The first vertex
 
-only_first : {v : ProductVertex} {number : ℕ} {new : List ProductVertex} → IsNumberOf [] v number new →
+pub only_first : {v : ProductVertex} {number : ℕ} {new : List ProductVertex} → IsNumberOf [] v number new →
     new ≡ v ∷ []
 only_first {v} {number} {new} is = elim is.list [
   | inl same ↦ absurd (omega (arith, slice_get_within [] number v (rw same at is.stands)))

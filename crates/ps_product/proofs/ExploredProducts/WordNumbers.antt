@@ -75,9 +75,6 @@ module _ {K : Type 0} (eq : K → K → Bool) (same : (a b : K) → eq a b ≡ t
 abbrev pub pair_eq : ℕ × ℕ → ℕ × ℕ → Bool
 pair_eq a b = nat_eq a.0 b.0 && nat_eq a.1 b.1
 
-pub pair_same : (a b : ℕ × ℕ) → pair_eq a b ≡ true → a ≡ b
-pair_same (x, y) (a, b) e = search (rules, and_both, eqb-true)
-
 pub pair_own : (a : ℕ × ℕ) → pair_eq a a ≡ true
 pair_own (x, y) = rw (eq-eqb x x refl, eq-eqb y y refl) refl
 

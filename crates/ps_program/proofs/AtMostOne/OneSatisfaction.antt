@@ -2,7 +2,7 @@
 -- - `satisfaction_one`: the statement on the word of a circuit's run
 -- - `specification_one`: the specification of a text
 -- - `lasso_tlsf_one`: the whole command
-use Rattle.std.proofs.Common.{arith, ◌≡◌, ◌∙◌, ◌<◌, ℕ, Bool, true, List, [], length, Result, Ok, Err, sym, ap, inl, inr}
+use Rattle.std.proofs.Common.{arith, ◌≡◌, ◌∙◌, ℕ, Bool, true, List, length, Result, Ok, Err, sym, ap, inl, inr}
 use Rattle.std.proofs.Common.{subst}
 use Rattle.ps_text.specs.Answers.{Found}
 use Rattle.ps_circuit.specs.CauseNames as circuit_names
@@ -26,7 +26,7 @@ use Rattle.ps_program.specs.Replies.{Reply}
 use Rattle.ps_program.specs.Commands.Satisfying.{AnswersLassoTlsf, IsToldBy, TellsSatisfaction}
 use Rattle.ps_program.specs.Texts.{ReadsSpecificationText}
 use Rattle.ps_program.proofs.AtMostOne.OneCut.{cut_three_one}
-use Rattle.ps_program.proofs.AtMostOne.OneStage.{OneCircuit, OneStimulus}
+use Rattle.ps_program.proofs.AtMostOne.OneStage.{OneCircuit, OneStimulus, no_empty_lap}
 use Rattle.ps_program.proofs.AtMostOne.OneStep.{IsOne, ok_of, reading_one, then_one}
 
 abbrev pub OneWord : Type 0
@@ -39,9 +39,6 @@ told_one f word r t (inl holds) (inl holds') = holds.1 ∙ sym holds'.1
 told_one f word r t (inl holds) (inr fails) = absurd (fails.0 holds.0)
 told_one f word r t (inr fails) (inl holds) = absurd (fails.0 holds.0)
 told_one f word r t (inr fails) (inr fails') = fails.1 ∙ sym fails'.1
-
-no_empty_lap : (lap : List (List Bool)) → lap ≡ [] → 0 < length lap → ⊥
-no_empty_lap lap none some = omega (arith, some, ap length none)
 
 satisfaction_one : OneWord → (role : Role) (spec : Specification) (c : CircuitData) (s : StimulusData) →
     IsOne (TellsSatisfaction role spec c s)

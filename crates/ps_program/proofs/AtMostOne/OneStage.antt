@@ -11,6 +11,8 @@ use Rattle.ps_certificate.specs.Certificates.{CertificateData, IsFirstFlaw}
 use Rattle.ps_certificate.specs.declared.flaw.Flaw.{Flaw}
 use Rattle.ps_circuit.specs.Circuits.{CircuitData, IsCircuit}
 use Rattle.ps_circuit.specs.Values.{HasOneValues}
+use Rattle.ps_circuit.specs.CauseNames as circuit_names
+use Rattle.ps_circuit.specs.Causes as circuit
 use Rattle.ps_circuit.specs.Texts as circuit_text
 use Rattle.ps_circuit.specs.declared.fault.AigCause.{AigCause}
 use Rattle.ps_automaton.specs.Answers.{IsAdmitted, IsRefused}
@@ -51,6 +53,10 @@ abbrev pub OneCircuit : Type 0
 OneCircuit = (text : List ℕ) (a b : Result CircuitData (Found AigCause)) → circuit_text.ReadsCircuit text a →
     circuit_text.ReadsCircuit text b → a ≡ b
 
+pub circuit_one : OneCircuit → (text : List ℕ) → IsOne (ReadsCircuitText text)
+circuit_one circuits text =
+    reading_one circuit.cause_number circuit_names.cause_name (circuit_text.ReadsCircuit text) (circuits text)
+
 abbrev pub OneStimulus : Type 0
 OneStimulus = (text : List ℕ) (width : ℕ) (split : Bool) → stimulus_text.HasOneAnswer text width split
 
@@ -88,7 +94,7 @@ makes_one games order file h4 h5 h k = grind arith
 
 -- ---- lassos
 
-no_empty_lap : (lap : List (List Bool)) → lap ≡ [] → 0 < length lap → ⊥
+pub no_empty_lap : (lap : List (List Bool)) → lap ≡ [] → 0 < length lap → ⊥
 no_empty_lap lap none some = omega (arith, some, ap length none)
 
 pub tells_one : OneVerdict → (role : Role) (file : FileData) (c : CircuitData) (s : StimulusData) →

@@ -6,7 +6,6 @@ use Rattle.std.proofs.lemmas.List.{length-map}
 use Rattle.std.proofs.lemmas.Option.{slice_get_within}
 use Rattle.ps_circuit.specs.declared.parts.Latch.{Latch}
 use Rattle.ps_circuit.specs.Values.{bit_of}
-use Rattle.ps_product.specs.Numbers.{IsNumberOf}
 use Rattle.ps_product.specs.Products.{ProductVertex}
 use Rattle.ps_product.specs.Words.{HasGrown}
 use Rattle.ps_product.proofs.ExploredProducts.WordNumbers.{still_there}
@@ -106,17 +105,6 @@ module _ {s : Scene} {base old new : DraftData} {vertex : ℕ} {cover : Edge} {r
       }
 
 -- ## The first vertex
-
-pub only_first : {v : ProductVertex} {number : ℕ} {new : List ProductVertex} → IsNumberOf [] v number new →
-    new ≡ v ∷ []
-only_first {v} {number} {new} is = elim is.list [
-  | inl same ↦ absurd (omega (
-    arith,
-    slice_get_within [] number v
-        (ap (λ (l : List ProductVertex). slice_get l number) (sym same) ∙ is.stands),
-  ))
-  | inr grown ↦ grown.0
-]
 
 pub draft_first : {s : Scene} {d : DraftData} → AreStates d.states →
     d.states.sets ≡ d.states.board.initial ∷ [] → d.vertices ≡ first_of s ∷ [] → d.rows ≡ [] → IsExplored s d 0

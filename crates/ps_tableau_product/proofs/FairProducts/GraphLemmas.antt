@@ -5,7 +5,7 @@ use Rattle.std.specs.Option.{option_map}
 use Rattle.std.proofs.lemmas.List.{get_or_default}
 use Rattle.ps_formula.specs.NormalForms.{normal_formula_at}
 use Rattle.ps_hoa.specs.Files.{is_among}
-use Rattle.ps_product.proofs.CircuitFunctions.RoleLemmas.{contained, not_among_at}
+use Rattle.ps_product.proofs.CircuitFunctions.RoleLemmas.{not_among_at}
 use Rattle.ps_tableau.proofs.CoversOfSets.JoinLemmas.{in_map}
 use Rattle.ps_tableau.proofs.CoversOfSets.WayLemmas.{formula_in}
 use Rattle.ps_simulate.proofs.NamingLemmas.{some_same}
@@ -13,14 +13,12 @@ use Rattle.ps_tableau.specs.Boards.{IsBoard, IsEdgeOf, IsSetOf, formulas_in}
 use Rattle.ps_tableau.specs.Sets.{indices_in}
 use Rattle.ps_tableau.specs.declared.board.Board.{Board}
 use Rattle.ps_tableau.specs.declared.edge.Edge.{Edge}
+use Rattle.ps_machine.proofs.Machines.Listing.{there_among, among_there}
 
 among_by : (p : ℕ) (list : List ℕ) (b : Bool) → is_among p list ≡ b → Contains list p → b ≡ true
 among_by p list true e there = refl
 among_by p list false e there =
     absurd (not_among_at p list e there.0 there.1 (get_or_default list there.0 0 p there.1 ∙ there.2))
-
-pub among_contained : (p : ℕ) (list : List ℕ) → Contains list p → is_among p list ≡ true
-among_contained p list there = among_by p list (is_among p list) refl there
 
 -- a test whether an edge postpones an until agrees with the search among the set's formulas
 postponed_by : {b : Board} (set until : ℕ) → IsBoard b → IsSetOf (Contains b.untils.items) b set →
@@ -30,7 +28,7 @@ postponed_by {b} set until board all known true s e same =
     sym (among_by until (indices_in b.sets set) s e (formula_in b board set until all known (same.0 refl)))
 postponed_by {b} set until board all known false true e same =
     same.1 (in_map (normal_formula_at b.formulas) (indices_in b.sets set) until
-    (contained until (indices_in b.sets set) e))
+    (among_there until (indices_in b.sets set) e))
 postponed_by {b} set until board all known false false e same = refl
 
 pub postponed_is : {b : Board} (set until : ℕ) → IsBoard b → IsSetOf (Contains b.untils.items) b set →
@@ -46,8 +44,8 @@ pub among_postponed : {b : Board} → IsBoard b → (cover : Edge) (until : ℕ)
     ↔ Contains (formulas_in b cover.postponed) (normal_formula_at b.formulas until)
 among_postponed {b} board cover until held known = (
   λ e. in_map (normal_formula_at b.formulas) (indices_in b.sets cover.postponed) until
-      (contained until (indices_in b.sets cover.postponed) e),
-  λ there. among_contained until (indices_in b.sets cover.postponed)
+      (among_there until (indices_in b.sets cover.postponed) e),
+  λ there. there_among until (indices_in b.sets cover.postponed)
       (formula_in b board cover.postponed until held.postponed known there),
 )
 

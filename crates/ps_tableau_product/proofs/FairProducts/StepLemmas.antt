@@ -16,7 +16,7 @@ use Rattle.ps_product.specs.Truths.{bits_at, bits_of}
 use Rattle.ps_product.specs.Vertices.{product_vertex}
 use Rattle.ps_product.specs.declared.edges.Edge as product
 use Rattle.ps_product.specs.declared.truth.Truth.{Truth}
-use Rattle.ps_product.proofs.ExploredProducts.EdgeLemmas.{element}
+use Rattle.ps_product.proofs.ExploredProducts.EdgeLemmas.{element, some_leaf}
 use Rattle.ps_simulate.specs.Lassos.{IsLetterOf}
 use Rattle.ps_tableau.specs.declared.board.Board.{Board}
 use Rattle.ps_tableau.specs.declared.edge.Edge.{Edge}
@@ -39,10 +39,6 @@ chosen_some (Some k) a y e = refl
 pub chosen_one : (x a : Option ℕ) → is_some x ≡ true → chosen x a None ≡ a
 chosen_one None a e = absurd (cc)
 chosen_one (Some k) a e = refl
-
-pub leaf_there : (o : Option ℕ) → is_some o ≡ true → (y : ℕ) × (o ≡ Some y)
-leaf_there None e = absurd (cc)
-leaf_there (Some y) e = (y, refl)
 
 module _ {t : Table} {nodes : List ℕ} {nexts : List Truth} {classes node : ℕ} (composed : ℕ) (guards : Table)
     (guard : ℕ) {found : List (ℕ × ℕ)} (tell : CanTell t nodes nexts classes)
@@ -71,7 +67,7 @@ module _ {t : Table} {nodes : List ℕ} {nexts : List Truth} {classes node : ℕ
     whole = λ x lt own serves.
         let some : is_some (leaf_of t composed x) ≡ true = ap is_some (leaf x x own) ∙ serves in
         let there = class_at x some in
-        let class = leaf_there (leaf_of t classes x) (tell.total x lt) in
+        let class = some_leaf (leaf_of t classes x) (tell.total x lt) in
         let any = leaves.each class.0 x (lt, there ∙ class.1) in
         let k = any.0 in
         let inside : k < length found = any.2 in

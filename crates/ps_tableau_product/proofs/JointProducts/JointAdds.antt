@@ -10,9 +10,10 @@ use Rattle.ps_automaton.specs.Automata.{AutomatonData, IsWhole, node_of, pair_of
 use Rattle.ps_automaton.specs.declared.step.Step.{Step}
 use Rattle.ps_diagram.specs.Table.{leaf_of}
 use Rattle.ps_diagram.proofs.ClassesOfLetters.Distinct.{at_end, at_last, at_left}
+use Rattle.ps_diagram.proofs.NodeTables.KnownLemmas.{pair_same}
 use Rattle.ps_keys.specs.Keys.{IsPlacedKey}
 use Rattle.ps_product.specs.Words.{HasGrown}
-use Rattle.ps_product.proofs.ExploredProducts.WordNumbers.{grown_none, grown_on, pair_eq, pair_same, still_there}
+use Rattle.ps_product.proofs.ExploredProducts.WordNumbers.{grown_none, grown_on, pair_eq, still_there}
 use Rattle.ps_simulate.proofs.NamingLemmas.{some_same}
 use Rattle.ps_tableau.specs.declared.edge.Edge.{Edge}
 use Rattle.ps_tableau_product.specs.BoardStates.{edges_of_state}

@@ -17,8 +17,8 @@ use Rattle.ps_diagram.specs.Reached.{AreLeaves}
 use Rattle.ps_diagram.specs.Table.{IsNode, Keeps, Table, leaf_of}
 use Rattle.ps_diagram.proofs.NodeTables.Cells.{keeps_refl}
 use Rattle.ps_diagram.proofs.Letters.{letter_is, no_bit}
+use Rattle.ps_diagram.proofs.TreeOperations.Truths.{leaf_kept}
 use Rattle.ps_label.specs.Truth.{is_in}
-use Rattle.ps_product.proofs.CircuitFunctions.TruthLemmas.{leaf_kept}
 use Rattle.ps_tableau_product.specs.Inner.Alphabets.{AreBitNodes, AreMeetings, AreMet, ArePlaceNodes, IsAlphabet}
 use Rattle.ps_tableau_product.specs.Inner.Alphabets.{IsBitNode}
 use Rattle.ps_tableau_product.specs.Inner.Composing.{AreComposed}

@@ -1,5 +1,5 @@
 -- The states of a board with their edges are a tableau.
-use Rattle.std.proofs.Common.{◌≡◌, ℕ, ◌<◌, List, length, map, get_or, sym, ap, subst, ◌∙◌, arith}
+use Rattle.std.proofs.Common.{◌≡◌, ℕ, ◌<◌, List, length, map, get_or, sym, subst, ◌∙◌, arith}
 use Rattle.std.specs.Prelude.{Contains, Some, slice_get}
 use Rattle.std.proofs.lemmas.List.{get_or-map, get_or_default, length-map}
 use Rattle.std.proofs.lemmas.Option.{get_or_from_slice_get, slice_get_within}
@@ -11,6 +11,7 @@ use Rattle.ps_tableau.specs.Runs.{IsPartialTableau}
 use Rattle.ps_tableau.specs.Sets.{indices_in}
 use Rattle.ps_tableau.specs.declared.board.Board.{Board}
 use Rattle.ps_tableau.specs.declared.edge.Edge.{Edge}
+use Rattle.ps_tableau.proofs.CoversOfSets.JoinLemmas.{in_map}
 use Rattle.ps_tableau_product.specs.BoardStates.{AreStatesOf, edges_of_state, tableau_of_states}
 use Rattle.ps_tableau_product.specs.Products.{IsTableauFor}
 
@@ -31,11 +32,6 @@ made f xs y d there =
       is = sym (get_or-map f xs k d y low) ∙ there.2;
     }
 
-made_there : {X Y : Type 0} (f : X → Y) (xs : List X) (x : X) → Contains xs x → Contains (map f xs) (f x)
-made_there f xs x there =
-    let low = there.1 in
-    (there.0, omega (arith, length-map xs f), get_or-map f xs there.0 x (f x) low ∙ ap f there.2)
-
 no_edge_of : Edge
 no_edge_of = record { guard = 0; next = 0; postponed = 0 }
 
@@ -53,7 +49,7 @@ module _ {b : Board} {sets : List ℕ} {edges : List (List Edge)} (states : AreS
         let index = made (normal_formula_at b.formulas) (indices_in b.sets edge.entry.postponed) f 0 among in
         let is_until = (held q edge.entry low edge.there).postponed.each index.entry index.there in
         subst (Contains (map (normal_formula_at b.formulas) b.untils.items)) index.is
-        (made_there (normal_formula_at b.formulas) b.untils.items index.entry is_until));
+        (in_map (normal_formula_at b.formulas) b.untils.items index.entry is_until));
   }
 
   pub is_tableau_for : (f : Formula) → IsTableauOf b f → slice_get sets 0 ≡ Some b.initial →

@@ -11,18 +11,18 @@ use Rattle.std.proofs.lemmas.List.Elements.{All-push}
 use Rattle.std.proofs.lemmas.Option.{slice_get-get_or}
 use Rattle.ps_diagram.specs.Table.{leaf_of}
 use Rattle.ps_diagram.proofs.ClassesOfLetters.Distinct.{at_end}
+use Rattle.ps_diagram.proofs.TreeOperations.Truths.{leaf_kept}
 use Rattle.ps_formula.specs.Formulas.{Formula}
 use Rattle.ps_formula.specs.NormalForms.{NormalFormula}
 use Rattle.ps_formula.specs.Satisfaction.{Satisfies}
 use Rattle.ps_keys.specs.Keys.{IsPlacedKey}
 use Rattle.ps_product.specs.Words.{HasGrown}
-use Rattle.ps_product.proofs.CircuitFunctions.TruthLemmas.{leaf_kept}
 use Rattle.ps_product.proofs.ExploredProducts.WordNumbers.{grown_none, grown_on}
 use Rattle.ps_tableau.specs.Boards.{AreEdgesOf, Grows, IsBoard, IsEdgeOf, IsState, IsTableauOf, MakesEdges, formulas_in}
 use Rattle.ps_tableau.specs.Covers.{AreCoversOf, SatisfiesAll}
 use Rattle.ps_tableau.specs.declared.board.Board.{Board}
 use Rattle.ps_tableau.specs.declared.edge.Edge.{Edge}
-use Rattle.ps_tableau.proofs.BoardLemmas.{formulas_kept, grows_refl, grows_trans, makes_kept, set_kept}
+use Rattle.ps_tableau.proofs.BoardLemmas.{formulas_kept, grows_refl, grows_trans, makes_kept, state_kept}
 use Rattle.ps_tableau.proofs.CoversOfSets.WayLemmas.{board_kept}
 use Rattle.ps_tableau_product.specs.BoardStates.{edges_of_state}
 use Rattle.ps_tableau_product.specs.Inner.States.{AreStates, IsNumberOfSet, StatesData, StatesGrow}
@@ -59,9 +59,6 @@ pub serves_same : {s : StatesData} {b : Board} → AreStates s → Grows s.board
     is_some (leaf_of b.guards e.guard letter) ≡ is_some (leaf_of s.board.guards e.guard letter)
 serves_same are grows q lt e there letter =
     let held = cover_held are q lt e there in ap is_some (leaf_kept letter grows.guards held.guard)
-
-state_kept : {old new : Board} {set : ℕ} → Grows old new → IsState old set → IsState new set
-state_kept grows is = set_kept grows (λ k h. rw grows.needed h) is
 
 -- ## Edges of one more state
 

@@ -17,13 +17,13 @@ use Rattle.ps_diagram.specs.Composing.{IsLetterOfTruths}
 use Rattle.ps_diagram.specs.Table.{IsNode, Keeps, Table, leaf_of}
 use Rattle.ps_diagram.proofs.TreeOperations.Composing.{bits_after}
 use Rattle.ps_diagram.proofs.Letters.{no_bit}
+use Rattle.ps_diagram.proofs.TreeOperations.Truths.{leaf_kept}
 use Rattle.ps_product.specs.Groups.{IsGroupedBy, IsNodeFor, StandFor}
 use Rattle.ps_product.specs.Roles.{AreRoles}
 use Rattle.ps_product.specs.Truths.{IsTruth, bits_at, bits_of, truth_at}
 use Rattle.ps_product.specs.declared.roles.Roles.{Roles}
 use Rattle.ps_product.specs.declared.truth.Truth.{Truth}
 use Rattle.ps_product.specs.declared.truth.Truth.TheVariants.{Never}
-use Rattle.ps_product.proofs.CircuitFunctions.TruthLemmas.{leaf_kept}
 use Rattle.ps_product.proofs.CircuitFunctions.TruthNodes.{node_for_kept, nodes_held, stand_held, truths_kept}
 use Rattle.ps_product.proofs.CircuitFunctions.GroupLemmas.{bits_same}
 use Rattle.ps_simulate.specs.Lassos.{IsLetterOf}

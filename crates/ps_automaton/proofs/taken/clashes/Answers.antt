@@ -5,8 +5,9 @@ use Rattle.ps_automaton.specs.Answers.{AreAlike}
 use Rattle.ps_automaton.specs.Inner.Targets.{IsTargetOf}
 use Rattle.ps_automaton.proofs.EdgesAtLetters.Fitting.{ready_to, edge_at, edge_marks_few, alike_of_target}
 use Rattle.ps_automaton.proofs.EdgesAtLetters.Fitting.{target_of_alike}
-use Rattle.ps_automaton.proofs.EdgesAtLetters.Meeting.{keeps_both, kept_shows}
+use Rattle.ps_automaton.proofs.EdgesAtLetters.Meeting.{kept_shows}
 use Rattle.ps_automaton.proofs.taken.clashes.Goals as goal
+use Rattle.ps_diagram.proofs.NodeTables.KnownLemmas.{keeps_trans}
 
 pub target_of-requires-clause-edge : goal.target_of-requires-clause-edge
 target_of-requires-clause-edge c = edge_marks_few c.requires.ready.ready.sound c.requires.ready.ready.row c.args.first
@@ -37,7 +38,7 @@ returns-then-eq-clause-clashing c =
 
 pub returns-clause-keeps : goal.returns-clause-keeps
 returns-clause-keeps c =
-    on_ok_weaker c.meet.result (λ k. keeps_both c.in_ok-earlier.ensures.keeps k) c.meet.ensures.keeps
+    on_ok_weaker c.meet.result (λ k. keeps_trans c.in_ok-earlier.ensures.keeps k) c.meet.ensures.keeps
 
 pub returns-clause-clashing : goal.returns-clause-clashing
 returns-clause-clashing c =

@@ -1,9 +1,10 @@
 use Rattle.std.proofs.Common.{refl, rules}
-use Rattle.ps_automaton.proofs.EdgesAtLetters.Meeting.{guarded_meet, keeps_both}
+use Rattle.ps_automaton.proofs.EdgesAtLetters.Meeting.{guarded_meet}
 use Rattle.ps_automaton.proofs.taken.meet.Goals as goal
+use Rattle.ps_diagram.proofs.NodeTables.KnownLemmas.{keeps_trans}
 
 pub returns-in-Err-Clash-clause-keeps : goal.returns-in-Err-Clash-clause-keeps
-returns-in-Err-Clash-clause-keeps c = search (rules, keeps_both)
+returns-in-Err-Clash-clause-keeps c = search (rules, keeps_trans)
 
 pub returns-in-Err-Clash-clause-meet : goal.returns-in-Err-Clash-clause-meet
 returns-in-Err-Clash-clause-meet c =

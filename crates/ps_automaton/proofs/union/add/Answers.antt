@@ -1,10 +1,10 @@
 use Rattle.std.proofs.Common.{◌^◌, ◌<◌, subst, ◌∙◌, rules}
 use Rattle.ps_automaton.proofs.EdgesAtLetters.Fitting.{ready_to, edge_at, edge_marks_few}
-use Rattle.ps_automaton.proofs.EdgesAtLetters.Meeting.{keeps_both}
 use Rattle.ps_automaton.proofs.StepsByState.PlaceTables.{placed_is, placed_keeps}
 use Rattle.ps_automaton.proofs.EdgesAtLetters.Ready.{kept_ready}
 use Rattle.ps_automaton.proofs.EdgesAtLetters.EdgeUnions.{union_grown, union_clash, first_of_row}
 use Rattle.ps_automaton.proofs.union.add.Goals as goal
+use Rattle.ps_diagram.proofs.NodeTables.KnownLemmas.{keeps_trans}
 
 pub target_of-requires-clause-edge : goal.target_of-requires-clause-edge
 target_of-requires-clause-edge c =
@@ -21,7 +21,7 @@ overlay-requires-clause-first c = search rules
 
 pub first_clash-requires-clause-ready : goal.first_clash-requires-clause-ready
 first_clash-requires-clause-ready c =
-    kept_ready (keeps_both c.in_ok-letters.ensures.keeps c.overlay.ensures.made.keeps) (search rules)
+    kept_ready (keeps_trans c.in_ok-letters.ensures.keeps c.overlay.ensures.made.keeps) (search rules)
 
 pub first_clash-requires-clause-clash : goal.first_clash-requires-clause-clash
 first_clash-requires-clause-clash c =
@@ -44,7 +44,7 @@ returns-in-Ok c =
     let joining = c.requires.joining in
     let ready = joining.ready in
     record {
-      keeps = keeps_both keeps c.overlay.ensures.made.keeps;
+      keeps = keeps_trans keeps c.overlay.ensures.made.keeps;
       union = union_grown ready.sound ready.row at c.target_of.ensures c.place_of.new.self c.in_ok-target.target
           (placed_keeps placed) placed.stored (placed_is placed) keeps c.in_ok-letters.letters joining.union
           c.in_ok-letters.ensures.leaf c.in-Ok.ensures.made.held c.in-Ok.ensures.made.leaf

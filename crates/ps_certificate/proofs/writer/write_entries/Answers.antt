@@ -3,8 +3,9 @@ use Rattle.std.proofs.lemmas.Grind.{common_steps}
 use Rattle.std.specs.List.{All}
 use Rattle.ps_certificate.specs.Certificates.{EntryData, no_entry}
 use Rattle.ps_certificate.specs.Written.{IsWord}
-use Rattle.ps_certificate.proofs.Rereading.WritingSteps.{all_taken, all_taken_all}
+use Rattle.ps_certificate.proofs.Rereading.WritingSteps.{all_taken}
 use Rattle.ps_certificate.proofs.writer.write_entries.Goals as goal
+use Rattle.ps_text.proofs.Combinators.Splits.{all_taken_all}
 
 pub loop-vertex-preserved : goal.loop-vertex-preserved
 loop-vertex-preserved c = record {

@@ -1,7 +1,7 @@
 -- While vertices are visited one after another, the game in the making stays correct. The game is complete once all
 -- vertices have been visited.
 use Rattle.std.proofs.Common.{◌≡◌, ◌≢◌, ◌⊎◌, ℕ, zero, suc, ◌+◌, ◌<◌, ◌≤◌, List, [], ◌∷◌, ◌++◌, length, map}
-use Rattle.std.proofs.Common.{filter, cond, not, ◌==◌, true, get_or, Option, Some, None, Result}
+use Rattle.std.proofs.Common.{get_or, Option, Some, None, Result}
 use Rattle.std.proofs.Common.{IfOk, refl, ap, ap₂, sym, subst, ◌∙◌, arith, rules}
 use Rattle.std.specs.List.{All, AllPairs, AllZip, Contains, slice_get}
 use Rattle.std.proofs.Math.ListN.{get_or-append}
@@ -9,16 +9,17 @@ use Rattle.std.proofs.Math.Seq.{get_or-append_seam}
 use Rattle.std.proofs.lemmas.List.{length-append, get_or_default}
 use Rattle.std.proofs.lemmas.List.Elements.{All-append, All-push, All-nil}
 use Rattle.std.proofs.lemmas.Option.{slice_get_within, slice_get-get_or, get_or_from_slice_get}
-use Rattle.std.proofs.lemmas.Bool.Decides.{nat_tests}
 use Rattle.std.proofs.lemmas.Slice.Zip.{AllZip-long}
 use Rattle.ps_game.specs.Games.{ParityGame, VertexData, no_vertex, vertex_count, owner_of, priority_of, successors_of}
 use Rattle.ps_game.specs.Drafts.{distinct, vertex_without_repeats, without_repeats}
+use Rattle.ps_game.proofs.StoredGames.VertexArrays.{distinct_same}
 use Rattle.ps_machine.specs.Keys.{owner_of_key, priority_of_key}
 use Rattle.ps_machine.specs.Numbering.{listed, StandsAt, IsVertexOf, IsGameByKeys, IsNumbered}
 use Rattle.ps_machine.specs.Inner.Visits.{DraftData, Visits, IsReady, IsExplored}
 use Rattle.ps_machine.specs.declared.key.Key.{Key}
 use Rattle.ps_machine.specs.declared.key.Key.TheVariants.{First}
-use Rattle.ps_machine.proofs.AutomatonGames.GameKeys.Standing.{slice_get-left, stand-left, stand-within, stand-apart}
+use Rattle.ps_machine.proofs.AutomatonGames.GameKeys.Standing.{stand-left, stand-within, stand-apart}
+use Rattle.ps_diagram.proofs.ClassesOfLetters.Distinct.{at_left}
 
 -- appending a vertex to a game does not change the old vertices
 at_old : (game : ParityGame) (x : VertexData) (u : ℕ) → u < vertex_count game →
@@ -55,7 +56,7 @@ module _ {leads : Key → List Key → Type 0} {mover : ℕ} where
   vertex_old : (keys added : List Key) (game : ParityGame) (x : VertexData) (u : ℕ) → u < vertex_count game →
       IsVertexOf leads mover keys game u → IsVertexOf leads mover (keys ++ added) (game ++ x ∷ []) u
   unfolding owner_of priority_of
-  vertex_old keys added game x u within is = search (rules, slice_get-left, at_old, successors_old, stand-left)
+  vertex_old keys added game x u within is = search (rules, at_left, at_old, successors_old, stand-left)
 
   -- the appended vertex has the owner, the priority and the successors that the visited key determines
   vertex_new : (keys : List Key) (game : ParityGame) (key : Key) (next : List Key) (numbers : List ℕ) →
@@ -96,7 +97,7 @@ explored_more {leads} {known} {mover} {first} {old} {v} {key} {next} {new} e at 
     visits = record {
       count = ap vertex_count visits.game ∙ count_more old.game x ∙ ap (λ n. n + 1) e.count;
       within = omega (arith, slice_get_within old.keys v key at, long);
-      begins = rw visits.keys (slice_get-left old.keys visits.added 0 e.begins);
+      begins = rw visits.keys (at_left old.keys visits.added 0 e.begins);
       different = visits.different e.different;
       all_known = rw visits.keys (All-append known old.keys visits.added e.all_known (search (rules, all_of)));
       vertices = subst (λ game. (u : ℕ) → u < v + 1 → IsVertexOf leads mover new.keys game u) (sym visits.game)
@@ -123,7 +124,7 @@ explored_more {leads} {known} {mover} {first} {old} {v} {key} {next} {new} e at 
     there u less = omega (arith, e.count, less)
 
     stands : StandsAt new.keys v key
-    stands = subst (λ keys. StandsAt keys v key) (sym visits.keys) (slice_get-left old.keys visits.added v at)
+    stands = subst (λ keys. StandsAt keys v key) (sym visits.keys) (at_left old.keys visits.added v at)
 
     at_last : successors_of new.game v ≡ visits.numbers
     at_last = search (rules, successors_new)
@@ -157,23 +158,6 @@ by_keys {leads} {known} {mover} {first} {draft} {v} {game} e past k g =
 pub known_at : {leads : Key → List Key → Type 0} {known : Key → Type 0} {mover : ℕ} {first : Key} {draft : DraftData}
     {v : ℕ} {key : Key} → IsExplored leads known mover first draft v → slice_get draft.keys v ≡ Some key → known key
 known_at {known} {draft} {v} {key} e at = search (rules, slice_get_within, get_or_from_slice_get)
-
--- removing repeats does not change a list of different successors
-distinct_same : (xs : List ℕ) → AllPairs (λ x y. x ≢ y) xs → distinct xs ≡ xs
-distinct_same [] differ = refl
-distinct_same (x ∷ xs) differ = ap (λ l. x ∷ filter (λ y. not (x == y)) l)
-    (distinct_same xs (λ i j d rises within. differ (suc i) (suc j) d (omega (arith, rises)) (omega (arith, within))))
-    ∙ ap (λ l. x ∷ l) (all_kept xs (λ i d within. differ 0 (suc i) d (omega arith) (omega (arith, within))))
-  where
-    keeps : (y : ℕ) → x ≢ y → not (x == y) ≡ true
-    keeps y differs = grind (arith, nat_tests)
-
-    all_kept : (ys : List ℕ) → All (λ y. x ≢ y) ys → filter (λ y. not (x == y)) ys ≡ ys
-    all_kept [] all = refl
-    all_kept (y ∷ ys) all =
-        ap (λ b. cond b (y ∷ filter (λ z. not (x == z)) ys) (filter (λ z. not (x == z)) ys))
-        (keeps y (all 0 0 (omega arith)))
-        ∙ ap (λ l. y ∷ l) (all_kept ys (λ i d within. all (suc i) d (omega (arith, within))))
 
 vertices_same : (game : List VertexData) → All (λ (x : VertexData). AllPairs (λ a b. a ≢ b) x.successors) game →
     map vertex_without_repeats game ≡ game

@@ -17,6 +17,7 @@ use Rattle.ps_game.specs.Drafts.{with_vertex}
 use Rattle.ps_diagram.specs.Letters.{IsBefore, IsLeastLetter}
 use Rattle.ps_hoa.specs.Files.{FileData}
 use Rattle.ps_hoa.specs.Sound.{IsSoundFile}
+use Rattle.ps_hoa.proofs.Reading.NameLemmas.{same_by}
 use Rattle.ps_automaton.specs.Answers.{IsAdmitted}
 use Rattle.ps_automaton.proofs.AdmittedFiles.Deciding.{some_or_none}
 use Rattle.ps_automaton.proofs.AdmittedFiles.Existing.{auto_there}
@@ -112,11 +113,8 @@ is_key a b = (key_eq.eq-value).it a b
 told_apart : (a b : Key) → Decides (is_key a b) (a ≡ b)
 told_apart a b = (same_key a b, λ e. subst (λ k. is_key a k ≡ true) e (key_same a))
 
-both_ways : (a b : Bool) → (a ≡ true → b ≡ true) → (b ≡ true → a ≡ true) → a ≡ b
-both_ways a b h k = search rules
-
 key_laws : IsEquivalence is_key
-key_laws = search (rules, key_same, both_ways, told_apart, same_key)
+key_laws = search (rules, key_same, same_by, told_apart, same_key)
 
 -- a list of different vertex keys, all of which are in another list, is not longer than the other list
 keys_fit : (all keys : List Key) → AllPairs (λ x y. x ≢ y) keys → All (Contains all) keys → length keys ≤ length all

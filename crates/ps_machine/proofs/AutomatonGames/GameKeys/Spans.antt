@@ -22,8 +22,9 @@ use Rattle.ps_machine.specs.declared.numbers.Numbers.{Numbers}
 use Rattle.ps_machine.specs.declared.numbers.Span.{Span}
 use Rattle.ps_machine.proofs.LettersOneByOne.ByLetters.{classes_occur, leads_differ, leads_some}
 use Rattle.ps_machine.proofs.AutomatonGames.GameKeys.Getting.{numbers_known, numbers_new}
-use Rattle.ps_machine.proofs.AutomatonGames.GameKeys.Standing.{slice_get-left}
 use Rattle.ps_machine.proofs.AutomatonGames.GameKeys.StepNumbers.{steps_still}
+use Rattle.ps_machine.proofs.AutomatonGames.GameKeys.Standing.{no_second, class_letter}
+use Rattle.ps_diagram.proofs.ClassesOfLetters.Distinct.{at_left}
 
 abbrev class_keys : ℕ → List ℕ → List Key
 class_keys q letters = map (λ x. Second q x) letters
@@ -34,9 +35,6 @@ class_key_at q letters k d within = get_or-map (λ x. Second q x) letters k 0 d 
 
 class_state : {q r x y : ℕ} → Second q x ≡ Second r y → q ≡ r
 class_state e = cc
-
-class_letter : {q r x y : ℕ} → Second q x ≡ Second r y → x ≡ y
-class_letter e = cc
 
 -- a class that is among the keys of a state's classes is one of the state's classes
 class_among : (q r x : ℕ) (letters : List ℕ) → Contains (class_keys q letters) (Second r x) →
@@ -92,7 +90,7 @@ module _ {Divided : ℕ → ℕ → List ℕ → Type 0} {board : Board} {keys :
       there r within other = (let is = were.each r within in record {
         letters = is.letters;
         long = is.long;
-        stand = λ k lt. slice_get-left keys (class_keys q letters) ((get_or spans r no_span).first + k) (is.stand k lt);
+        stand = λ k lt. at_left keys (class_keys q letters) ((get_or spans r no_span).first + k) (is.stand k lt);
         whole = λ x c. elim (Contains-append_cases keys (class_keys q letters) (Second r x) c) [
           | inl before ↦ is.whole x before
           | inr added ↦ absurd (other (sym (class_among q r x letters added).0))
@@ -203,9 +201,6 @@ module _ {Divided : ℕ → ℕ → List ℕ → Type 0} {board : Board} {keys :
 
 -- ## Vertices of the first player that are added
 
-step_no_class : {q p r x : ℕ} → First q p ≡ Second r x → ⊥
-step_no_class e = cc
-
 module _ {keys new : List Key} (a : AutomatonData) (leaves : List ℕ) {numbers : List ℕ} where
   -- no vertex that was added stands for a class
   class_before : GetNumbers keys (leaf_keys a leaves) numbers new → (q x : ℕ) → Contains new (Second q x) →
@@ -216,7 +211,7 @@ module _ {keys new : List Key} (a : AutomatonData) (leaves : List ℕ) {numbers 
         | inr (j, less, is) ↦
             let from = g.from_next j (Second q x) less in
             let within : from.0 < length leaves = omega (arith, from.1, length-map leaves (λ l. leaf_key a l)) in
-            absurd (step_no_class (sym (get_or-map (λ l. leaf_key a l) leaves from.0 0
+            absurd (no_second (sym (get_or-map (λ l. leaf_key a l) leaves from.0 0
             (get_or g.added j (Second q x)) within) ∙ from.2 ∙ is))
       ]
 
@@ -229,7 +224,7 @@ module _ {keys new : List Key} (a : AutomatonData) (leaves : List ℕ) {numbers 
       letters = is.letters;
       long = is.long;
       stand = λ k lt. subst (λ l. StandsAt l ((get_or spans q no_span).first + k) (Second q (get_or is.letters k 0)))
-          (sym g.keys) (slice_get-left keys g.added ((get_or spans q no_span).first + k) (is.stand k lt));
+          (sym g.keys) (at_left keys g.added ((get_or spans q no_span).first + k) (is.stand k lt));
       whole = λ x c. is.whole x (class_before g q x c);
       divided = is.divided;
       listed = is.listed;

@@ -1,18 +1,20 @@
 -- Facts about lists of keys, in which a vertex's number is the index of its key, and about lists of numbers without
 -- repeats.
 use Rattle.std.proofs.Common.{◌≡◌, ◌≢◌, ℕ, zero, suc, ◌+◌, ◌<◌, true, false, List, [], ◌∷◌, ◌++◌, length, get_or, Some}
-use Rattle.std.proofs.Common.{refl, ap, ◌∙◌, rules, arith, filter, not, ◌==◌, ◌||◌}
+use Rattle.std.proofs.Common.{refl, ap, ◌∙◌, arith, ◌==◌, ◌||◌}
 use Rattle.std.specs.List.{All, AllPairs, AllZip, Contains, range_with_len, slice_get, list_any}
 use Rattle.std.proofs.lemmas.Option.{slice_get_within}
-use Rattle.std.proofs.lemmas.List.Elements.{All-cons, All-filter, Contains-get_or}
+use Rattle.std.proofs.lemmas.List.Elements.{Contains-get_or}
 use Rattle.std.proofs.lemmas.List.Folds.{list_any_at}
 use Rattle.std.proofs.lemmas.List.FromFn.{get_or-range_with_len, length-range_with_len}
 use Rattle.std.proofs.lemmas.Bool.Decides.{nat_tests}
 use Rattle.std.proofs.lemmas.Slice.Zip.{AllZip-long}
 use Rattle.ps_game.specs.Drafts.{distinct}
+use Rattle.ps_game.proofs.StoredGames.Finished.{All-distinct}
 use Rattle.ps_machine.specs.Numbering.{StandsAt}
 use Rattle.ps_machine.specs.declared.key.Key.{Key}
-use Rattle.ps_machine.specs.declared.key.Key.TheVariants.{First}
+use Rattle.ps_machine.specs.declared.key.Key.TheVariants.{First, Second}
+use Rattle.ps_diagram.proofs.ClassesOfLetters.Distinct.{at_left}
 
 -- if Some a equals Some b, the vertex keys a and b are equal
 pub same_some : {key other : Key} → Some key ≡ Some other → key ≡ other
@@ -23,12 +25,15 @@ pub one_state : (keys : List Key) (v : ℕ) {q : ℕ} (p : ℕ) {r : ℕ} (m : �
     StandsAt keys v (First r m) → q ≡ r
 one_state keys v p m at there = cc
 
--- an entry keeps its index when a list is extended at its end
-pub slice_get-left : {X : Type 0} (xs ys : List X) (i : ℕ) {x : X} → slice_get xs i ≡ Some x →
-    slice_get (xs ++ ys) i ≡ Some x
-slice_get-left [] ys i e = search rules
-slice_get-left (y ∷ xs) ys zero e = e
-slice_get-left (y ∷ xs) ys (suc i) e = slice_get-left xs ys i e
+-- no key stands for vertices of both players
+pub no_second : {q p r x : ℕ} → First q p ≡ Second r x → ⊥
+no_second e = cc
+
+pub not_second : {q p r x : ℕ} → Second r x ≡ First q p → ⊥
+not_second e = cc
+
+pub class_letter : {q r x y : ℕ} → Second q x ≡ Second r y → x ≡ y
+class_letter e = cc
 
 pub slice_get-seam : {X : Type 0} (xs : List X) {x : X} → slice_get (xs ++ x ∷ []) (length xs) ≡ Some x
 slice_get-seam [] = refl
@@ -40,7 +45,7 @@ stand-left keys added [] [] s = tt
 stand-left keys added [] (k ∷ next) s = s
 stand-left keys added (n ∷ numbers) [] s = s
 stand-left keys added (n ∷ numbers) (k ∷ next) s =
-    (slice_get-left keys added n s.0, stand-left keys added numbers next s.1)
+    (at_left keys added n s.0, stand-left keys added numbers next s.1)
 
 -- Let each entry of `numbers` be the vertex that stands for the entry of `next` at the same index. Then, for
 -- each index i of `numbers`, `next` has an entry at i, and the vertex `numbers[i]` stands for the key `next[i]`
@@ -72,12 +77,6 @@ pub stand-apart : (keys : List Key) (numbers : List ℕ) (next : List Key) → A
 stand-apart keys numbers next s differ i j d rises within same =
     let e : Key = First 0 0 in
     grind (arith, zip_at keys numbers next i d e s (omega arith), zip_at keys numbers next j d e s within)
-
--- a property of all entries of a list still holds after repeats are removed
-All-distinct : (P : ℕ → Type 0) (xs : List ℕ) → All P xs → All P (distinct xs)
-All-distinct P [] all = all
-All-distinct P (x ∷ xs) all = All-cons P x (filter (λ y. not (x == y)) (distinct xs)) (all 0 0 (omega arith))
-    (All-filter (λ y. not (x == y)) P (distinct xs) (All-distinct P xs (λ k d within. all (suc k) d (omega arith))))
 
 -- if a list, after repeats are removed, is 0, 1, and so on up to count - 1, each number less than `count` is in the
 -- list

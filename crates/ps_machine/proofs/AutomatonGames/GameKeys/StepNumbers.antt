@@ -13,8 +13,9 @@ use Rattle.ps_machine.specs.Inner.Visits.{Came, Comes, IsNumberOf}
 use Rattle.ps_machine.specs.declared.key.Key.{Key}
 use Rattle.ps_machine.specs.declared.key.Key.TheVariants.{First, Second}
 use Rattle.ps_machine.proofs.AutomatonGames.BoardSteps.{step_of_key}
-use Rattle.ps_machine.proofs.AutomatonGames.GameKeys.Standing.{slice_get-left}
 use Rattle.ps_machine.proofs.AutomatonGames.GameKeys.Visiting.{added_by, is_added, stands_now}
+use Rattle.ps_machine.proofs.AutomatonGames.GameKeys.Standing.{not_second}
+use Rattle.ps_diagram.proofs.ClassesOfLetters.Distinct.{at_left}
 
 -- a key of the new list is the numbered key, or was in the old list
 contained_before : {keys : List Key} {k : Key} {n : ℕ} {new : List Key} → IsNumberOf keys k n new → (other : Key) →
@@ -26,7 +27,7 @@ contained_before {keys} {k} (Comes absent is grown) other c =
 stands_still : {keys : List Key} {k : Key} {n : ℕ} {new : List Key} → IsNumberOf keys k n new → (m : ℕ) (other : Key) →
     StandsAt keys m other → StandsAt new m other
 stands_still {keys} is m other at =
-    subst (λ l. StandsAt l m other) (sym (is_added is)) (slice_get-left keys (added_by is) m at)
+    subst (λ l. StandsAt l m other) (sym (is_added is)) (at_left keys (added_by is) m at)
 
 -- the leaf's step gets a number, and its entry is set
 pub steps_more : {a : AutomatonData} {keys new : List Key} {steps now : List ℕ} {leaf n : ℕ} → IsWhole a →
@@ -56,9 +57,6 @@ steps_more {a} {keys} {new} {steps} {now} {leaf} {n} whole named were is entry o
       ];
     }
 
-not_second : {q p r x : ℕ} → Second r x ≡ First q p → ⊥
-not_second e = cc
-
 -- no vertex of the first player is among keys of vertices of the second player
 no_step : (a : AutomatonData) (q leaf : ℕ) (letters : List ℕ) →
     Contains (map (λ x. Second q x) letters) (leaf_key a leaf)
@@ -71,9 +69,9 @@ no_step a q leaf letters c =
 pub steps_still : {a : AutomatonData} {keys : List Key} {steps : List ℕ} (q : ℕ) (letters : List ℕ) →
     AreStepNumbers a keys steps → AreStepNumbers a (keys ++ map (λ x. Second q x) letters) steps
 steps_still {a} {keys} {steps} q letters were = record {
-  begins = slice_get-left keys (map (λ x. Second q x) letters) 0 were.begins;
+  begins = at_left keys (map (λ x. Second q x) letters) 0 were.begins;
   each = λ l lt. record {
-    stands = λ m e. slice_get-left keys (map (λ x. Second q x) letters) m ((were.each l lt).stands m e);
+    stands = λ m e. at_left keys (map (λ x. Second q x) letters) m ((were.each l lt).stands m e);
     absent = λ e away c. elim (Contains-append_cases keys (map (λ x. Second q x) letters) (leaf_key a l) c) [
       | inl before ↦ (were.each l lt).absent e away before
       | inr added ↦ no_step a q l letters added

@@ -23,12 +23,10 @@ use Rattle.ps_machine.proofs.LettersOneByOne.ByLetters.{leads_differ, leads_some
 use Rattle.ps_machine.proofs.AutomatonGames.GameKeys.Exploring.{by_keys, explored_first, explored_more, known_at}
 use Rattle.ps_machine.proofs.AutomatonGames.GameKeys.Exploring.{less_or_last, ready}
 use Rattle.ps_machine.proofs.AutomatonGames.GameKeys.Getting.{visits_found}
-use Rattle.ps_machine.proofs.AutomatonGames.GameKeys.Standing.{same_some, slice_get-left}
+use Rattle.ps_machine.proofs.AutomatonGames.GameKeys.Standing.{same_some, no_second}
+use Rattle.ps_diagram.proofs.ClassesOfLetters.Distinct.{at_left}
 
 -- ## The start
-
-no_second : {q p r x : ℕ} → First q p ≡ Second r x → ⊥
-no_second e = cc
 
 -- only the first key is in the list
 only_first : (key other : Key) → Contains (key ∷ []) other → key ≡ other
@@ -74,7 +72,7 @@ stood_before : (keys added : List Key) (u : ℕ) {key : Key} → u < length keys
     StandsAt keys u key
 stood_before keys added u {key} within at =
     let old = slice_get-get_or keys u key within in
-    old ∙ sym (slice_get-left keys added u old) ∙ at
+    old ∙ sym (at_left keys added u old) ∙ at
 
 module _ {Divided : ℕ → ℕ → List ℕ → Type 0} {order : Order} {a : AutomatonData} {old : Exploration} {v : ℕ}
     {key : Key} (e : IsExploring Divided order a old v) (at : StandsAt old.numbers.keys.items v key) where

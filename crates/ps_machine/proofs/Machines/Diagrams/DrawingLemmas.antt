@@ -18,6 +18,7 @@ use Rattle.ps_certificate.specs.Certificates.{CertificateData, IsClosed, winner_
 use Rattle.ps_certificate.proofs.FlawsAndValidity.Keeping.{path_stays}
 use Rattle.ps_diagram.specs.Table.{Table, Keeps, leaf_of}
 use Rattle.ps_diagram.proofs.NodeTables.KnownLemmas.{some_nat}
+use Rattle.ps_diagram.proofs.ClassesOfLetters.Distinct.{at_left}
 use Rattle.ps_automaton.specs.Automata.{AutomatonData}
 use Rattle.ps_machine.specs.Boards.{IsListOf, Board, IsClassLetter, IsMove, LeadsTo}
 use Rattle.ps_machine.specs.BuiltBoards.{board_of}
@@ -33,7 +34,7 @@ use Rattle.ps_machine.proofs.AutomatonGames.Movers.{small_mover}
 use Rattle.ps_machine.specs.declared.machine.Row.{Row}
 use Rattle.ps_machine.proofs.AutomatonGames.BoardSteps.{some_of}
 use Rattle.ps_machine.proofs.Lassos.Rounds.{Setting, one_place, within_game, map_contains}
-use Rattle.ps_machine.proofs.AutomatonGames.GameKeys.Standing.{same_some, slice_get-left, zip_at, zip_vertex}
+use Rattle.ps_machine.proofs.AutomatonGames.GameKeys.Standing.{same_some, zip_at, zip_vertex}
 
 -- ## Memory states
 
@@ -221,7 +222,7 @@ by_case P b old more h k = search rules
 -- inserting a row into the machine's list of rows does not change the index of any old row
 pub keeps_rows : (eq : Row → Row → Bool) {old : List Row} (row : Row) {new : List Row} → new ≡ insert_key eq old row →
     KeepsRows old new
-keeps_rows eq {old} row e = search (rules, by_case, slice_get-left)
+keeps_rows eq {old} row e = search (rules, by_case, at_left)
 
 pub all_rows : (P : Row → Type 0) (eq : Row → Row → Bool) (old : List Row) (row : Row) {new : List Row} →
     new ≡ insert_key eq old row → All P old → P row → All P new

@@ -35,6 +35,7 @@ use Rattle.ps_machine.proofs.Machines.Diagrams.DrawingLemmas.{all_rows}
 use Rattle.ps_machine.proofs.Machines.Diagrams.DrawingLemmas.{move_at, class_at, to_pair_of, used_more}
 use Rattle.ps_machine.proofs.Lassos.Rounds.{within_game, first_owner, second_owner}
 use Rattle.ps_machine.proofs.Machines.Diagrams.ClassRests.{Heeds, Left}
+use Rattle.ps_machine.proofs.AutomatonGames.GameKeys.Standing.{class_letter}
 
 -- ## Rows whose indices are recorded
 
@@ -66,9 +67,6 @@ module _ {a : AutomatonData} {keys : List Key} {is_first : Bool} {board : Board}
   note_more h is at plays next noted others = search (rules, cases_eq, noted)
 
 -- ## The move of a player who moves first
-
-same_letter : {q r x y : ℕ} → Second q x ≡ Second r y → x ≡ y
-same_letter e = cc
 
 module _ {order : Order} {a : AutomatonData} {keys : List Key} {game : ParityGame} {certificate : CertificateData}
     {is_first : Bool} {kept anchors : List ℕ} (plan : IsPlan order a keys game certificate is_first kept anchors)
@@ -120,7 +118,7 @@ module _ {order : Order} {a : AutomatonData} {keys : List Key} {game : ParityGam
         get_or keys chosen (First 0 0) ≡ Second r letter → (q p : ℕ) → StandsAt keys v (First q p) →
         PlaysClass (board_of order a) keys certificate v q letter
     plays_class v chosen r letter is_kept choice is q p at =
-        search (rules, class_chosen, same_letter, get_or_from_slice_get)
+        search (rules, class_chosen, class_letter, get_or_from_slice_get)
 
     -- after the letter that the machine outputs, each possible step of the automaton leads to a reachable vertex
     pub entered : {mask : ℕ} {t : Table} {v q p letter rest : ℕ} {found : List (ℕ × ℕ)} → Contains kept v →

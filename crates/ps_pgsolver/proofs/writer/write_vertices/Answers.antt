@@ -2,8 +2,9 @@ use Rattle.std.proofs.Common.{arith, sym, ◌≡◌, ◌<◌, ◌∙◌, length,
 use Rattle.std.proofs.lemmas.List.Elements.{All-more}
 use Rattle.ps_game.specs.Games.{VertexData, vertex_count, priority_of, no_vertex}
 use Rattle.ps_pgsolver.specs.Written.{IsWord}
-use Rattle.ps_pgsolver.proofs.WriterLemmas.{all_taken_all, lines_step, lines_end}
+use Rattle.ps_pgsolver.proofs.WriterLemmas.{lines_step, lines_end}
 use Rattle.ps_pgsolver.proofs.writer.write_vertices.Goals as goal
+use Rattle.ps_text.proofs.Combinators.Splits.{all_taken_all}
 
 pub loop-vertex-preserved : goal.loop-vertex-preserved
 unfolding vertex_count priority_of

@@ -4,10 +4,11 @@ use Rattle.std.proofs.lemmas.List.{length-map}
 use Rattle.ps_hoa.specs.Memory.{bytes_of}
 use Rattle.ps_simulate.proofs.NamingLemmas.{nameless, unknown, symbol_at}
 use Rattle.ps_product.specs.Inner.Roles.{IsListing}
-use Rattle.ps_product.proofs.CircuitFunctions.RoleLemmas.{contained, listing_push, missing, twice}
+use Rattle.ps_product.proofs.CircuitFunctions.RoleLemmas.{listing_push, missing, twice}
 use Rattle.ps_product.proofs.roles.propositions_of.Goals as goal
 use Rattle.ps_product.proofs.roles.propositions_of.Goals.{in_default-proposition_of-via-in-Some-proposition_of+else-not-is_in_list}
 use Rattle.ps_product.proofs.roles.propositions_of.Goals.{in_default-proposition_of-via-in_default-proposition_of}
+use Rattle.ps_machine.proofs.Machines.Listing.{among_there}
 
 pub returns-in_default-clause-none : goal.returns-in_default-clause-none
 returns-in_default-clause-none c = nameless (map bytes_of c.args.names.now) c.args.controllable.now c.args.wanted
@@ -57,5 +58,5 @@ returns-then-not-is_full-clause-none c =
 pub returns-clause-full : goal.returns-clause-full
 returns-clause-full c = λ p lt sides.
     let size = length-map c.args.names.now bytes_of in
-    contained p _ (rw c.deref-2.ensures.value at
+    among_there p _ (rw c.deref-2.ensures.value at
     (c.is_full.ensures.full c.if-not-is_full.false p (omega (arith, lt, size)) sides))

@@ -1,16 +1,6 @@
-use Rattle.std.proofs.Common.{ℕ, List}
-use Rattle.ps_circuit.specs.CauseNames as circuit_names
-use Rattle.ps_circuit.specs.Causes as circuit
-use Rattle.ps_circuit.specs.Texts as circuit_text
-use Rattle.ps_program.specs.Texts.{ReadsCircuitText}
-use Rattle.ps_program.proofs.AtMostOne.OneStage.{OneCircuit, automaton_one}
-use Rattle.ps_program.proofs.AtMostOne.OneStep.{IsOne, reading_one}
+use Rattle.ps_program.proofs.AtMostOne.OneStage.{automaton_one, circuit_one}
 use Rattle.ps_program.proofs.Exchanged.VerifiedCircuits.{circuits_verified}
 use Rattle.ps_program.proofs.laws.circuits_are_verified.Goals as goal
-
-circuit_one : OneCircuit → (text : List ℕ) → IsOne (ReadsCircuitText text)
-circuit_one circuits text =
-    reading_one circuit.cause_number circuit_names.cause_name (circuit_text.ReadsCircuit text) (circuits text)
 
 pub returns : goal.returns
 returns g c = circuits_verified

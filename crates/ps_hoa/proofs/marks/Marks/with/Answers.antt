@@ -1,18 +1,11 @@
-use Rattle.std.proofs.Common.{◌≡◌, ℕ, cond, List, [], ◌∷◌, ◌++◌, refl, sym, ap, ◌∙◌, Bool, arith}
+use Rattle.std.proofs.Common.{◌≡◌, ℕ, cond, List, [], ◌∷◌, ◌++◌, sym, ap, ◌∙◌, Bool, arith}
 use Rattle.std.specs.List.{list_any}
 use Rattle.std.proofs.Math.Dec.{eqb}
-use Rattle.ps_hoa.specs.Files.{is_among, once}
+use Rattle.ps_hoa.specs.Files.{once}
 use Rattle.ps_hoa.specs.Marks.{mark_list}
-use Rattle.ps_hoa.proofs.Soundness.NameSets.{or_cond}
+use Rattle.ps_hoa.proofs.Soundness.NameSets.{among}
 use Rattle.ps_hoa.proofs.marks.Marks.with.Goals as goal
 use Rattle.ps_hoa.proofs.marks.Marks.with.Goals.{After-contains}
-
-swapped : (n m : ℕ) → eqb m n ≡ eqb n m
-swapped n m = grind arith
-
-among : (n : ℕ) (ms : List ℕ) → list_any (λ m. eqb m n) ms ≡ is_among n ms
-among n [] = refl
-among n (m ∷ ms) = rw (swapped n m, among n ms) (or_cond (eqb n m) (is_among n ms))
 
 -- if the code's test of whether a number is in a list has the result b, the list is extended unless b is true
 once_is : (ms : List ℕ) (n : ℕ) {b : Bool} → list_any (λ m. eqb m n) ms ≡ b → cond b ms (ms ++ n ∷ []) ≡ once ms n

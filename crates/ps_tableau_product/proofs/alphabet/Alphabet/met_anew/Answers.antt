@@ -4,8 +4,8 @@ use Rattle.ps_diagram.specs.Leaves.{chosen}
 use Rattle.ps_diagram.specs.Table.{IsNode, Table, leaf_of}
 use Rattle.ps_diagram.proofs.NodeTables.Cells.{keeps_refl}
 use Rattle.ps_diagram.proofs.NodeTables.KnownLemmas.{keeps_trans, keeps_three}
+use Rattle.ps_diagram.proofs.TreeOperations.Truths.{leaf_kept}
 use Rattle.ps_product.proofs.CircuitFunctions.GroupLemmas.{ok_map}
-use Rattle.ps_product.proofs.CircuitFunctions.TruthLemmas.{leaf_kept}
 use Rattle.ps_tableau_product.specs.Inner.Composing.{AreComposed}
 use Rattle.ps_tableau_product.specs.Joints.{read_by}
 use Rattle.ps_tableau_product.proofs.FairProducts.AddLemmas.{on_any}

@@ -2,10 +2,11 @@ use Rattle.std.proofs.Common.{◌≡◌, [], List, subst}
 use Rattle.ps_product.specs.Numbers.{IsNumberOf}
 use Rattle.ps_product.specs.Products.{ProductVertex}
 use Rattle.ps_product.specs.Vertices.{product_vertex}
+use Rattle.ps_product.proofs.ExploredProducts.ExploringLemmas.{only_first}
 use Rattle.ps_tableau.proofs.BoardLemmas.{grows_refl}
 use Rattle.ps_tableau_product.specs.Inner.Exploring.{first_of}
 use Rattle.ps_tableau_product.specs.Plans.{scene_of}
-use Rattle.ps_tableau_product.proofs.FairProducts.DraftLemmas.{draft_first, only_first}
+use Rattle.ps_tableau_product.proofs.FairProducts.DraftLemmas.{draft_first}
 use Rattle.ps_tableau_product.proofs.exploring.Draft.start.Goals as goal
 
 pub returns : goal.returns

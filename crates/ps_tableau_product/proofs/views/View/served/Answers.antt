@@ -4,9 +4,9 @@ use Rattle.ps_diagram.specs.Leaves.{chosen}
 use Rattle.ps_diagram.specs.Table.{leaf_of}
 use Rattle.ps_diagram.proofs.TreeOperations.Composing.{bits_before}
 use Rattle.ps_diagram.proofs.NodeTables.KnownLemmas.{keeps_trans}
+use Rattle.ps_diagram.proofs.TreeOperations.Truths.{leaf_kept}
 use Rattle.ps_label.specs.Truth.{is_in}
 use Rattle.ps_product.proofs.CircuitFunctions.GroupLemmas.{ok_map}
-use Rattle.ps_product.proofs.CircuitFunctions.TruthLemmas.{leaf_kept}
 use Rattle.ps_tableau_product.proofs.FairProducts.StepLemmas.{are_served}
 use Rattle.ps_tableau_product.proofs.TableauStates.ViewLemmas.{tell_kept}
 use Rattle.ps_tableau_product.proofs.views.View.served.Goals as goal
