@@ -19,11 +19,10 @@ FAMILIES = {
     "the same property of bytes and numbers": "AreRising BeginsWithZero IsByteRun IsDigit IsWord StopsBefore bytes_of is_among is_digit place_in",
     "the same property of two types of faults": "IsOutOfMemory IsRefusal NamesVertices",
     "the same view of two types": "draft_of moves_of name_bytes names_of with_move",
-    "bytes, tokens and steps of the lexer of HOA texts, and of that of specifications": "class_of class_step comment_by comment_len goes_on "
-    "head_or_zero is_between is_inner is_unquoted lex_behind nesting_limit one_more scan_step text_step with_name word_sign",
+    "bytes, tokens and steps of the lexer of HOA texts, and of that of specifications": "class_of class_step comment_by goes_on "
+    "lex_behind nesting_limit scan_step text_step with_name word_sign",
     "the steps of the parser of specifications, and steps of another kind elsewhere": "counted ended fresh is_end joined moved number_of "
     "parts_of run tail_of value_of with_formula",
-    "the word of a lasso, which automata and formulas read": "Repeats lasso_word",
     "what formulas, tableaux and fair cycles have of their own, as games and automata do": "AreDistinct Fits IsAnswer IsRun Keeps Leads",
     "what products have of words of latches, and of groups of letters": "AreDifferent AreOnce IsRead IsWhole",
     "letters over a mask, and formulas over propositions; what stands behind a letter, and in a text": "IsBehind IsOver",
@@ -62,7 +61,7 @@ SAME_LEMMA_FILES = {
     "NameLemmas.antt": "ps_hoa ps_tlsf: texts compared; the number of a declared name",
     "Placing.antt": "ps_attractor ps_tlsf: one more vertex; the formulas of the sections in a table",
     "Rounds.antt": "ps_machine ps_tableau: a step is two moves; rounds of a fair run",
-    "Scanning.antt": "ps_hoa ps_tlsf: moving forward in the texts of each format",
+    "Scanning.antt": "ps_hoa ps_tlsf: from token to token in the texts of each format",
     "Sound.antt": "ps_pgsolver ps_tableau: successors that are known; soundness of tableaux",
     "Tables.antt": "ps_formula ps_label: tables of nodes; tables of aliases",
     "Ways.antt": "ps_components ps_tableau: paths joined; covers made from covers",
