@@ -39,6 +39,7 @@ use Rattle.ps_program.specs.declared.commands.SynthLine.{SynthLine}
 use Rattle.ps_program.proofs.AtMostOne.Agreeing.{OneFile, OneFileGame}
 use Rattle.ps_program.proofs.ByCommand.AutomatonLemmas.{no_line, text_refused}
 use Rattle.ps_program.proofs.AtMostOne.OneStep.{IsOne, ok_of, ok_is_not_err, then_one, reading_one}
+use Rattle.ps_program.specs.Texts.{ReadsCircuitText}
 
 -- ---- the laws of the parsers
 
