@@ -267,7 +267,11 @@ class Together(unittest.TestCase):
         answers = ["error: `ps_a` has no function `g`", "fn f: no proof: `search` did not prove `returns`\n"]
         found, checked = self.refused(answers, ("a", {"f"}), ("b", {"g"}))
         self.assertEqual((found, checked), (["a"], [["a", "b"], ["a"]]))
-        self.assertEqual(self.refused(["", ""], ("a", {"f"}), ("b", {"g"})), ([], [["a", "b"]]))
+
+    def test_one_that_does_not_compile_is_found_by_halves(self):
+        f, g, h = (f"fn {it}: no proof: `search` did not prove `returns`\n" for it in "fgh")
+        found, checked = self.refused(["", f, "", g + h], ("a", {"f"}), ("b", {"e"}), ("c", {"g"}), ("d", {"h"}))
+        self.assertEqual((found, checked), (["a", "c", "d"], [["a", "b", "c", "d"], ["a", "b"], ["b"], ["c", "d"]]))
 
     def test_files_are_as_before_after_a_check(self):
         with tempfile.TemporaryDirectory() as crate:

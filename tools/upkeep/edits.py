@@ -2,7 +2,8 @@
 check of several of them together, which takes little longer than that of one.
 
 In such a check, a function that is not proved only because it calls one that is not proved says nothing about its own
-edit, nor does a proof file that names what an edit deleted. Such an edit is tried in a later check, or alone.
+edit, nor does a proof file that names what an edit deleted. Such an edit is tried in a later check, or alone. A check
+does not reach the prover if one of its edits does not compile; then half of them are tried at a time.
 """
 import dataclasses
 import glob
@@ -173,5 +174,15 @@ def refused(crate, edits):
         unknown, functions = set(UNKNOWN.findall(printed)), failing(printed)
         done = [edit for edit in tried if is_refused(edit, functions)]
         yield from (edit.name for edit in done)
+        if not printed:
+            yield from refused_apart(crate, tried)
         given_up = [edit for edit in tried if edit.functions & unknown] or tried
         left = [edit for edit in left if edit not in (done or given_up)]
+
+
+def refused_apart(crate, edits):
+    """The same for edits of which one may not compile, so that their check said nothing: half of them at a time."""
+    half = len(edits) // 2
+    if half:
+        yield from refused(crate, edits[:half])
+        yield from refused(crate, edits[half:])
