@@ -15,7 +15,7 @@
 //! | `Circuit::in_order(parts)` | a circuit of parts in which each gate comes after those that it reads |
 //! | `Circuit::inputs`, `latches`, `outputs`, `gates` | its parts |
 //! | `Circuit::order` | an order in which the gates can be evaluated |
-//! | `gate_variables(gates)`, `links_to(gates, variables)`, `GateGraph` | gates as a graph, with edges to those that each reads |
+//! | `gate_variables(gates)`, `links_to`, `GateGraph` | gates as a graph, with edges to those that each reads |
 //! | `Circuit::input_name`, `latch_name`, `output_name` | the name of one of these, if it has one |
 //! | `Circuit::parts_fit` | a fact: no variable is defined twice, and no gate depends on itself |
 //! | `EncodeFault::number`, `name`, `AigCause::number`, `name` | the number and name of a fault or cause |

@@ -76,7 +76,8 @@ module _ (c : CircuitData) (is : IsCircuit c) (links : List Links)
     place_own : (o k : ℕ) → place_in variables (variable o) ≡ Some k →
         (g : Gate) × (slice_get (readers c) k ≡ Some g) × (variable g.literal ≡ variable o)
     place_own o k e =
-        (are_places (readers c) (readers_once is)).back (variable o) k (ap (λ (vs : List ℕ). place_in vs (variable o)) (sym same) ∙ e)
+        (are_places (readers c) (readers_once is)).back (variable o) k
+        (ap (λ (vs : List ℕ). place_in vs (variable o)) (sym same) ∙ e)
 
     marked : (i : ℕ) (g : Gate) → slice_get (readers c) i ≡ Some g → slice_get needed i ≡ Some true →
         IsNeededVariable c (variable g.literal)
@@ -100,7 +101,8 @@ module _ (c : CircuitData) (is : IsCircuit c) (links : List Links)
         variable g.literal ≡ variable output → slice_get needed i ≡ Some true
     rooted output i g there at e =
         let place : place_in variables (variable output) ≡ Some i = ap (place_in variables) (sym e)
-        ∙ ap (λ (vs : List ℕ). place_in vs (variable g.literal)) same ∙ (are_places (readers c) (readers_once is)).forth i g at
+        ∙ ap (λ (vs : List ℕ). place_in vs (variable g.literal)) same
+        ∙ (are_places (readers c) (readers_once is)).forth i g at
         in
         let root = chosen_there (λ o. place_in variables (variable o)) c.outputs there.0 output i
         (slot_of c.outputs output there) place in

@@ -51,8 +51,8 @@ along t w tableau decided start (suc i) =
     (step t w tableau decided i (along t w tableau decided start i))
 
 -- an until that is postponed holds at the next index, so its end comes, and there it is not postponed
-pub is_free : (w : ℕ → ℕ) (run : ℕ → Cover) → IsDecidedWord w → ((i : ℕ) → Fits (run i) w i) → (f : NormalFormula) (i : ℕ) →
-    (j : ℕ) × (i ≤ j) × ¬ Contains (run j).postponed f
+pub is_free : (w : ℕ → ℕ) (run : ℕ → Cover) → IsDecidedWord w → ((i : ℕ) → Fits (run i) w i) → (f : NormalFormula)
+    (i : ℕ) → (j : ℕ) × (i ≤ j) × ¬ Contains (run j).postponed f
 is_free w run decided fits (reaches f g) i = elim (decided.each (plain (reaches f g)) (i + 1)) [
   | inl holds ↦ (
     holds.end,

@@ -1,7 +1,7 @@
 -- Runs of bytes that pass a test.
 -- - `AllOf p bytes`: each byte passes p
 -- - `StopsBefore p rest`: the first byte of `rest`, if there is one, does not pass p
--- - `IsRun p bytes count`: exactly the first `count` bytes come before the first that does not pass p, or before the end
+-- - `IsRun p bytes count`: exactly `count` bytes come before the first that does not pass p, or before the end
 use Rattle.std.specs.Prelude.{◌≡◌, ℕ, ◌≤◌, Bool, true, false, List, [], ◌∷◌, length}
 use Rattle.std.specs.List.{AllByRecursion, prefix_len}
 

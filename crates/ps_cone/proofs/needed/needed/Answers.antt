@@ -34,7 +34,8 @@ pub reached-requires : goal.reached-requires
 reached-requires c =
     let at = (goal.at.reached-requires c).In_ok-links in
     rw c.deref-3.ensures.value
-    (roots_within c.args.circuit.now c.outputs-outputs.ensures.well_formed c.in_ok-links.links.items (links at) (same at) (roots at))
+    (roots_within c.args.circuit.now c.outputs-outputs.ensures.well_formed c.in_ok-links.links.items (links at)
+    (same at) (roots at))
 
 pub returns : goal.returns
 returns c =
