@@ -270,7 +270,7 @@ class Together(unittest.TestCase):
 
     def test_one_that_does_not_compile_is_found_by_halves(self):
         f, g, h = (f"fn {it}: no proof: `search` did not prove `returns`\n" for it in "fgh")
-        found, checked = self.refused(["", f, "", g + h], ("a", {"f"}), ("b", {"e"}), ("c", {"g"}), ("d", {"h"}))
+        found, checked = self.refused(["src/a.rt:1:1: error[name]: no `e`\n", f, "", g + h], ("a", {"f"}), ("b", {"e"}), ("c", {"g"}), ("d", {"h"}))
         self.assertEqual((found, checked), (["a", "c", "d"], [["a", "b", "c", "d"], ["a", "b"], ["b"], ["c", "d"]]))
 
     def test_files_are_as_before_after_a_check(self):

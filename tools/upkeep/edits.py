@@ -3,7 +3,8 @@ check of several of them together, which takes little longer than that of one.
 
 In such a check, a function that is not proved only because it calls one that is not proved says nothing about its own
 edit, nor does a proof file that names what an edit deleted. Such an edit is tried in a later check, or alone. A check
-does not reach the prover if one of its edits does not compile; then half of them are tried at a time.
+gives no verdict on any function if one of its edits does not compile, or if it is killed; then half of them are tried
+at a time.
 """
 import dataclasses
 import glob
@@ -16,6 +17,7 @@ from upkeep import calls
 # The most edits of one check.
 MOST = 8
 SAID = re.compile(r"^fn (\S+): (?!proved)(.*)", re.M)
+VERDICT = re.compile(r"^fn \S+: ", re.M)
 UNKNOWN = re.compile(r"has no function `([^`]+)`")
 # What `rt must-fail` takes for a complaint about a name alone.
 NAMES = re.compile(r"has no field|is not in scope|has no `|was not admitted")
@@ -174,14 +176,14 @@ def refused(crate, edits):
         unknown, functions = set(UNKNOWN.findall(printed)), failing(printed)
         done = [edit for edit in tried if is_refused(edit, functions)]
         yield from (edit.name for edit in done)
-        if not printed:
+        if not unknown and not VERDICT.search(printed):
             yield from refused_apart(crate, tried)
         given_up = [edit for edit in tried if edit.functions & unknown] or tried
         left = [edit for edit in left if edit not in (done or given_up)]
 
 
 def refused_apart(crate, edits):
-    """The same for edits of which one may not compile, so that their check said nothing: half of them at a time."""
+    """The same for edits whose check gave no verdict, perhaps since one does not compile: half of them at a time."""
     half = len(edits) // 2
     if half:
         yield from refused(crate, edits[:half])
