@@ -13,7 +13,6 @@ from upkeep.sweeps import TOP
 
 ALL = ["README.md", "CONTRIBUTING.md", *sorted(os.path.relpath(path, TOP) for path in glob.glob(os.path.join(TOP, "docs", "*.md")))]
 WITH_COMMANDS = ["README.md", "CONTRIBUTING.md", "docs/CERTIFICATES.md", "docs/GALLERY.md", "docs/INTEROP.md", "docs/TUTORIAL.md"]
-LINES = {"README.md": 90, "CONTRIBUTING.md": 200, "docs/TESTED.md": 150}
 WORDS = 35
 OTHERS = "commands of documents that need other programs"
 
@@ -25,10 +24,8 @@ class Forms(unittest.TestCase):
     def test_lines(self):
         long = []
         for name in ALL:
-            lines = documents.read(name)
-            long += [f"{name}:{at}: {len(line)}" for at, line in enumerate(lines, 1) if len(line) > 120 and not line.startswith("|")]
-            if len(lines) - 1 > LINES.get(name, len(lines)):
-                long.append(f"{name}: {len(lines) - 1} lines")
+            lines = enumerate(documents.read(name), 1)
+            long += [f"{name}:{at}: {len(line)}" for at, line in lines if len(line) > 120 and not line.startswith("|")]
         self.found(long)
 
     def test_each_row_of_a_table_has_all_cells(self):
