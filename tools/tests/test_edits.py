@@ -37,12 +37,9 @@ NAMED = (
     "mark_missing",
     "minimum_read_as_maximum",
     "missing_letters_dropped",
-    "half_agreed",
-    "negation_missing",
     "no_moves_given",
     "one_successor_tested",
     "overlap_accepted",
-    "postponed_dropped",
     "printed_unjudged",
     "raises_not_counted",
     "region_too_small",
@@ -51,7 +48,7 @@ NAMED = (
     "unknown_names_skipped",
     "wrong_polarity_or_reset",
 )
-MOST_CRATES = 15
+MOST_CRATES = 13
 VERDICTS = {"refused", "refused by a name", "to be tried"}
 
 
