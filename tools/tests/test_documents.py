@@ -130,6 +130,8 @@ class Names(unittest.TestCase):
         crates = {path.split(os.sep)[-3] for path in edits}
         self.assertIn(f"{len(edits)} edits in {len(crates)} crates", told["docs/TESTED.md"])
         self.assertIn(f"{len(edits)} in {len(crates)} crates", told["CONTRIBUTING.md"])
+        others = glob.glob(os.path.join(TOP, "crates", "*", "more-edits", "*.edit"))
+        self.assertIn(f"the {len(others)} in `crates/NAME/more-edits`", told["docs/TESTED.md"])
 
     def test_the_toolchain_has_the_logic_that_the_documents_name(self):
         """The documents name the logic of the installed toolchain (kit), by the hash that `rt version` prints. The

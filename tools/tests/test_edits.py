@@ -3,7 +3,7 @@ its crate, and is in the right folder.
 
 The gate tries the edits in crates/*/must-fail, which are the wrong bodies listed in NAMED. Edits that the gate does not
 try are in crates/*/more-edits. Each of these has a row in tools/upkeep/EDITS.tsv, in which `tools/try-edits` records the
-verdict.
+verdict. Whether a row is stale is for `tools/release` to ask.
 """
 import glob
 import importlib.machinery
@@ -49,7 +49,7 @@ NAMED = (
     "wrong_polarity_or_reset",
 )
 MOST_CRATES = 13
-VERDICTS = {"refused", "refused by a name", "to be tried"}
+VERDICTS = {"refused", "refused by a name"}
 
 
 def edits_in(folder):
@@ -110,20 +110,19 @@ class Edits(unittest.TestCase):
         self.assertLessEqual(len({crate for crate, _ in tried}), MOST_CRATES)
 
     def test_each_other_one_has_one_row(self):
-        with open(os.path.join(TOP, "tools", "upkeep", "EDITS.tsv"), encoding="utf-8") as file:
-            head, *rows = (line.split("\t") for line in file.read().splitlines())
-        self.assertEqual(head, ["crate", "edit", "commit", "verdict"])
+        head, *rows = edits.read(edits.TABLE).splitlines()
+        self.assertEqual(head, edits.HEAD)
+        rows = [row.split("\t") for row in rows]
         self.assertEqual([tuple(row[:2]) for row in rows], sorted(edits_in("more-edits")))
         self.assertLessEqual({row[3] for row in rows}, VERDICTS)
-        self.assertEqual([row[:2] for row in rows if (row[2] == "-") != (row[3] == "to be tried")], [])
+        self.assertEqual([row for row in rows if len(row) != 5 or len(row[4]) != edits.DIGITS], [])
 
     def test_each_commit_is_in_the_history(self):
         """Tests that the table of verdicts names no commit that was replaced, as by a cherry-pick."""
         asked = {"cwd": TOP, "capture_output": True, "text": True}
         if subprocess.run(["git", "rev-parse", "--is-shallow-repository"], **asked).stdout.strip() != "false":
             self.skipTest("the whole history is not here")
-        with open(os.path.join(TOP, "tools", "upkeep", "EDITS.tsv"), encoding="utf-8") as file:
-            names = {line.split("\t")[2].rstrip("+") for line in file.read().splitlines()[1:]} - {"-"}
+        names = {row[2].rstrip("+") for row in edits.rows().values()}
         history = subprocess.run(["git", "rev-list", "HEAD"], **asked).stdout.split()
         self.assertEqual([name for name in sorted(names) if not any(it.startswith(name) for it in history)], [])
 
@@ -139,12 +138,32 @@ class Edits(unittest.TestCase):
 
 
 class Table(unittest.TestCase):
-    """Tests how `tools/try-edits` reads the output of `rt must-fail` and records verdicts."""
+    """Tests how `tools/try-edits` reads the output of `rt must-fail`, records verdicts, and finds stale ones."""
 
     def setUp(self):
         loader = importlib.machinery.SourceFileLoader("try_edits", os.path.join(TOOLS, "try-edits"))
         self.tool = importlib.util.module_from_spec(importlib.util.spec_from_loader(loader.name, loader))
         loader.exec_module(self.tool)
+        room = tempfile.TemporaryDirectory()
+        self.addCleanup(room.cleanup)
+        self.room, self.table = room.name, os.path.join(room.name, "EDITS.tsv")
+        self.write("ps_a/more-edits/one.edit", "file: src/lib.rt\nold: 1\nnew: 2\n")
+        self.write("ps_a/src/lib.rt", "ghost use Rattle.ps_b.specs.Cells.Rows.{row};\nghost use Rattle.std.specs.Prelude.{List};\n1\n")
+        self.write("ps_b/specs/Cells/Rows.antt", "row")
+        self.write("ps_b/specs/Cells.antt", "cell")
+
+    def write(self, name, text):
+        path = os.path.join(self.room, "crates", name)
+        os.makedirs(os.path.dirname(path), exist_ok=True)
+        with open(path, "w", encoding="utf-8") as file:
+            file.write(text)
+
+    def is_stale(self):
+        return edits.stale(self.room, self.table) == [("ps_a", "one")]
+
+    def record(self):
+        found = edits.paths(self.room)
+        edits.store({key: ("c0", "refused", edits.hash_of(key, path, self.room)) for key, path in found.items()}, self.room, self.table)
 
     def test_verdicts(self):
         names = "refused, as it must be (only because a proof file names what the edit took away): ./proofs/A.antt"
@@ -153,139 +172,45 @@ class Table(unittest.TestCase):
 
     def test_a_copy_that_fails_is_one_line(self):
         for error in (shutil.Error([("a", "b", "[Errno 28] No space left on device"), ("c", "d", "more")]), OSError(28, "No space left on device")):
-            with mock.patch.object(self.tool, "copy_to", side_effect=error), self.assertRaises(SystemExit) as stopped:
-                self.tool.copy_or_stop("room", "more-edits", {})
+            with mock.patch.object(self.tool.shutil, "copytree", side_effect=error), self.assertRaises(SystemExit) as stopped:
+                self.tool.copy_to("room", [], {})
             self.assertEqual(stopped.exception.code, "try-edits: the repository can't be copied: [Errno 28] No space left on device")
 
-    def test_rows(self):
-        with tempfile.TemporaryDirectory() as folder:
-            path = os.path.join(folder, "EDITS.tsv")
-            with mock.patch.object(self.tool, "TABLE", path), mock.patch.object(self.tool, "edits_in", return_value={"b": ["y", "x"], "a": ["z"]}):
-                self.tool.store({("b", "y"): "refused", ("b", "gone"): "refused"}, "c0")
-                self.tool.store({("a", "z"): "bad"}, "c1")
-            with open(path, encoding="utf-8") as file:
-                rows = file.read().splitlines()[1:]
-        self.assertEqual(rows, ["a\tz\tc1\tbad", "b\tx\t-\tto be tried", "b\ty\tc0\trefused"])
+    def test_words_choose_edits(self):
+        there = {("ps_a", "one"): "", ("ps_a", "two"): "", ("ps_b", "one"): ""}
+        self.assertEqual(self.tool.chosen([], there), list(there))
+        self.assertEqual(self.tool.chosen(["ps_b", "ps_a/two"], there), [("ps_a", "two"), ("ps_b", "one")])
+        with self.assertRaises(SystemExit) as stopped:
+            self.tool.chosen(["ps_b/two"], there)
+        self.assertEqual(stopped.exception.code, "there is no edit ps_b/two: crates with edits are ps_a, ps_b")
 
-    def test_a_verdict_is_older_than_a_file_with_other_code(self):
-        before = "use a::b;\n//! Says what.\nfn one() -> u8 {\n    1 // the first\n}\n"
-        self.assertEqual(edits.code_lines(before), ["fn one() -> u8 {", "1", "}"])
-        for after, is_older in ((before.replace("what", "more"), False), (before.replace("a::b", "b::c"), False), (before.replace("1 /", "2 /"), True)):
-            with tempfile.TemporaryDirectory() as top:
-                for path, text in (("src/lib.rt", after), ("more-edits/two.edit", "file: src/lib.rt\nold: 1\nnew: 2\n")):
-                    os.makedirs(os.path.dirname(os.path.join(top, "crates", "ps_a", path)))
-                    with open(os.path.join(top, "crates", "ps_a", path), "w", encoding="utf-8") as file:
-                        file.write(text)
-                then = subprocess.CompletedProcess([], 0, stdout=before)
-                with mock.patch.object(self.tool, "TOP", top), mock.patch.object(self.tool.subprocess, "run", return_value=then):
-                    self.assertEqual(self.tool.is_older("ps_a", "two", "c0+"), is_older)
+    def test_an_edit_is_stale_if_what_it_stands_on_changed(self):
+        changes = {"ps_a/more-edits/one.edit": True, "ps_a/src/lib.rt": True, "ps_b/specs/Cells/Rows.antt": True, "ps_b/specs/Cells.antt": False}
+        self.assertTrue(self.is_stale())
+        for name, makes_it_stale in changes.items():
+            self.record()
+            self.assertFalse(self.is_stale())
+            self.write(name, edits.read(os.path.join(self.room, "crates", name)) + " ")
+            self.assertEqual(self.is_stale(), makes_it_stale, name)
 
+    def test_rows_of_deleted_edits_go(self):
+        self.write("ps_a/more-edits/two.edit", "file: src/lib.rt\nold: 1\nnew: 3\n")
+        self.record()
+        os.remove(os.path.join(self.room, "crates", "ps_a", "more-edits", "one.edit"))
+        edits.store({("ps_a", "two"): ("c1", "bad", "0")}, self.room, self.table)
+        self.assertEqual(edits.read(self.table), edits.HEAD + "\nps_a\ttwo\tc1\tbad\t0\n")
 
-CODE = """
-/// How many.
-const MOST: usize = 3;
-
-impl<'a, W: Width> From<Fault> for Links<'a, W> {
-    fn from(fault: Fault) -> Self { made(fault.at) }
-}
-
-impl Cell {
-    pub(crate) fn value(&self) -> u8
-        ensures { result ≡ 'a' }
-    {
-        self.value
-    }
-}
-
-fn free() -> u8 {
-    Some(1).map(|it| it + 1)
-}
-"""
-
-PRINTED = """
-./proofs/cells/Cell/value/Answers.antt:4:26: error: `returns`: `grind` found no proof
-./proofs/cells/named/Answers.antt:4:26: error: `returns`: record `Lts.After-refusal` has no field `comes`
-./proofs/cells/fn/free/map+FnOnce/call_once/Answers.antt:3:1: error: `returns`: `search` found no proof
-fn ps_a::cells::Cell::value: not proved; it calls `ps_a::cells::of`, which is not proved
-fn ps_a::cells::of: no proof: expected answers in ./proofs/cells/of/Answers.antt; `search` did not prove `returns`
-fn ps_a::cells::caller: no proof: it calls `ps_a::cells::of`, which is not proved
-fn ps_a::cells::named: not proved
-fn ps_a::cells::fn::free::map+FnOnce::call_once: not proved
-fn ps_a::cells::good: proved
-"""
-
-
-class Together(unittest.TestCase):
-    """Tests how edits of different functions are tried in one check."""
-
-    def test_functions(self):
-        with tempfile.TemporaryDirectory() as made:
-            crate = os.path.join(made, "ps_a")
-            os.makedirs(os.path.join(crate, "src", "inner"))
-            for path, text in (("src/inner/cells.rt", CODE), ("src/types.rt", "pub(crate) struct Cell {\n}\n"), ("src/lib.rt", "fn first() { last() }\n")):
-                with open(os.path.join(crate, path), "w", encoding="utf-8") as file:
-                    file.write(text)
-            wanted = {
-                "fault.at": "ps_a::inner::cells::LinksFromFault::from",
-                "self.value": "ps_a::types::Cell::value",
-                "it + 1": "ps_a::inner::cells::free",
-                "= 3": None,
-                "result ≡": None,
-            }
-            self.assertEqual({old: edits.function_of(crate, "src/inner/cells.rt", old) for old in wanted}, wanted)
-            self.assertEqual(edits.function_of(crate, "src/lib.rt", "last"), "ps_a::first")
-            self.assertIsNone(edits.function_of(crate, "proofs/A.antt", "last"))
-
-    def test_calls_and_names_alone_do_not_count(self):
-        found = edits.failing(PRINTED)
-        self.assertEqual({it.rpartition("::")[2] for it in found}, {"value", "of", "call_once"})
-        self.assertTrue(edits.is_refused(edits.Edit("a", [], frozenset({"ps_a::cells::free"})), found))
-        self.assertFalse(edits.is_refused(edits.Edit("a", [], frozenset({"ps_a::cells::caller"})), found))
-
-    def refused(self, answers, *tried):
-        """The edits that are refused, where each has a function of the crate, and the edits of each check."""
-        checked = []
-
-        def check(_, some):
-            checked.append([edit.name for edit in some])
-            return answers[len(checked) - 1]
-
-        with mock.patch.object(edits, "check", side_effect=check):
-            found = list(edits.refused("ps_a", [edits.Edit(name, [], frozenset(functions)) for name, functions in tried]))
-        return found, checked
-
-    def test_one_that_says_nothing_is_tried_again(self):
-        f, g = (f"fn {it}: no proof: `search` did not prove `returns`\n" for it in "fg")
-        answers = [f + "fn g: no proof: it calls `f`, which is not proved\n", g + f]
-        found, checked = self.refused(answers, ("a", {"f"}), ("b", {"g"}), ("c", {"f"}), ("d", ()))
-        self.assertEqual((found, checked), (["a", "b", "c"], [["a", "b"], ["b", "c"]]))
-
-    def test_one_that_no_check_can_try_is_left(self):
-        answers = ["error: `ps_a` has no function `g`", "fn f: no proof: `search` did not prove `returns`\n"]
-        found, checked = self.refused(answers, ("a", {"f"}), ("b", {"g"}))
-        self.assertEqual((found, checked), (["a"], [["a", "b"], ["a"]]))
-
-    def test_one_that_does_not_compile_is_found_by_halves(self):
-        f, g, h = (f"fn {it}: no proof: `search` did not prove `returns`\n" for it in "fgh")
-        found, checked = self.refused(["src/a.rt:1:1: error[name]: no `e`\n", f, "", g + h], ("a", {"f"}), ("b", {"e"}), ("c", {"g"}), ("d", {"h"}))
-        self.assertEqual((found, checked), (["a", "c", "d"], [["a", "b", "c", "d"], ["a", "b"], ["b"], ["c", "d"]]))
-
-    def test_files_are_as_before_after_a_check(self):
-        with tempfile.TemporaryDirectory() as crate:
-            path = os.path.join(crate, "body")
-            with open(path, "w", encoding="utf-8") as file:
-                file.write("one two")
-            some = [edits.Edit("a", [("body", "one", "1")], frozenset({"f"})), edits.Edit("b", [("body", "two", "2")], frozenset({"g"}))]
-
-            def run(words, **_):
-                with open(path, encoding="utf-8") as file:
-                    return subprocess.CompletedProcess([], 1, stdout=f"{words[4:]} {file.read()}", stderr="")
-
-            with mock.patch.object(edits.subprocess, "run", side_effect=run):
-                self.assertEqual(edits.check(crate, some), "['--only', 'f', '--only', 'g'] 1 2")
-                self.assertEqual(edits.check(crate, [edits.Edit("c", [("body", "o", "0")], frozenset({"f"}))]), "")
-            with open(path, encoding="utf-8") as file:
-                self.assertEqual(file.read(), "one two")
+    def test_each_verdict_is_recorded(self):
+        """Tests the tool with a stand-in for `rt must-fail`, which refuses the edit that is in the copy."""
+        self.write("../bin/rt", "#!/bin/sh\nfor it in crates/$2/must-fail/*; do echo \"rt: must-fail $2/${it##*/}: refused, as it must be: x\"; done\n")
+        os.chmod(os.path.join(self.room, "bin", "rt"), 0o755)
+        there, asked = edits.paths(self.room), {"PATH": os.path.join(self.room, "bin") + os.pathsep + os.environ["PATH"]}
+        kept = mock.patch.object(edits, "store", side_effect=lambda those: told.update(those))
+        told, at = {}, mock.patch.object(self.tool, "commit", return_value="c0")
+        top = mock.patch.object(self.tool, "TOP", self.room)
+        with mock.patch.dict(os.environ, asked), kept, at, top, open(os.devnull, "w", encoding="utf-8") as quiet, mock.patch("sys.stdout", quiet):
+            self.assertEqual(self.tool.tried(list(there), there), 1)
+        self.assertEqual(told, {("ps_a", "one"): ("c0", "refused", edits.hash_of(("ps_a", "one"), there["ps_a", "one"]))})
 
 
 if __name__ == "__main__":

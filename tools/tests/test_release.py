@@ -1,4 +1,6 @@
 """A release archive, unpacked into an empty folder, does what the README shows, and psyn can be installed from it."""
+import importlib.machinery
+import importlib.util
 import io
 import os
 import re
@@ -7,6 +9,7 @@ import sys
 import tarfile
 import tempfile
 import unittest
+from unittest import mock
 
 from psyntool import releases
 from psyntool.program import path as program
@@ -113,6 +116,16 @@ class Gate(unittest.TestCase):
         done = subprocess.run([sys.executable, os.path.join(TOP, "tools", "release"), os.devnull], capture_output=True, text=True, check=False)
         self.assertEqual((done.stdout, done.returncode), ("", 1))
         self.assertRegex(done.stderr, r"\Atools/release: .*\n\Z")
+
+    def test_a_release_with_stale_edits_is_refused(self):
+        loader = importlib.machinery.SourceFileLoader("release", os.path.join(TOP, "tools", "release"))
+        tool = importlib.util.module_from_spec(importlib.util.spec_from_loader(loader.name, loader))
+        loader.exec_module(tool)
+        with tempfile.NamedTemporaryFile("w", encoding="utf-8") as log, mock.patch.object(releases, "of_repository", return_value=RELEASE):
+            log.write(LOG)
+            log.flush()
+            with mock.patch.object(tool.edits, "stale", return_value=[("ps_a", "one")]), self.assertRaisesRegex(tool.Refused, "edits are stale"):
+                tool.checked(log.name)
 
 
 class Version(unittest.TestCase):
