@@ -42,8 +42,14 @@ def told(request, texts, answer):
 
 def checked(request, answer):
     """The exit status with --check, which tells a verdict from the other one."""
-    is_wrong = request.command.name == "judge" and answer.text[len("fault ") :][:2] in WRONG_SOLUTIONS and answer.is_fault
-    return OTHER if is_wrong or answer.bytes.startswith((LOSES, b"rejected ", b"violated ", b"accepts\n", b"rejects\n")) else answer.status
+    is_wrong = (
+        request.command.name == "judge" and answer.text[len("fault ") :][:2] in WRONG_SOLUTIONS and answer.is_fault
+    )
+    return (
+        OTHER
+        if is_wrong or answer.bytes.startswith((LOSES, b"rejected ", b"violated ", b"accepts\n", b"rejects\n"))
+        else answer.status
+    )
 
 
 def is_had(answer):

@@ -35,32 +35,46 @@ CERT = Flag("--cert", "by the certificate that is given, without a solver")
 MOORE = Flag("--moore", "the controller moves first: outputs before inputs")
 COMPACT = Flag("--compact", "the compact text of a certificate")
 ENV = Flag("--env", "the circuit is an environment")
-TLSF = Flag("--tlsf", "a specification in temporal logic (TLSF) in the place of the automaton; a file NAME.tlsf is taken for one without the flag")
+TLSF = Flag(
+    "--tlsf",
+    "a specification in temporal logic (TLSF) in the place of the automaton; "
+    "a file NAME.tlsf is taken for one without the flag",
+)
 OF_THE_PROGRAM = {flag.name: flag for flag in (FULL, CERT, MOORE, COMPACT, ENV, TLSF)}
 TO_FILES = Flag(
     "-o",
-    "circuit, game and certificate go to PREFIX.aag, PREFIX.pg and PREFIX.cert (then the first line alone is printed), the automaton of "
-    "parts or of a specification to PREFIX.hoa, sentences to PREFIX.tlsf",
+    "circuit, game and certificate go to PREFIX.aag, PREFIX.pg and PREFIX.cert (then the first line alone is printed), "
+    "the automaton of parts or of a specification to PREFIX.hoa, sentences to PREFIX.tlsf",
     "PREFIX",
 )
-TO_FILE = Flag("-o", "the automaton of the parts that are listed goes to PREFIX.hoa, or the sentences to PREFIX.tlsf", "PREFIX")
+TO_FILE = Flag(
+    "-o", "the automaton of the parts that are listed goes to PREFIX.hoa, or the sentences to PREFIX.tlsf", "PREFIX"
+)
 FORCE = Flag("--force", "-o and play write over files that psyn has not written, too")
 # Flags for games that another solver solves.
 BY = Flag(
     "--by",
-    "another solver solves the game: the words of a command, where {game} is the file that it reads (else its standard input), and "
-    "{solution} the file that it writes (else its standard output)",
+    "another solver solves the game: the words of a command, where {game} is the file that it reads (else its standard "
+    "input), and {solution} the file that it writes (else its standard output)",
     "COMMAND",
 )
 KEEP = Flag("--keep", "a solution of --by that is wrong goes to FILE", "FILE")
-PICTURE = Flag("--picture", "where a player loses a cycle: the game, the solution and that cycle as Graphviz DOT", "FILE")
+PICTURE = Flag(
+    "--picture", "where a player loses a cycle: the game, the solution and that cycle as Graphviz DOT", "FILE"
+)
 # Flags for specifications in parts.
 ASSUME = Flag("--assume", "parts that are assumed, or sentences, as those of --formula", "PART..", many=True)
 GUARANTEE = Flag("--guarantee", "parts that are guaranteed, or sentences", "PART..", many=True)
-AS = Flag("--as", "the part before it has other names for its propositions; OLD=!NEW negates one", "OLD=NEW..", many=True)
-OUTS = Flag("--outs", "the controller's propositions, where parts or sentences do not say whose theirs are", "NAME..", many=True)
+AS = Flag(
+    "--as", "the part before it has other names for its propositions; OLD=!NEW negates one", "OLD=NEW..", many=True
+)
+OUTS = Flag(
+    "--outs", "the controller's propositions, where parts or sentences do not say whose theirs are", "NAME..", many=True
+)
 STRICT = Flag("--strict", "a guarantee that breaks while no assumption has broken loses at once")
-PARTS = Flag("--parts", "a list of parts, or a specification whose sentences can be parts, in the place of the automaton")
+PARTS = Flag(
+    "--parts", "a list of parts, or a specification whose sentences can be parts, in the place of the automaton"
+)
 OF_PARTS = (ASSUME, GUARANTEE, AS, OUTS, STRICT)
 # Flags for sentences in temporal logic.
 FORMULA = Flag(
@@ -76,7 +90,11 @@ SET = Flag("--set", "a parameter of the specification has this value; one --set 
 TO_TLSF = Flag("-o", "the basic form goes to PREFIX.tlsf", "PREFIX")
 STIMULUS = Flag("--stimulus", "where the circuit loses: the stimulus goes to FILE", "FILE")
 WAVE = Flag("--wave", "where the circuit loses: what it does on the stimulus goes to FILE, as a VCD file", "FILE")
-TRACE = Flag("--trace", "show the run too: the state, the letter by names, and the sets of each step; with --tlsf the sentences that are violated")
+TRACE = Flag(
+    "--trace",
+    "show the run too: the state, the letter by names, and the sets of each step; "
+    "with --tlsf the sentences that are violated",
+)
 NAMES = Flag("--names", "begin with a line that names the latches, inputs and outputs")
 CIRCUIT = Flag("--circuit", "play against any circuit that verify passes, in the place of PREFIX", "FILE")
 ABC = Flag("--abc", "abc makes the circuit smaller first")
@@ -84,7 +102,10 @@ SMALL = Flag("--small", "the circuit is made smaller, as shrink makes it")
 AUTO = Flag("--auto", "play without you, holding out long, and print the steps")
 REACH = Flag("--reach", "only what so many steps from the start reach (of a circuit: from the outputs back)", "N")
 DROP = Flag("--drop", "leave out the input of that name, which nothing may read (as the clock that yosys adds)", "NAME")
-CHECK = Flag("--check", "exit status 3 where the answer is loses, rejected, violated, accepts, rejects, or that the solution is wrong")
+CHECK = Flag(
+    "--check",
+    "exit status 3 where the answer is loses, rejected, violated, accepts, rejects, or that the solution is wrong",
+)
 SEED = Flag("--seed", "another random game for the same number", "N")
 EDGES = Flag("--edges", "so many different edges for each vertex of a random game", "N")
 PRIORITIES = Flag("--priorities", "so many priorities in a random game, from 0 on", "N")
@@ -152,18 +173,30 @@ class Command:
             return self.reads[1:]
         other = next((kinds for name, kinds in self.instead.items() if name in given), None)
         first = tuple(kind for name, kind in self.replaced.items() if name in given)
-        return other or (*first, *self.reads[len(first) :], *(kind for name, kind in self.behind.items() if name in given))
+        return other or (
+            *first, *self.reads[len(first) :], *(kind for name, kind in self.behind.items() if name in given)
+        )
 
     def recognised(self, given, words):
         """The given flags, and the flag for a first file of another kind if the file's name ends as those of this kind
-        do, or if the command line has the sentences of a specification. A command that reads several words, and is given
-        one list, reads that."""
+        do, or if the command line has the sentences of a specification. A command that reads several words, and is
+        given one list, reads that."""
         if has_sentences(given):
             return {**given, **dict.fromkeys(self.replaced, True)}
-        if PARTS.name in self.instead and len(words) == 1 < len(self.reads) and not set(self.instead) & set(given) and words[0].endswith(OF_LISTS):
+        if (
+            PARTS.name in self.instead
+            and len(words) == 1 < len(self.reads)
+            and not set(self.instead) & set(given)
+            and words[0].endswith(OF_LISTS)
+        ):
             return {**given, PARTS.name: True}
         for flag, kind in self.replaced.items():
-            if words and flag not in given and not set(self.instead) & set(given) and words[0].endswith(tuple(f".{ending}" for ending in kind.endings)):
+            if (
+                words
+                and flag not in given
+                and not set(self.instead) & set(given)
+                and words[0].endswith(tuple(f".{ending}" for ending in kind.endings))
+            ):
                 return {**given, flag: True}
         return given
 
@@ -171,7 +204,9 @@ class Command:
         """The words of a usage line for what the command reads, with optional words in brackets."""
         words = [kind.word if isinstance(kind, Kind) else kind for kind in self.kinds(given)]
         is_whole = self.least is None or bool(set(self.replaced) & set(given))
-        least = 0 if set(self.instead) & set(given) and not has_sentences(given) else len(words) if is_whole else self.least
+        least = (
+            0 if set(self.instead) & set(given) and not has_sentences(given) else len(words) if is_whole else self.least
+        )
         return [word if place < least else f"[{word}]" for place, word in enumerate(words)]
 
     @property
@@ -195,7 +230,9 @@ def of_the_program(name, says, **more):
     """A command of the program, with the flags and the texts that the program's own table states."""
     usage = USAGES[name]
     flags = tuple(OF_THE_PROGRAM[flag] for flag in usage.flags)
-    return Command(name, says, usage.texts, flags, behind=usage.added, replaced=usage.replaced, is_of_the_program=True, **more)
+    return Command(
+        name, says, usage.texts, flags, behind=usage.added, replaced=usage.replaced, is_of_the_program=True, **more
+    )
 
 
 def flags_told(commands):
@@ -239,7 +276,9 @@ class Request:
         """Of the flags on the command line, those that the tool hands on to the program. The order of moves of a
         specification stands in its text."""
         left_out = [MOORE.name] if self.has_sentences else []
-        return [name for name in self.given if name in {flag.name for flag in self.command.flags} and name not in left_out]
+        return [
+            name for name in self.given if name in {flag.name for flag in self.command.flags} and name not in left_out
+        ]
 
     @property
     def has_sentences(self):
@@ -270,10 +309,16 @@ class Request:
 
         kinds = self.command.kinds(self.given)
         if self.has(SET) and self.command.replaced and (Kind.SPECIFICATION not in kinds or self.has_sentences):
-            raise Refused(f"{self.command.name} {SET.name} wants a specification, as {TLSF.name} or a name that ends with .tlsf says")
+            raise Refused(
+                f"{self.command.name} {SET.name} wants a specification, "
+                f"as {TLSF.name} or a name that ends with .tlsf says"
+            )
         wrong = next((flag for flag in (INS, OUTS, STRICT, MOORE, ASSUME, GUARANTEE) if self.has(flag)), None)
         if wrong and Kind.SPECIFICATION in kinds and not self.has_sentences:
-            raise Refused(f"{self.command.name} {wrong.name} is for sentences on the command line: a specification says itself what it means")
+            raise Refused(
+                f"{self.command.name} {wrong.name} is for sentences on the command line: "
+                "a specification says itself what it means"
+            )
         texts = Reader(self).texts(kinds, self.words)
         if self.has_sentences:
             from psyntool import specifying
@@ -291,7 +336,9 @@ class Request:
 
 def wrong_kinds(command, texts):
     """A message that names the files of another kind than the command expects, or an empty string if there are none."""
-    said = ", ".join(f"{text.name} is {text.looks_like.with_article}" for text in texts if text.looks_like not in (None, text.kind))
+    said = ", ".join(
+        f"{text.name} is {text.looks_like.with_article}" for text in texts if text.looks_like not in (None, text.kind)
+    )
     if not said:
         return ""
     has_list, takes_list = any(text.looks_like is Kind.LIST for text in texts), PARTS in command.own

@@ -89,7 +89,9 @@ def read_some(most):
     try:
         return os.read(INPUT, most)
     except OSError as error:
-        raise Refused("standard input is closed" if error.errno == errno.EBADF else f"standard input: {error.strerror}") from None
+        raise Refused(
+            "standard input is closed" if error.errno == errno.EBADF else f"standard input: {error.strerror}"
+        ) from None
 
 
 def read(most):

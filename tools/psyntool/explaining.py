@@ -30,7 +30,11 @@ def lines(request, texts, answer):
     if number == READ_FAULT:
         return [*told, f"cause: the files have more than {MOST_BYTES:,} bytes together, the most that psyn reads"]
     if fault and fault.kind and found[4]:
-        told += place_of(fault, next((it for it in texts if it.kind in (fault.kind, SPEAKS_TOO.get(fault.kind))), None), int(found[4]))
+        told += place_of(
+            fault,
+            next((it for it in texts if it.kind in (fault.kind, SPEAKS_TOO.get(fault.kind))), None),
+            int(found[4]),
+        )
     told += seen_in_texts(number, found[5] or "", request, texts)
     told += seen_in_solution(number, found[4], found[5] or "", texts)
     entries = fault.entries if fault else {}
@@ -52,7 +56,13 @@ def seen_in_texts(number, behind, request, texts):
     """Further lines that explain a fault without an offset, if the input texts can be parsed."""
     seen = {17: acceptance_line, 21: clashing_edges, SYMBOLS: wrong_symbols}.get(number)
     kinds = (Kind.AUTOMATON, Kind.SPECIFICATION) if number == SYMBOLS else (Kind.AUTOMATON,)
-    if not seen or texts[0].kind not in kinds or number == SYMBOLS and len(texts) < 2 or any(len(text.bytes) > LONGEST for text in texts):
+    if (
+        not seen
+        or texts[0].kind not in kinds
+        or number == SYMBOLS
+        and len(texts) < 2
+        or any(len(text.bytes) > LONGEST for text in texts)
+    ):
         return []
     try:
         return seen(behind, request, texts)
@@ -106,15 +116,21 @@ def wrong_symbols(_behind, request, texts):
     names, judged = names_of_owners(texts[0]), circuit.read(texts[1].string)
     inputs, outputs = reversed(names) if request.has(ENV) else names
     if not [*differing("inputs", "i", outputs, judged), *differing("outputs", "o", inputs, judged)]:
-        return [f"the symbols are those of {'a controller: ask without' if request.has(ENV) else 'an environment: ask with'} {ENV.name}"]
+        return [
+            "the symbols are those of "
+            f"{'a controller: ask without' if request.has(ENV) else 'an environment: ask with'} {ENV.name}"
+        ]
     others = [name for name in judged.names("i") if name not in (*inputs, *outputs)]
     is_more = others and set(inputs) <= set(judged.names("i"))
-    are_read = [f"the circuit reads {', '.join(others)}, which the {texts[0].kind.title} does not mention"] if is_more else []
+    are_read = (
+        [f"the circuit reads {', '.join(others)}, which the {texts[0].kind.title} does not mention"] if is_more else []
+    )
     return [*differing("inputs", "i", inputs, judged), *differing("outputs", "o", outputs, judged), *are_read]
 
 
 def names_of_owners(text):
-    """The names of the environment's propositions, and those of the controller's, in an automaton or a specification."""
+    """The names of the environment's propositions, and those of the controller's, in an automaton or a
+    specification."""
     if text.kind is Kind.SPECIFICATION:
         return specification.owners(text.string)
     return [[name for _, name in owned] for owned in automaton.read(text.string).owners()]
@@ -124,6 +140,10 @@ def differing(title, kind, wanted, judged):
     """How the symbols of the circuit's inputs, or of its outputs, differ from the expected names."""
     there = [judged.symbols.get((kind, number)) for number in range(len(judged.names(kind)))]
     spare = Counter(filter(None, there)) - Counter(wanted)
-    parts = [("missing", [name for name in wanted if name not in set(there)]), ("too many", list(spare)), ("without a name", [str(there.count(None))])]
+    parts = [
+        ("missing", [name for name in wanted if name not in set(there)]),
+        ("too many", list(spare)),
+        ("without a name", [str(there.count(None))]),
+    ]
     said = [f"{word} {', '.join(names)}" for word, names in parts if names and names != ["0"]]
     return [f"among the circuit's {title}: {'; '.join(said)}"] if said else []

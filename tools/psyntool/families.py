@@ -14,7 +14,10 @@ FACTOR, SUMMAND, WORD = 6364136223846793005, 1442695040888963407, 2**64
 def game_of(rows):
     """The game whose vertices are given as rows (priority, owner, successors); the index of a row is the id of its
     vertex."""
-    return Game(tuple(Vertex(place, priority, owner, tuple(dict.fromkeys(to)), None) for place, (priority, owner, to) in enumerate(rows)))
+    return Game(tuple(
+        Vertex(place, priority, owner, tuple(dict.fromkeys(to)), None)
+        for place, (priority, owner, to) in enumerate(rows)
+    ))
 
 
 class Draw:
@@ -61,7 +64,10 @@ def buchi(n, seed=0, edges=None):
     """A random Büchi game of n vertices: every tenth vertex has priority 2, the others have priority 1. Two edges are
     drawn for each vertex, or so many different ones as `edges` says."""
     draw = Draw(n, seed)
-    return [(2 if v % 10 == 0 else 1, draw.below(2), draw.distinct(edges, n) if edges else [draw.below(n), draw.below(n)]) for v in range(n)]
+    return [
+        (2 if v % 10 == 0 else 1, draw.below(2), draw.distinct(edges, n) if edges else [draw.below(n), draw.below(n)])
+        for v in range(n)
+    ]
 
 
 def random(n, seed=0, edges=None, priorities=None):
@@ -87,7 +93,11 @@ def jurdzinski(n):
                 rows.append((2 * row + 1, 1, [here - 1, here + 1]))
             else:
                 below = (row + 1) % n * width + place
-                rows.append((2 * row + 2 if place == width - 1 else 0, 0, [below, *([here + 1] if place < width - 1 else [here - 1])]))
+                rows.append((
+                    2 * row + 2 if place == width - 1 else 0,
+                    0,
+                    [below, *([here + 1] if place < width - 1 else [here - 1])],
+                ))
     return rows
 
 

@@ -20,14 +20,17 @@ class Text:
     """One input text: the bytes that the program reads, and how their offsets map to offsets in the file."""
 
     def __init__(self, kind, name, original):
-        self.kind, self.name, self.original = kind, name, original
+        self.kind = kind
+        self.name = name
+        self.original = original
         self.bytes = original
         self.told = []
         # whether the file was in binary AIGER, so that the text is its ASCII form
         self.was_binary = False
         # of a specification in temporal logic what it says, if the tool has read it
         self.basic = None
-        # for each change of the text, pairs of an offset after it and the distance to the offset before it from there on
+        # for each change of the text, pairs of an offset after it and the distance to the offset before it from there
+        # on
         self.changes = []
 
     @property
@@ -60,7 +63,8 @@ class Text:
     def become(self, new, name):
         """Takes the bytes and the name of another text, which is made from this one."""
         self.original = self.bytes = new
-        self.name, self.changes = name, []
+        self.name = name
+        self.changes = []
 
     def drop_mark(self):
         """Drops a byte order mark, which no format allows; editors do not count it as a column."""
@@ -107,7 +111,9 @@ class Text:
         end = None if is_binary else END_OF_CIRCUIT.search(self.bytes)
         below = [(end.start(), len(self.bytes), b"")] if end and self.bytes[end.end() :] else []
         self.replace([(0, found.end(), b""), *below])
-        self.told.append(f"{self.name}: the line {word} above the circuit{', and what is below it,' * bool(below)} is left out")
+        self.told.append(
+            f"{self.name}: the line {word} above the circuit{', and what is below it,' * bool(below)} is left out"
+        )
 
     def refuse_game(self):
         """Refuses an automaton that Spot wrote as a game with players. By the format, the item that names the players
@@ -118,8 +124,8 @@ class Text:
 
         if any(token.text == PLAYERS_OF_A_GAME for token in hoa.tokens_of(self.string, "--BODY--")):
             raise Refused(
-                f"{self.name}: `{PLAYERS_OF_A_GAME}` says that this is a game whose states belong to players, and psyn reads automata: "
-                "give it the automaton from which the game was made"
+                f"{self.name}: `{PLAYERS_OF_A_GAME}` says that this is a game whose states belong to players, "
+                "and psyn reads automata: give it the automaton from which the game was made"
             )
 
     def end_with_newline(self):
@@ -152,7 +158,11 @@ def returns_at_line_ends(kind, text):
         ends.append(len(text) - 1)
     if kind in (Kind.GAME, Kind.AUTOMATON, Kind.SPECIFICATION):
         name = rb'"(?:\\.|[^"\\])*"' if kind is Kind.AUTOMATON else rb'"[^"]*"'
-        inside = {found.start() + at.start() for found in re.finditer(name, text, re.S) for at in re.finditer(rb"\r", found[0])}
+        inside = {
+            found.start() + at.start()
+            for found in re.finditer(name, text, re.S)
+            for at in re.finditer(rb"\r", found[0])
+        }
         return [place for place in ends if place not in inside]
     if kind is Kind.CIRCUIT and len(ends) < text.count(b"\n"):
         # only some lines end with a carriage return, so a return after a symbol may belong to the symbol's name
@@ -176,7 +186,9 @@ class Reader:
     """Reads the files of one command line: together at most one byte more than the program accepts."""
 
     def __init__(self, settings):
-        self.settings, self.left, self.has_input = settings, program.MOST_BYTES + 1, False
+        self.settings = settings
+        self.left = program.MOST_BYTES + 1
+        self.has_input = False
 
     def bytes_of(self, path):
         if path == "-":
@@ -190,7 +202,10 @@ class Reader:
                 raise Refused(f"{title_of(path)}: {error.strerror}") from None
         self.left -= len(data)
         if not self.left and not self.settings.command.is_of_the_program:
-            raise Refused(f"{title_of(path)}: the files up to this one have more than {program.MOST_BYTES:,} bytes together, the most that psyn reads")
+            raise Refused(
+                f"{title_of(path)}: the files up to this one have more than {program.MOST_BYTES:,} bytes together, "
+                "the most that psyn reads"
+            )
         return data
 
     def text(self, kind, path):
@@ -244,7 +259,9 @@ class Reader:
         except binary.Broken as error:
             raise Refused(f"{text.name}: this is the binary form of AIGER, and can't be converted: {error}") from None
         made.was_binary = True
-        made.told = [*text.told, f"{text.name}: converted from the binary form of AIGER; places are those of the ASCII form"]
+        made.told = [
+            *text.told, f"{text.name}: converted from the binary form of AIGER; places are those of the ASCII form"
+        ]
         return made
 
     def texts(self, kinds, paths):
@@ -264,6 +281,8 @@ def joined(command, flags, texts):
         found = re.search(rb"(?m)^%%$", text.bytes)
         if found:
             line = text.bytes[: found.start()].count(b"\n") + 1
-            raise Refused(f"{text.name}:{line}: a line %% ends the text there, since another text stands behind it: take it out")
+            raise Refused(
+                f"{text.name}:{line}: a line %% ends the text there, since another text stands behind it: take it out"
+            )
     head = " ".join([command, *flags]).encode() + b"\n"
     return head + b"%%\n".join(text.bytes for text in texts)

@@ -16,14 +16,15 @@ MOST = 24
 # What docs/FAULTS.md says of certificates and solutions together, said of solutions alone.
 ENTRIES = {
     53: {
-        "Cause": "a solution is `paritysol N;`, which may be left out, and then for each vertex `id winner;` or `id winner move;`. This text "
-        "has another form.",
+        "Cause": "a solution is `paritysol N;`, which may be left out, "
+        "and then for each vertex `id winner;` or `id winner move;`. This text has another form.",
         "Place": "the first token that this form does not allow, or the end of the text.",
-        "Mend": "let the solver print its solution alone, without names, comments and messages (PGSolver: `--printsolonly`).",
+        "Mend": "let the solver print its solution alone, without names, comments and messages (PGSolver: "
+        "`--printsolonly`).",
     },
     54: {
-        "Cause": "the solution does not fit this game: an id is not one of the game or has had an entry, a move is not an id, or a vertex has "
-        "no entry.",
+        "Cause": "the solution does not fit this game: an id is not one of the game or has had an entry, "
+        "a move is not an id, or a vertex has no entry.",
         "Place": "the number that does not fit; the end of the text if a vertex has no entry.",
         "Mend": "use a solution of this game, with one entry for each vertex.",
     },
@@ -68,10 +69,15 @@ def lost_cycle(behind, texts):
     case, cycle = case_of(texts), [int(word) for word in behind.split()]
     vertices = [case.game.by_identity[identity] for identity in cycle]
     loser, greatest = case.entry(cycle[0]).winner, max(vertex.priority for vertex in vertices)
-    told = [f"by {case.text.name} player {loser} wins these vertices; it loses the cycle, whose greatest priority {greatest} is {parity(greatest)}:"]
+    told = [
+        f"by {case.text.name} player {loser} wins these vertices; it loses the cycle, "
+        f"whose greatest priority {greatest} is {parity(greatest)}:"
+    ]
     for vertex, target in list(zip(vertices, [*cycle[1:], cycle[0]]))[:MOST]:
         way = "moves" if vertex.owner == loser else "can move"
-        told.append(f"  {case.named(vertex.identity)}, priority {vertex.priority}: player {vertex.owner} {way} to {target}")
+        told.append(
+            f"  {case.named(vertex.identity)}, priority {vertex.priority}: player {vertex.owner} {way} to {target}"
+        )
     return told + ([f"  .. and {len(cycle) - MOST} more"] if len(cycle) > MOST else [])
 
 
@@ -96,8 +102,8 @@ def escape(behind, texts):
     way = "moves" if vertex.owner == winner else "can move"
     return [
         *case.entry_line(source, "Escape"),
-        f"player {winner} is to win {case.named(source)}, but player {vertex.owner} {way} from there to {case.named(target)}, "
-        f"which player {1 - winner} is to win",
+        f"player {winner} is to win {case.named(source)}, "
+        f"but player {vertex.owner} {way} from there to {case.named(target)}, which player {1 - winner} is to win",
     ]
 
 
@@ -133,7 +139,11 @@ def other_game(offset, texts):
         more = f"; {len(missing)} vertices have none" if missing[1:] else ""
         return [f"{case.named(missing[0])} has no entry{more}"] if missing else []
     identity = int(found[1])
-    return [f"vertex {identity} has an entry before" if identity in case.game.by_identity else f"{identity} is no vertex of the game"]
+    return [
+        f"vertex {identity} has an entry before"
+        if identity in case.game.by_identity
+        else f"{identity} is no vertex of the game"
+    ]
 
 
 # ---- the picture

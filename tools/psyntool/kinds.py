@@ -21,7 +21,8 @@ class Kind(enum.Enum):
     FILE = ("file", ("hoa", "pg", "gm", "cert", "aag", "aig", "txt"))
 
     def __init__(self, title, endings):
-        self.title, self.endings = title, endings
+        self.title = title
+        self.endings = endings
 
     @property
     def word(self):

@@ -1,4 +1,5 @@
-"""Letters of a stimulus by names: a line names the inputs that are true, and may name others that are false with `!`."""
+"""Letters of a stimulus by names: a line names the inputs that are true, and may name others that are false with
+`!`."""
 import re
 
 from psyntool.ends import Refused
@@ -21,15 +22,24 @@ def by_digits(texts):
     except Unreadable:
         return
     text = found[Kind.STIMULUS]
-    text.change_lines(lambda row, line: digits_of(text.name, row, line.decode("utf-8", "surrogateescape"), names).encode("utf-8", "surrogateescape"))
+    text.change_lines(
+        lambda row, line: digits_of(text.name, row, line.decode("utf-8", "surrogateescape"), names).encode(
+            "utf-8", "surrogateescape"
+        )
+    )
 
 
 def digits_of(title, row, line, names):
-    """The digits of a letter by names. Any other line is left to the program: one of digits, and one without a name that
-    holds no letter of the alphabet."""
+    """The digits of a letter by names. Any other line is left to the program: one of digits, and one without a name
+    that holds no letter of the alphabet."""
     words = [line.strip()] if line.strip().removeprefix("!") in names else line.split()
     unknown = next((word for word in words if word.removeprefix("!") not in names), None)
-    if DIGITS.fullmatch(line) or unknown is not None and len(unknown) == len(line.strip()) and not any(map(str.isalpha, line)):
+    if (
+        DIGITS.fullmatch(line)
+        or unknown is not None
+        and len(unknown) == len(line.strip())
+        and not any(map(str.isalpha, line))
+    ):
         return line
     if unknown is not None:
         raise Refused(f"{title}:{row}: the circuit has no input {unknown}{nearest(unknown.removeprefix('!'), names)}")

@@ -16,7 +16,9 @@ def begin(request):
         if number == 0:
             raise Refused(f"{flag.shown}: at least 1 is wanted")
     program.most_memory = mebibytes and mebibytes * MEBIBYTE
-    program.last_moment = seconds and program.LastMoment(time.monotonic() + seconds, f"no answer within {seconds} s ({TIME.name})")
+    program.last_moment = seconds and program.LastMoment(
+        time.monotonic() + seconds, f"no answer within {seconds} s ({TIME.name})"
+    )
 
 
 def end():
@@ -25,8 +27,8 @@ def end():
 
 
 def briefly(seconds, function, *values):
-    """The result of a function. A program that it starts is killed after so many seconds of processor time, which do not
-    depend on what else the machine does; the answer then says what ended it."""
+    """The result of a function. A program that it starts is killed after so many seconds of processor time, which do
+    not depend on what else the machine does; the answer then says what ended it."""
     program.most_processor = seconds
     try:
         return function(*values)

@@ -13,8 +13,8 @@ PR_SET_PDEATHSIG = 1
 MOST_BYTES = 67_108_864
 STATUSES = {0: b"", 10: b"REALIZABLE\n", 20: b"UNREALIZABLE\n", 1: b"fault ", 2: b"fault "}
 CLOCK_FROM = 2
-# The most bytes of memory of each program that is started, or None; the most seconds of processor time of each, or None;
-# and the last moment of the run, or None.
+# The most bytes of memory of each program that is started, or None; the most seconds of processor time of each, or
+# None; and the last moment of the run, or None.
 most_memory = most_processor = last_moment = None
 
 
@@ -47,7 +47,9 @@ def path():
     """The path of the program: $PSYN or, if that is unset, the program that was built or installed."""
     named = os.environ.get("PSYN")
     if named and not os.path.isfile(named):
-        raise Refused(f"PSYN={named}: {'this is a folder' if os.path.isdir(named) else 'there is no such file'}, and no program")
+        raise Refused(
+            f"PSYN={named}: {'this is a folder' if os.path.isdir(named) else 'there is no such file'}, and no program"
+        )
     if not named and not os.path.isfile(places.PROGRAM):
         raise Refused(f"the program is not there: {places.HOW_TO_HAVE_IT}, or name it by PSYN=FILE")
     return os.path.abspath(named or places.PROGRAM)

@@ -29,7 +29,9 @@ class Release:
 def git(*words):
     """The output of a git command at the top of the repository, or an empty string if the command fails."""
     try:
-        done = subprocess.run(["git", "-C", places.TOP, *words], stdin=subprocess.DEVNULL, capture_output=True, check=False)
+        done = subprocess.run(
+            ["git", "-C", places.TOP, *words], stdin=subprocess.DEVNULL, capture_output=True, check=False
+        )
     except OSError:
         return ""
     return done.stdout.decode("utf-8", "replace").strip() if done.returncode == 0 else ""

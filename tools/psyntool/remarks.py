@@ -1,5 +1,6 @@
-"""Remarks on an answer of `synth`: outputs of a controller that never change, inputs that it does not need, and assumptions
-that a controller can make fail, so that it may not be the one that was wanted; and a small environment, told in words."""
+"""Remarks on an answer of `synth`: outputs of a controller that never change, inputs that it does not need, and
+assumptions that a controller can make fail, so that it may not be the one that was wanted; and a small environment,
+told in words."""
 from psyntool import program
 from psyntool.command import MOORE
 
@@ -76,7 +77,10 @@ def failing(composer, passed):
     parts = cores.shrunk(of.assumptions, can_fail)
     titles = " and ".join(it.title for it in parts)
     what = f"the assumption {titles} fail" if len(parts) == 1 else f"the assumptions {titles} fail together"
-    return [f"a controller can make {what}, so this one may win without keeping the guarantees", *example(composer, flags, parts)]
+    return [
+        f"a controller can make {what}, so this one may win without keeping the guarantees",
+        *example(composer, flags, parts),
+    ]
 
 
 def example(composer, flags, parts):
@@ -87,13 +91,23 @@ def example(composer, flags, parts):
 
     answer = asked("synth --full", flags, composer, parts)
     printed = report.read(answer.bytes.decode("utf-8", "surrogateescape")).parts
-    play = board.Play(reading.board_of(text_of(composer, parts), *printed), printed[0].encode("utf-8", "surrogateescape"))
+    play = board.Play(
+        reading.board_of(text_of(composer, parts), *printed), printed[0].encode("utf-8", "surrogateescape")
+    )
     play.hold_out()
-    broken = [found.broke for found in (running.run(moves, play.letters) for moves in play.board.assumed) if found.broke is not None]
+    broken = [
+        found.broke
+        for found in (running.run(moves, play.letters) for moves in play.board.assumed)
+        if found.broke is not None
+    ]
     if broken:
         play.end_behind(min(broken))
     rows = telling.table(play) if len(play.steps) <= MOST_STEPS else [f"after {len(play.steps)} steps:"]
-    return ["so it can play:", *rows, *(line for moves in play.board.assumed for line in telling.of_part(play, "assumption", moves))]
+    return [
+        "so it can play:",
+        *rows,
+        *(line for moves in play.board.assumed for line in telling.of_part(play, "assumption", moves)),
+    ]
 
 
 def text_of(composer, assumptions):

@@ -5,14 +5,19 @@ import re
 from psyntool import console, running
 from psyntool.ends import WRONG_SOLUTIONS
 
-VERDICTS = ("REALIZABLE", "UNREALIZABLE", "wins", "loses", "accepted", "rejected", "satisfied", "violated", "valid", "closed", "agrees", "accepts", "rejects")
+VERDICTS = (
+    "REALIZABLE", "UNREALIZABLE", "wins", "loses", "accepted", "rejected", "satisfied", "violated", "valid", "closed",
+    "agrees", "accepts", "rejects",
+)
 # The fields of the line, in order, as the manual describes them.
 FIELDS = {
     "command": "the command",
     "files": "the words behind it, in a list",
     "status": "the exit status",
-    "verdict": "REALIZABLE, UNREALIZABLE, wins, loses, accepted, rejected, satisfied, violated, valid, closed, agrees, accepts or rejects, or of judge right or wrong",
-    "stem": "of lasso, and of verify, shrink and agree where they print a stimulus or a word: the number of steps before the lap",
+    "verdict": "REALIZABLE, UNREALIZABLE, wins, loses, accepted, rejected, satisfied, violated, valid, closed, agrees, "
+    "accepts or rejects, or of judge right or wrong",
+    "stem": "of lasso, and of verify, shrink and agree where they print a stimulus or a word: "
+    "the number of steps before the lap",
     "lap": "the number of steps of the lap, which repeats for ever",
     "fault": "the number of the fault",
     "name": "the name of the fault",
@@ -58,7 +63,13 @@ def line_of(request, outcome):
 def verdict_of(command, answer, number, message):
     """The verdict that an answer is, or None."""
     if command == "judge" and not message:
-        return "wrong" if number in WRONG_SOLUTIONS else "right" if number is None and answer.startswith("psyncert") else None
+        return (
+            "wrong"
+            if number in WRONG_SOLUTIONS
+            else "right"
+            if number is None and answer.startswith("psyncert")
+            else None
+        )
     if command == "shrink" and re.match(r"aag \d", answer):
         return "wins"
     word = re.match(r"\w*", answer)[0]
@@ -66,7 +77,8 @@ def verdict_of(command, answer, number, message):
 
 
 def steps_of(answer):
-    """The numbers of steps of the stem and of the lap that `lasso` or `verify` prints; each is None in another answer."""
+    """The numbers of steps of the stem and of the lap that `lasso` or `verify` prints; each is None in another
+    answer."""
     found = re.match(r"(?:accepted|rejected|satisfied|violated) stem (\d+) lap (\d+)$", answer, re.M)
     if found:
         return int(found[1]), int(found[2])

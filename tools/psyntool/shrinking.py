@@ -58,7 +58,9 @@ def size(made):
 
 def sizes_told(before, after):
     """A line with the numbers of gates and latches of two texts of circuits."""
-    (gates, latches), (fewer, left) = (size(circuit.read(text.decode("utf-8", "surrogateescape"))) for text in (before, after))
+    (gates, latches), (fewer, left) = (
+        size(circuit.read(text.decode("utf-8", "surrogateescape"))) for text in (before, after)
+    )
     return f"gates: {gates} before, {fewer} after; latches: {latches} before, {left} after"
 
 
@@ -67,7 +69,9 @@ def of_answer(specified, answer, passed):
     are those that were passed to `synth`, for an automaton or for a specification."""
     printed = report.read(answer.bytes.decode("utf-8", "surrogateescape")).parts[0]
     given = Text(Kind.CIRCUIT, "the circuit", printed.encode("utf-8", "surrogateescape"))
-    flags = [*([ENV.name] if answer.status == 20 else []), *(name for name in passed if name in (MOORE.name, TLSF.name))]
+    flags = [
+        *([ENV.name] if answer.status == 20 else []), *(name for name in passed if name in (MOORE.name, TLSF.name))
+    ]
     return program.ask(files.joined("shrink", flags, [specified, given])), given
 
 
@@ -77,8 +81,8 @@ def is_circuit(answer):
 
 
 def in_answer(request, specified, answer, passed):
-    """An answer of `synth` with a smaller circuit in place of its own; `passed` are the flags of `synth`. If the program
-    gives none, standard error says why, and the answer stays as it is."""
+    """An answer of `synth` with a smaller circuit in place of its own; `passed` are the flags of `synth`. If the
+    program gives none, standard error says why, and the answer stays as it is."""
     if not asking.is_had(answer):
         return answer
     return with_smaller(request, answer, *of_answer(specified, answer, passed))

@@ -30,7 +30,8 @@ class Solver:
 
     def __init__(self, request):
         # an error in the solution is explained as the command `judge` explains it
-        self.request, self.words = dataclasses.replace(request, command=request.table["judge"]), words_of(request)
+        self.request = dataclasses.replace(request, command=request.table["judge"])
+        self.words = words_of(request)
         self.name = os.path.basename(self.words[0])
         self.kept = request.value(KEEP)
         if self.kept is not None:

@@ -1,5 +1,5 @@
-"""Specifications in temporal logic among the texts of a command: one in TLSF's full form is written out in the basic form,
-which the program reads."""
+"""Specifications in temporal logic among the texts of a command: one in TLSF's full form is written out in the basic
+form, which the program reads."""
 import dataclasses
 import re
 
@@ -41,8 +41,8 @@ def basic(text, settings):
 
 
 def write_out(text, request):
-    """Writes a text in the full form out in the basic form. A text in the basic form, and one in neither form, stays as it
-    is, so that the program finds what is wrong with it."""
+    """Writes a text in the full form out in the basic form. A text in the basic form, and one in neither form, stays as
+    it is, so that the program finds what is wrong with it."""
     settings = settings_of(request)
     if not settings and (text.looks_like is not Kind.SPECIFICATION or not is_in_full_form(text.bytes.decode(ENCODING))):
         return
@@ -51,8 +51,8 @@ def write_out(text, request):
 
 
 def first_answer(request, text):
-    """The program's answer of `synth` to a specification, which the tool is about to ask about further ones that it makes of
-    its sentences; None if it is no verdict, which is then handed on, with the exit status."""
+    """The program's answer of `synth` to a specification, which the tool is about to ask about further ones that it
+    makes of its sentences; None if it is no verdict, which is then handed on, with the exit status."""
     answer = program.ask(files.joined("synth", [TLSF.name], [text]))
     if asking.is_had(answer):
         read(text)
@@ -78,8 +78,14 @@ def basic_of(text):
 
 def of_sentences(request):
     """The text of the specification whose sentences the command line has."""
-    said = sorted((place, SECTION_OF[flag.name], text) for flag in (ASSUME, GUARANTEE, FORMULA) for place, text in request.value(flag) or ())
-    inputs, outputs = (None if request.value(flag) is None else [name for _, name in request.value(flag)] for flag in (INS, OUTS))
+    said = sorted(
+        (place, SECTION_OF[flag.name], text)
+        for flag in (ASSUME, GUARANTEE, FORMULA)
+        for place, text in request.value(flag) or ()
+    )
+    inputs, outputs = (
+        None if request.value(flag) is None else [name for _, name in request.value(flag)] for flag in (INS, OUTS)
+    )
     refuse_names(inputs or [], outputs or [])
     if outputs is None:
         raise Refused(f"{request.command.name} of sentences wants {OUTS.shown}, the controller's propositions")
@@ -103,7 +109,9 @@ def refuse_names(inputs, outputs):
     for flag, names in ((INS, inputs), (OUTS, outputs)):
         for name in names:
             if not NAME.fullmatch(name):
-                raise Refused(f"{flag.shown}: {name!r} is no name of a proposition; names stand with blanks between them")
+                raise Refused(
+                    f"{flag.shown}: {name!r} is no name of a proposition; names stand with blanks between them"
+                )
             if [*inputs, *outputs].count(name) > 1:
                 raise Refused(f"{flag.shown}: {name} stands twice in {INS.name} and {OUTS.name}")
 

@@ -1,5 +1,5 @@
-"""Runs of an automaton on a circuit's trace: for each step the state, the letter by names, and the acceptance sets. For a
-specification, the letters alone."""
+"""Runs of an automaton on a circuit's trace: for each step the state, the letter by names, and the acceptance sets. For
+a specification, the letters alone."""
 from psyntool import program
 from psyntool.kinds import Kind
 from psyntool.texts import automaton, circuit, labels, specification, stimulus
@@ -35,8 +35,9 @@ def steps(read, letters):
 
 def trace(texts, stem, lap, is_stopped=False, flags=()):
     """A table of the steps on a lasso: on the stem, and on one lap (the repeated part). The texts are an automaton or a
-    specification, a circuit and a stimulus; `flags` has `--env` if the circuit is an environment's. Below the run of an automaton stands what became of the parts of which it
-    was composed, if it was; the table can be stopped at the first step that breaks a guarantee."""
+    specification, a circuit and a stimulus; `flags` has `--env` if the circuit is an environment's. Below the run of an
+    automaton stands what became of the parts of which it was composed, if it was; the table can be stopped at the first
+    step that breaks a guarantee."""
     if stem + lap > LONGEST:
         return f"the run has {stem + lap} steps until it comes again, and is not shown\n"
     if texts[0].kind is Kind.SPECIFICATION:
@@ -53,12 +54,14 @@ def trace(texts, stem, lap, is_stopped=False, flags=()):
 
 
 def run_of(read, names, letters, stem):
-    """The lines of a table of an automaton's run on a lasso, whose letters are those of the stem and of one lap, each the
-    set of the names that are true. Of all names, the automaton reads those that it has."""
+    """The lines of a table of an automaton's run on a lasso, whose letters are those of the stem and of one lap, each
+    the set of the names that are true. Of all names, the automaton reads those that it has."""
     numbers = {name: number for number, name in enumerate(read.names)}
     rows = [
         (str(place), state, named(true, names), marks)
-        for place, (true, (state, _, marks)) in enumerate(zip(letters, steps(read, [{numbers[name] for name in true if name in numbers} for true in letters])))
+        for place, (true, (state, _, marks)) in enumerate(
+            zip(letters, steps(read, [{numbers[name] for name in true if name in numbers} for true in letters]))
+        )
     ]
     is_ended = rows[-1][-1] == "no edge"
     told = table(("step", "state", "letter", "sets"), rows, None if is_ended else stem, len(letters) - stem)
@@ -83,7 +86,9 @@ def trace_by_names(texts, stem, lap, is_stopped, flags):
         letters, stem = unrolled(letters, stem, min(steps) + 1), None
         broken = [one for one in broken if one.step is not None and one.step < len(letters)]
     rows = [(str(place), named(true, names)) for place, true in enumerate(letters)]
-    return "\n".join([*table(("step", "letter"), rows, stem, lap), *(line for one in broken for line in one.told()), ""])
+    return "\n".join(
+        [*table(("step", "letter"), rows, stem, lap), *(line for one in broken for line in one.told()), ""]
+    )
 
 
 def unrolled(letters, stem, count):
@@ -96,14 +101,21 @@ def table(head, rows, stem, lap):
     """The lines of a table. A line stands before the row with which the lap begins, unless the run ends (`stem` is then
     None). Of a long run only the two ends are shown."""
     left_out = range(SHOWN, max(SHOWN, len(rows) - SHOWN))
-    widths = [max(len(row[column]) for row in [head, *rows[: left_out.start], *rows[left_out.stop :]]) for column in range(len(head) - 1)]
-    shown = ["  ".join([*(word.ljust(width) for word, width in zip(row, widths)), row[-1]]).rstrip() for row in [head, *rows]]
+    widths = [
+        max(len(row[column]) for row in [head, *rows[: left_out.start], *rows[left_out.stop :]])
+        for column in range(len(head) - 1)
+    ]
+    shown = [
+        "  ".join([*(word.ljust(width) for word, width in zip(row, widths)), row[-1]]).rstrip() for row in [head, *rows]
+    ]
     told = shown[:1]
     for place, line in enumerate(shown[1:]):
         if place == left_out.start and left_out:
             told.append(f".. {len(left_out)} steps are not shown ..")
         if place == stem:
-            told.append(f"the lap begins{f' at step {stem}' * (stem in left_out)}; it comes again after step {stem + lap - 1}")
+            told.append(
+                f"the lap begins{f' at step {stem}' * (stem in left_out)}; it comes again after step {stem + lap - 1}"
+            )
         told += [] if place in left_out else [line]
     return told
 
@@ -122,8 +134,21 @@ def parts_told(read, letters, stem, is_stopped):
     except specification.NotComposed as error:
         return None, [str(error)]
     numbers, diagrams = {name: number for number, name in enumerate(read.names)}, Diagrams()
-    sides = [(side, [Moves(it, numbers, diagrams) for it in parts]) for side, parts in (("assumption", of.assumptions), ("guarantee", of.guarantees))]
-    broken = [found.broke for found in (running.run(moves, letters) for moves in sides[1][1]) if found.broke is not None]
+    sides = [
+        (side, [Moves(it, numbers, diagrams) for it in parts])
+        for side, parts in (("assumption", of.assumptions), ("guarantee", of.guarantees))
+    ]
+    broken = [
+        found.broke for found in (running.run(moves, letters) for moves in sides[1][1]) if found.broke is not None
+    ]
     last = min(broken) + 1 if broken and is_stopped else None
     stem = None if last else stem
-    return last, [line for side, those in sides for moves in those for line in running.told(side, moves, letters[:last], stem, "lap")]
+    return (
+        last,
+        [
+            line
+            for side, those in sides
+            for moves in those
+            for line in running.told(side, moves, letters[:last], stem, "lap")
+        ],
+    )

@@ -26,7 +26,10 @@ def drop(texts):
     counted = (*head.span(1), b"%d" % (count - len(unread)))
     circuit.replace([counted, *definitions(circuit.bytes, count, unread), *symbols(circuit.bytes, unread)])
     names, these = ", ".join(unread.values()), "it" if len(unread) == 1 else "them"
-    circuit.told.append(f"{circuit.name}: {'input' if these == 'it' else 'inputs'} {names} left out: the {first.kind.title} does not mention {these}, and nothing reads {these}")
+    circuit.told.append(
+        f"{circuit.name}: {'input' if these == 'it' else 'inputs'} {names} left out: "
+        f"the {first.kind.title} does not mention {these}, and nothing reads {these}"
+    )
     for stimulus in texts[2:]:
         spans = digits(stimulus.bytes, count, unread)
         if spans:
@@ -58,7 +61,9 @@ def inputs(mentioned, text):
     from psyntool.texts import circuit
 
     made = circuit.read(text)
-    others = {number: made.symbols[kind, number] for kind, number in made.symbols if kind == "i" and number < len(made.inputs)}
+    others = {
+        number: made.symbols[kind, number] for kind, number in made.symbols if kind == "i" and number < len(made.inputs)
+    }
     others = {number: name for number, name in sorted(others.items()) if name not in mentioned}
     are_read = made.read_variables
     unread = {number: name for number, name in others.items() if made.inputs[number] // 2 not in are_read}

@@ -2,7 +2,9 @@
 import os
 
 from psyntool import places
-from psyntool.command import ASSUME, EVERYWHERE, GUARANTEE, HELP, MOORE, OUTS, SHORT, STRICT, TLSF, VERSION, Request, has_sentences
+from psyntool.command import (
+    ASSUME, EVERYWHERE, GUARANTEE, HELP, MOORE, OUTS, SHORT, STRICT, TLSF, VERSION, Request, has_sentences
+)
 from psyntool.ends import Refused
 from psyntool.kinds import Kind
 
@@ -62,7 +64,11 @@ def behind(flag, words, at, flags):
     found = []
     for place in range(at, len(words)):
         word = words[place]
-        if word.startswith("-") and word != "-" and (word == "--" or SHORT.get(word, word).partition("=")[0] in flags or not os.path.exists(word)):
+        if (
+            word.startswith("-")
+            and word != "-"
+            and (word == "--" or SHORT.get(word, word).partition("=")[0] in flags or not os.path.exists(word))
+        ):
             break
         found.append((place, word))
     return found
@@ -105,7 +111,11 @@ def check_apart(command, given):
     for flag in command.apart:
         for other in command.apart[flag]:
             if flag in given and other.name in given and not (has_sentences(given) and other in OF_SPECIFICATIONS):
-                said = f": a specification says that itself, by SEMANTICS: {SEMANTICS[other]}" if flag == TLSF.name and other in SEMANTICS else ""
+                said = (
+                    f": a specification says that itself, by SEMANTICS: {SEMANTICS[other]}"
+                    if flag == TLSF.name and other in SEMANTICS
+                    else ""
+                )
                 raise Refused(f"{command.name} {flag} can't have {other.name}{said}")
 
 
@@ -113,7 +123,14 @@ def check_count(command, given, words):
     wanted = command.wanted(given)
     most, least = len(wanted), len([word for word in wanted if not word.startswith("[")])
     if not least <= len(words) <= most:
-        what = " ".join([command.name, *(name for name in given if any(name in by_flag for by_flag in (command.behind, command.replaced, command.instead)))])
+        what = " ".join([
+            command.name,
+            *(
+                name
+                for name in given
+                if any(name in by_flag for by_flag in (command.behind, command.replaced, command.instead))
+            ),
+        ])
         unit = "file" if all(isinstance(kind, Kind) for kind in command.reads) else "word"
         raise Refused(f"{what} reads {' '.join(wanted) or 'no file'}, and got {counted(words, unit)}")
 

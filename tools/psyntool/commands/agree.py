@@ -1,5 +1,5 @@
-"""`agree`: whether an automaton accepts exactly the words that satisfy a specification. If not, the output has a word on
-which they differ; the automaton's run on it is shown step by step, and the sentences that the word violates."""
+"""`agree`: whether an automaton accepts exactly the words that satisfy a specification. If not, the output has a word
+on which they differ; the automaton's run on it is shown step by step, and the sentences that the word violates."""
 from psyntool import asking, console, files, program, tracing
 
 DIFFERS = {
@@ -21,8 +21,8 @@ def run(request):
 
 
 def told(texts, word, is_satisfying):
-    """A table of the automaton's run on a word, on its stem and on one lap, and the guarantees that the word violates; of
-    a word that satisfies the specification, the assumptions."""
+    """A table of the automaton's run on a word, on its stem and on one lap, and the guarantees that the word violates;
+    of a word that satisfies the specification, the assumptions."""
     from psyntool.texts import automaton, specification
     from psyntool.tlsf import violations
 
@@ -34,4 +34,7 @@ def told(texts, word, is_satisfying):
     names = specification.names(texts[0].string)
     letters = [{name for name, digit in zip(names, row, strict=True) if digit == "1"} for row in rows]
     broken = violations.of_word(texts[0], letters, stem, is_satisfying)
-    return [*tracing.run_of(automaton.read(texts[1].string), names, letters, stem), *(line for one in broken for line in one.told())]
+    return [
+        *tracing.run_of(automaton.read(texts[1].string), names, letters, stem),
+        *(line for one in broken for line in one.told()),
+    ]

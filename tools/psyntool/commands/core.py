@@ -25,7 +25,13 @@ def run(request):
         outputs.write_all({paths[0]: Composer(found.specification).composed().text()})
     console.write_text("\n".join([WORD[found.has_controller], head(found), *rows(found.parts), ""]))
     if not request.quiet:
-        console.tell(*(remarks.failing(asking.composer, request.passed) if found.has_controller else defeat(found.specification, request.passed)))
+        console.tell(
+            *(
+                remarks.failing(asking.composer, request.passed)
+                if found.has_controller
+                else defeat(found.specification, request.passed)
+            )
+        )
     return STATUS[found.has_controller]
 
 
@@ -63,7 +69,11 @@ def sentences(those):
 
 def defeat(specification, passed):
     """What defeats every controller of a specification that has none, if words can tell it."""
-    whole = files.Text(Kind.AUTOMATON, "the automaton of these parts", Composer(specification).composed().text().encode("utf-8", "surrogateescape"))
+    whole = files.Text(
+        Kind.AUTOMATON,
+        "the automaton of these parts",
+        Composer(specification).composed().text().encode("utf-8", "surrogateescape"),
+    )
     return remarks.defeat(whole, program.ask(files.joined("synth", passed, [whole])), passed)
 
 
@@ -75,7 +85,11 @@ def head(found):
         return f"{'under all assumptions ' if found.specification.assumptions else ''}{said}:"
     if not found.parts:
         return "there is a controller without any assumption"
-    return "these assumptions suffice, and none of them can be left out:" if many else "this assumption suffices, and can't be left out:"
+    return (
+        "these assumptions suffice, and none of them can be left out:"
+        if many
+        else "this assumption suffices, and can't be left out:"
+    )
 
 
 def rows(parts):

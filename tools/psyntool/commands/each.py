@@ -15,7 +15,9 @@ def run(request):
     command, files = checked(request)
     count, status = len(command.kinds(request.given)), 0
     if len(files) % count:
-        raise Refused(f"each {command.name} reads {' '.join(command.wanted(request.given))} at a time, and got {len(files)} files")
+        raise Refused(
+            f"each {command.name} reads {' '.join(command.wanted(request.given))} at a time, and got {len(files)} files"
+        )
     for at in range(0, len(files), count):
         those = files[at : at + count]
         one = Request(command, command.recognised(request.given, those), those, request.table)
@@ -28,17 +30,25 @@ def run(request):
 def checked(request):
     """The command that is to be run, and the files, after a check of the command line."""
     if len(request.words) < 2:
-        raise Refused(f"{request.command.name} reads {' '.join(request.command.wanted())}, and got {words.counted(request.words, 'word')}")
+        raise Refused(
+            f"{request.command.name} reads {' '.join(request.command.wanted())}, "
+            f"and got {words.counted(request.words, 'word')}"
+        )
     command, *files = request.words
     command = words.command_of(command, request.table)
     words.check_flags(command, request.given, request.table)
     words.check_apart(command, command.recognised(request.given, files))
     kinds = command.kinds(request.given)
     if not kinds or not all(isinstance(kind, Kind) and kind is not Kind.FILE for kind in kinds):
-        raise Refused(f"{request.command.name} is not for {command.name}, which reads {' '.join(command.wanted(request.given)) or 'no file'}")
+        raise Refused(
+            f"{request.command.name} is not for {command.name}, "
+            f"which reads {' '.join(command.wanted(request.given)) or 'no file'}"
+        )
     for flag in OF_ONE_FILE:
         if request.has(flag):
-            raise Refused(f"{request.command.name} {command.name} can't have {flag.name}, which names one file for all runs")
+            raise Refused(
+                f"{request.command.name} {command.name} can't have {flag.name}, which names one file for all runs"
+            )
     if files.count("-") > 1:
         raise Refused("standard input can be one of the files only")
     return command, files

@@ -116,7 +116,9 @@ def rows(pairs):
 
 def uses(commands, are_programs):
     """The usage line of each command, with the command's description below it."""
-    return "\n".join(f"  {it.usage}\n      {it.says}" for it in commands.values() if it.is_of_the_program == are_programs)
+    return "\n".join(
+        f"  {it.usage}\n      {it.says}" for it in commands.values() if it.is_of_the_program == are_programs
+    )
 
 
 def page(request):

@@ -1,6 +1,6 @@
-"""`lasso`: whether an automaton accepts a circuit's trace on a lasso stimulus, or with --tlsf whether the trace satisfies a
-specification; with --trace, prints the automaton's run step by step, or the letters with the sentences that they
-violate."""
+"""`lasso`: whether an automaton accepts a circuit's trace on a lasso stimulus, or with --tlsf whether the trace
+satisfies a specification; with --trace, prints the automaton's run step by step, or the letters with the sentences that
+they violate."""
 import re
 
 from psyntool import asking, console, files, program

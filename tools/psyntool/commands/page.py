@@ -45,12 +45,18 @@ def run(request):
 
 def texts_of(given, prefix):
     """The circuit, the game and the certificate, as the page has links to them."""
-    return [(kind.title, prefix + ending, text.bytes) for kind, ending, text in zip(reading.KINDS, reading.ENDINGS, given.printed)]
+    return [
+        (kind.title, prefix + ending, text.bytes)
+        for kind, ending, text in zip(reading.KINDS, reading.ENDINGS, given.printed)
+    ]
 
 
 def tell_what_is_not_drawn(request, count):
     if count > MANY and not request.quiet:
-        console.tell(f"the automaton has {count:,} states, too many for a picture: the page draws what is around the present state")
+        console.tell(
+            f"the automaton has {count:,} states, too many for a picture: "
+            "the page draws what is around the present state"
+        )
 
 
 def of_parts(request):
@@ -66,18 +72,27 @@ def of_parts(request):
     printed = report.read(answer.bytes.decode("utf-8", "surrogateescape")).parts
     name = "parts" if request.words[0] == "-" else os.path.splitext(os.path.basename(request.words[0]))[0]
     stored = (printed[0] + outputs.CIRCUIT_ENDING, *printed[1:])
-    texts = tuple(files.Text(kind, kind.title, part.encode("utf-8", "surrogateescape")) for kind, part in zip(reading.KINDS, stored))
+    texts = tuple(
+        files.Text(kind, kind.title, part.encode("utf-8", "surrogateescape"))
+        for kind, part in zip(reading.KINDS, stored)
+    )
     given = opponents.smaller(reading.Given(text, texts, whole, reading.board_of(text, *printed)))
-    console.write_text(writing.page(name, given.board, [*texts_of(given, name), ("specification", f"{name}.hoa", whole.bytes)]))
+    console.write_text(
+        writing.page(name, given.board, [*texts_of(given, name), ("specification", f"{name}.hoa", whole.bytes)])
+    )
     if answer.status == 10 and not request.quiet:
         console.tell(*remarks.constants(answer), *(remarks.failing(composer, request.passed) if composer else ()))
     return 0
 
 
 def wanted(request):
-    """The automaton of a list of parts, with its composer; that of a specification in temporal logic, with a composer if
-    all sentences are parts."""
-    if len(request.words) == 1 and not request.has(STRICT) and kind_of(reading.beginning(request.words[0])) is Kind.SPECIFICATION:
+    """The automaton of a list of parts, with its composer; that of a specification in temporal logic, with a composer
+    if all sentences are parts."""
+    if (
+        len(request.words) == 1
+        and not request.has(STRICT)
+        and kind_of(reading.beginning(request.words[0])) is Kind.SPECIFICATION
+    ):
         reader = Reader(request)
         return translated.automaton_of(reader, reader.text(Kind.LIST, request.words[0]), request)
     composer = Composer(specification.asked(request))
@@ -85,8 +100,8 @@ def wanted(request):
 
 
 def of_circuit(request, path, of):
-    """The page of a circuit, in a file, that psyn did not print. The program makes the game of the automaton and its certificate, and
-    judges the circuit."""
+    """The page of a circuit, in a file, that psyn did not print. The program makes the game of the automaton and its
+    certificate, and judges the circuit."""
     reader = Reader(request)
     spec, made = reader.texts((Kind.FILE, Kind.CIRCUIT), (of, path))
     text = reading.automaton_of(reader, spec, request.command.name, request)
@@ -102,7 +117,10 @@ def of_circuit(request, path, of):
     board = reading.board_of(text, *printed, name=spec.name, known_by="verify")
     refuse_losing(board, whole, made)
     name = os.path.splitext(os.path.basename(path))[0]
-    texts = [(kind.title, name + ending, part.encode("utf-8", "surrogateescape")) for kind, ending, part in zip(reading.KINDS, reading.ENDINGS, printed)]
+    texts = [
+        (kind.title, name + ending, part.encode("utf-8", "surrogateescape"))
+        for kind, ending, part in zip(reading.KINDS, reading.ENDINGS, printed)
+    ]
     texts.append(("specification", f"{name}.hoa", whole.bytes))
     console.write_text(writing.page(name, board, texts))
     return 0
@@ -132,7 +150,9 @@ def judged(given):
         raise Refused(f"{given.printed[2].name}: synth answers to it: {answer.text.rstrip()}")
     said = report.read(answer.bytes.decode("utf-8", "surrogateescape")).parts
     if given.printed[1].string != said[1]:
-        raise Refused(f"{given.printed[1].name} is not what psyn prints for this certificate, so nothing is proved of it")
+        raise Refused(
+            f"{given.printed[1].name} is not what psyn prints for this certificate, so nothing is proved of it"
+        )
     if given.printed[0].string.removesuffix(outputs.CIRCUIT_ENDING) == said[0]:
         return given
     given = opponents.with_circuit(given, given.printed[0], "verify")

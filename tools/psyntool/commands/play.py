@@ -7,15 +7,17 @@ from psyntool.plays import opponents, reading, telling
 from psyntool.plays.board import Play
 
 HELP = (
-    "Type the number of a choice, or the names of your propositions that are to be true, `-` for none;\n"
-    "a for the choice with `*`, which holds out longest; b for one step back; e to end where a state has come again; q to leave."
+    "Type the number of a choice, or the names of your propositions that are to be true, `-` for none;\na for the "
+    "choice with `*`, which holds out longest; b for one step back; e to end where a state has come again; q to leave."
 )
 NO_LOOP = "no state has come again with the same latches, so the play has no end yet\n"
 
 
 def run(request):
     if request.has(JSON) and not request.has(AUTO):
-        raise Refused(f"{request.command.name} {JSON.name} wants {AUTO.shown}, since nobody would see what can be chosen")
+        raise Refused(
+            f"{request.command.name} {JSON.name} wants {AUTO.shown}, since nobody would see what can be chosen"
+        )
     prefix = request.words[0]
     text = reading.specification(request)
     if text is not None:
@@ -34,13 +36,20 @@ def run(request):
         return 0
     outputs.write_all({paths[0]: outputs.STIMULUS_BEGINNING + play.stimulus()})
     verdict = judged(play, given.automaton)
-    console.write_text("\n".join([*telling.table(play), *telling.ended(play), f"{paths[0]} has these letters of the {play.board.me}; lasso: {verdict}", ""]))
+    console.write_text("\n".join(
+        [
+            *telling.table(play),
+            *telling.ended(play),
+            f"{paths[0]} has these letters of the {play.board.me}; lasso: {verdict}",
+            "",
+        ]
+    ))
     return 0
 
 
 def asked(play):
-    """Plays the choices that the user types; returns whether the play came to its end. Where a state has come again, the
-    play may end or go on; it ends there too where nothing more is typed."""
+    """Plays the choices that the user types; returns whether the play came to its end. Where a state has come again,
+    the play may end or go on; it ends there too where nothing more is typed."""
     console.write_text(f"You are the {play.board.me}, and the {play.board.other} has a circuit that wins.\n{HELP}\n")
     lines = console.lines()
     while not play.is_over:
@@ -89,7 +98,9 @@ def judged(play, text):
     unless the program's answer means that the circuit's player wins."""
     flags = [ENV.name] if play.board.winner == 1 else []
     given = " ".join(["lasso", *flags]) + f"\n{text}%%\n"
-    answer = program.ask(given.encode("utf-8", "surrogateescape") + play.circuit.text + b"%%\n" + play.stimulus().encode())
+    answer = program.ask(
+        given.encode("utf-8", "surrogateescape") + play.circuit.text + b"%%\n" + play.stimulus().encode()
+    )
     wanted = ("accepted", "rejected")[play.board.winner]
     if answer.died or not answer.text.startswith(wanted):
         raise Unwritten(f"lasso of this play: {answer.died or answer.text.rstrip()}, where {wanted} was to be expected")

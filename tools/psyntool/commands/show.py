@@ -6,8 +6,17 @@ from psyntool.kinds import Kind
 from psyntool.pictures import automata, circuits, games
 from psyntool.texts import automaton, certificate, circuit, game, report, solution
 
-READERS = {Kind.GAME: game.read, Kind.CERTIFICATE: certificate.read, Kind.AUTOMATON: automaton.read, Kind.CIRCUIT: circuit.read, Kind.SOLUTION: solution.read}
-WANTED = "show draws a game, a game and its certificate or solution, with both the automaton behind them, an automaton, or a circuit"
+READERS = {
+    Kind.GAME: game.read,
+    Kind.CERTIFICATE: certificate.read,
+    Kind.AUTOMATON: automaton.read,
+    Kind.CIRCUIT: circuit.read,
+    Kind.SOLUTION: solution.read,
+}
+WANTED = (
+    "show draws a game, a game and its certificate or solution, with both the automaton behind them, an automaton, "
+    "or a circuit"
+)
 
 
 def parts_of(text):
@@ -34,7 +43,10 @@ def composed(request, text):
 def run(request):
     texts = [composed(request, text) for text in request.texts()]
     parts = [part for text in texts for part in parts_of(text)]
-    strange = next((text for text in texts if text.kind is Kind.FILE or text.kind not in READERS and text.kind is not Kind.ANSWER), None)
+    strange = next(
+        (text for text in texts if text.kind is Kind.FILE or text.kind not in READERS and text.kind is not Kind.ANSWER),
+        None,
+    )
     if strange:
         what = "no text of a kind that psyn knows" if strange.kind is Kind.FILE else strange.kind.with_article
         raise Refused(f"{strange.name} is {what}; {WANTED}")
@@ -50,7 +62,9 @@ def run(request):
 def drawn(found, reach):
     """The picture of the parsed texts; `found` maps each kind to its text, and the kinds decide what is drawn."""
     if Kind.GAME in found and Kind.CIRCUIT not in found and not {Kind.CERTIFICATE, Kind.SOLUTION} <= set(found):
-        return games.picture(found[Kind.GAME], found.get(Kind.CERTIFICATE) or found.get(Kind.SOLUTION), found.get(Kind.AUTOMATON), reach)
+        return games.picture(
+            found[Kind.GAME], found.get(Kind.CERTIFICATE) or found.get(Kind.SOLUTION), found.get(Kind.AUTOMATON), reach
+        )
     if set(found) == {Kind.AUTOMATON}:
         return automata.picture(found[Kind.AUTOMATON], reach)
     if set(found) == {Kind.CIRCUIT}:

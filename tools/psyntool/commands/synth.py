@@ -1,6 +1,6 @@
-"""`synth`: a circuit for an automaton, for a specification in parts, or for one in temporal logic. With -o, the circuit,
-the game and the certificate go to separate files; with --small, the circuit is made smaller; with --by, another solver
-solves the game."""
+"""`synth`: a circuit for an automaton, for a specification in parts, or for one in temporal logic. With -o, the
+circuit, the game and the certificate go to separate files; with --small, the circuit is made smaller; with --by,
+another solver solves the game."""
 from psyntool import asking, console, files, outputs, program
 from psyntool.command import BY, CERT, FULL, KEEP, MOORE, OF_PARTS, PARTS, PICTURE, SMALL, TLSF, TO_FILES
 from psyntool.ends import FAULT, Refused
@@ -29,8 +29,8 @@ def run(request):
 
 
 def run_on_specification(request):
-    """Runs `synth` on a specification in temporal logic, of which the circuit alone is printed. With -o, the circuit, the
-    game and the certificate are those of the automaton that `translate` prints, which goes to a file too, and so do
+    """Runs `synth` on a specification in temporal logic, of which the circuit alone is printed. With -o, the circuit,
+    the game and the certificate are those of the automaton that `translate` prints, which goes to a file too, and so do
     sentences of the command line; where no automaton is found, only the circuit is written."""
     from psyntool.texts import specification
 
@@ -44,7 +44,9 @@ def run_on_specification(request):
     if answer.bytes.startswith(NOT_TRANSLATED):
         status = to_files(request, texts, paths[:1], others)
         if status != FAULT:
-            console.tell(f"no automaton is printed (fault 75 of translate), so of the circuit's files only {paths[0]} is written")
+            console.tell(
+                f"no automaton is printed (fault 75 of translate), so of the circuit's files only {paths[0]} is written"
+            )
         return status
     if not asking.is_had(answer):
         return asking.hand_on(request, texts, answer)
@@ -69,7 +71,9 @@ def run_on_parts(request):
     outputs.refuse_read(request, paths)
     composer = Composer(asked)
     whole = composer.composed()
-    texts = [files.Text(Kind.AUTOMATON, "the automaton of these parts", whole.text().encode("utf-8", "surrogateescape"))]
+    texts = [
+        files.Text(Kind.AUTOMATON, "the automaton of these parts", whole.text().encode("utf-8", "surrogateescape"))
+    ]
     others = {path: whole.text() for path in paths[-1:]}
     if solving:
         status = solving.run(texts, paths[:-1], others)
@@ -103,8 +107,8 @@ def smaller(request, text, answer, passed):
 
 
 def remark(request, text, answer):
-    """Names outputs of a controller that never change, and inputs that a smaller one does not need; of parts, tells what
-    an environment does, and of sentences, which names look like slips."""
+    """Names outputs of a controller that never change, and inputs that a smaller one does not need; of parts, tells
+    what an environment does, and of sentences, which names look like slips."""
     if request.quiet or not asking.is_had(answer):
         return
     from psyntool import remarks
@@ -127,8 +131,13 @@ class Solving:
         from psyntool import judging, solvers
 
         if request.has(CERT):
-            raise Refused(f"{CERT.name} and {BY.name} can't stand together: the certificate is that of the other solver's solution")
-        self.request, self.picture, self.solver = request, judging.path_of(request), solvers.Solver(request)
+            raise Refused(
+                f"{CERT.name} and {BY.name} can't stand together: "
+                "the certificate is that of the other solver's solution"
+            )
+        self.request = request
+        self.picture = judging.path_of(request)
+        self.solver = solvers.Solver(request)
 
     def run(self, texts, paths, others):
         """Prints the answer of `synth` for the certificate that is made from the other solver's solution; explains the
@@ -142,7 +151,9 @@ class Solving:
         if not asking.is_had(certificate):
             from psyntool.texts import automaton
 
-            return self.solver.hand_on(solved, certificate, self.picture, automaton.read(texts[0].string) if self.picture else None)
+            return self.solver.hand_on(
+                solved, certificate, self.picture, automaton.read(texts[0].string) if self.picture else None
+            )
         given = [*texts, files.Text(Kind.CERTIFICATE, f"the certificate of {self.solver.name}", certificate.bytes)]
         flags = [CERT.name, *request.passed]
         if paths:

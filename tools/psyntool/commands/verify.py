@@ -29,8 +29,8 @@ def checked(request):
 
 
 def hand_on(request, texts, answer):
-    """Writes an answer of `verify` or `shrink`, and returns the exit status. If the circuit loses, writes what the flags
-    ask for to files, and shows the lost run."""
+    """Writes an answer of `verify` or `shrink`, and returns the exit status. If the circuit loses, writes what the
+    flags ask for to files, and shows the lost run."""
     status = asking.hand_on(request, texts, answer)
     if not asking.is_had(answer) or not answer.bytes.startswith(asking.LOSES):
         return status
@@ -42,7 +42,15 @@ def hand_on(request, texts, answer):
     made = {STIMULUS: lambda: given.bytes, WAVE: lambda: wave_of(texts[1], read)}
     outputs.write_all({request.value(flag): made[flag]() for flag in (STIMULUS, WAVE) if request.has(flag)})
     if not request.quiet:
-        console.tell(*tracing.trace([*texts, given], len(read.stem), len(read.lap), is_stopped=True, flags=[flag for flag in request.passed if flag == ENV.name]).splitlines())
+        console.tell(
+            *tracing.trace(
+                [*texts, given],
+                len(read.stem),
+                len(read.lap),
+                is_stopped=True,
+                flags=[flag for flag in request.passed if flag == ENV.name],
+            ).splitlines()
+        )
     return status
 
 

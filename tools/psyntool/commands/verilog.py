@@ -1,5 +1,5 @@
-"""`verilog`: a circuit as a module of Verilog. With a specification, the module is printed only if the circuit wins, and
-each output has the sentences that mention it."""
+"""`verilog`: a circuit as a module of Verilog. With a specification, the module is printed only if the circuit wins,
+and each output has the sentences that mention it."""
 import os
 
 from psyntool import asking, console, files, program, unmentioned
@@ -36,7 +36,8 @@ class Given:
     """The texts of a command line: a circuit, and perhaps a specification with its automaton."""
 
     def __init__(self, request):
-        self.request, self.automaton = request, None
+        self.request = request
+        self.automaton = None
         if request.words.count("-") > 1:
             raise Refused("standard input can be one of the files only")
         if not request.words[1:] and request.passed:
@@ -67,7 +68,10 @@ class Given:
     def judgement(self):
         if not self.automaton:
             return []
-        return [f"psyn verify says that this circuit wins, by {os.path.basename(self.specification.name).removesuffix(WRITTEN_OUT)}."]
+        return [
+            "psyn verify says that this circuit wins, "
+            f"by {os.path.basename(self.specification.name).removesuffix(WRITTEN_OUT)}."
+        ]
 
     def sentences(self):
         """For each proposition that a sentence mentions, these sentences, as lines: of a controller the guarantees, and
@@ -107,5 +111,7 @@ def specification_of(text, reader, request):
         return Text(Kind.AUTOMATON, text.name, made.encode("utf-8", "surrogateescape"))
     if text.looks_like is not Kind.AUTOMATON:
         what = text.looks_like.with_article if text.looks_like else "no automaton" if text.bytes.strip() else "empty"
-        raise Refused(f"{text.name} is {what}; SPEC is an automaton, a list of parts or a specification in temporal logic")
+        raise Refused(
+            f"{text.name} is {what}; SPEC is an automaton, a list of parts or a specification in temporal logic"
+        )
     return text

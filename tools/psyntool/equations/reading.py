@@ -48,8 +48,8 @@ class Register:
 
 @dataclass(frozen=True)
 class Equations:
-    """Wires and outputs, each a pair of a name and a term, and registers. The term of a wire has no later wire. For each
-    output, `sources` has the names of the inputs and latches from which its value is computed."""
+    """Wires and outputs, each a pair of a name and a term, and registers. The term of a wire has no later wire. For
+    each output, `sources` has the names of the inputs and latches from which its value is computed."""
 
     wires: tuple
     outputs: tuple
@@ -66,7 +66,9 @@ class Reading:
     """A circuit whose gates become terms, one after another."""
 
     def __init__(self, made, names):
-        self.made, self.names, self.wires = made, names, []
+        self.made = made
+        self.names = names
+        self.wires = []
         self.sides = {gate.literal // 2: gate.sides for gate in made.gates}
         self.latches = {latch.literal // 2: latch for latch in made.latches}
         self.choices = self.choices_in(Counter(side // 2 for side in self.literals_read()))
@@ -85,7 +87,11 @@ class Reading:
     def literals_read(self):
         """The literals that outputs, latches and gates read."""
         made = self.made
-        return [*made.outputs, *(latch.next for latch in made.latches), *(side for gate in made.gates for side in gate.sides)]
+        return [
+            *made.outputs,
+            *(latch.next for latch in made.latches),
+            *(side for gate in made.gates for side in gate.sides),
+        ]
 
     def choices_in(self, uses):
         """The gates that are a choice between two literals: for each its condition, and what it is where the condition
@@ -93,7 +99,9 @@ class Reading:
         found = {}
         for variable, sides in self.sides.items():
             first, second = (self.sides.get(side // 2) if side % 2 and uses[side // 2] == 1 else None for side in sides)
-            shared = first and second and next(((one, other) for one in first for other in second if one == other ^ 1), None)
+            shared = (
+                first and second and next(((one, other) for one in first for other in second if one == other ^ 1), None)
+            )
             if shared:
                 yes, no = (rest_of(pair, one) for pair, one in zip((first, second), shared))
                 found[variable] = (shared[0], yes ^ 1, no ^ 1)
@@ -122,7 +130,10 @@ class Reading:
         for gate in self.made.gates:
             if gate.literal // 2 in self.read and self.uses[gate.literal // 2]:
                 self.take(gate.literal // 2)
-        outputs = [(name, self.outputs.get(name) or self.of(literal)) for name, literal in zip(self.names.outputs, self.made.outputs)]
+        outputs = [
+            (name, self.outputs.get(name) or self.of(literal))
+            for name, literal in zip(self.names.outputs, self.made.outputs)
+        ]
         registers = [
             Register(name, latch.reset, self.of(latch.next))
             for name, latch in zip(self.names.latches, self.made.latches)

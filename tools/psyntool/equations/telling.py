@@ -19,7 +19,13 @@ def lines(made, head):
         return [f"{head} {together(found) or 'nothing, since it has nothing to say'}"]
     told = [f"{name} = {written(term, PLAIN)}" for name, term in said.wires]
     for name, term in said.outputs:
-        told += [f"{name} is {found[name]}"] if name in found else [] if term == Name(name) else [f"{name} = {written(term, PLAIN)}"]
+        told += (
+            [f"{name} is {found[name]}"]
+            if name in found
+            else []
+            if term == Name(name)
+            else [f"{name} = {written(term, PLAIN)}"]
+        )
     return [head, *(f"  {line}" for line in [*told, *registers_told(said, found)])]
 
 
@@ -48,7 +54,9 @@ def together(found):
     names = {}
     for name, phrase in sorted(found.items(), key=lambda one: one[1] == "always 0"):
         names.setdefault(phrase, []).append(name)
-    return ", ".join(f"{listed(these)} {'is' if len(these) == 1 else 'are'} {phrase}" for phrase, these in names.items())
+    return ", ".join(
+        f"{listed(these)} {'is' if len(these) == 1 else 'are'} {phrase}" for phrase, these in names.items()
+    )
 
 
 def listed(names):
@@ -120,4 +128,7 @@ def repeated(name, firsts, is_opposite):
     if not firsts:
         return f"{opposite}{name} of the same step"
     before, first = ("one step", "the first step") if count == 1 else (f"{count} steps", f"the first {count} steps")
-    return f"{opposite}what {name} was {before} before ({firsts[0] if len(set(firsts)) == 1 else ' '.join(firsts)} in {first})"
+    return (
+        f"{opposite}what {name} was {before} before ({firsts[0] if len(set(firsts)) == 1 else ' '.join(firsts)} "
+        f"in {first})"
+    )

@@ -26,7 +26,10 @@ def written(term, signs):
         return signs.constants[term.value]
     if isinstance(term, Name):
         return signs.name(term.text)
-    sides = [f"({text})" if isinstance(side, (And, Or, Xor, Choice)) else text for side, text in ((side, written(side, signs)) for side in term.sides)]
+    sides = [
+        f"({text})" if isinstance(side, (And, Or, Xor, Choice)) else text
+        for side, text in ((side, written(side, signs)) for side in term.sides)
+    ]
     if isinstance(term, Not):
         return signs.negation + sides[0]
     return signs.choice.format(*sides) if isinstance(term, Choice) else signs.operators[type(term)].join(sides)

@@ -1,5 +1,5 @@
-"""The pictures of a page: as `show` draws them or, if there are many vertices or edges, the graph itself, of which the page
-draws what is around a vertex. Each part of a specification has a small picture of its own."""
+"""The pictures of a page: as `show` draws them or, if there are many vertices or edges, the graph itself, of which the
+page draws what is around a vertex. Each part of a specification has a small picture of its own."""
 import re
 import subprocess
 from dataclasses import dataclass
@@ -34,7 +34,9 @@ def of_automaton(board):
 
 
 def of_game(board):
-    graph = {vertex.identity: {"lines": lines_of(board, vertex), "to": vertex.successors} for vertex in board.game.vertices}
+    graph = {
+        vertex.identity: {"lines": lines_of(board, vertex), "to": vertex.successors} for vertex in board.game.vertices
+    }
     return drawn(graph, lambda: games.picture(board.game, board.certificate, board.automaton))
 
 
@@ -45,8 +47,12 @@ def is_small(graph):
 def of_parts(parts):
     """A small picture as SVG for each part of a specification, or an empty string for a part that is too large."""
     edges = [sum(map(len, part.automaton.edges.values())) for part in parts]
-    small = [part for part, count in zip(parts, edges) if len(part.automaton.states) <= SMALL_STATES and count <= SMALL_EDGES][:MOST_SMALL]
-    made = dict(zip(small, svgs_of("\n".join(automata.picture(part.automaton, has_legend=False) for part in small), len(small))))
+    small = [
+        part for part, count in zip(parts, edges) if len(part.automaton.states) <= SMALL_STATES and count <= SMALL_EDGES
+    ][:MOST_SMALL]
+    made = dict(
+        zip(small, svgs_of("\n".join(automata.picture(part.automaton, has_legend=False) for part in small), len(small)))
+    )
     return [made.get(part, "") for part in parts]
 
 
@@ -68,12 +74,14 @@ def drawn(graph, draw):
 
 
 def svgs_of(dot, count):
-    """The SVG pictures of a number of DOT texts, without ids, which must be unique in a page; empty if Graphviz is missing
-    or too slow."""
+    """The SVG pictures of a number of DOT texts, without ids, which must be unique in a page; empty if Graphviz is
+    missing or too slow."""
     if not count:
         return []
     try:
-        done = subprocess.run(["dot", "-Tsvg"], input=dot.encode("utf-8", "replace"), capture_output=True, timeout=SECONDS, check=False)
+        done = subprocess.run(
+            ["dot", "-Tsvg"], input=dot.encode("utf-8", "replace"), capture_output=True, timeout=SECONDS, check=False
+        )
     except (OSError, subprocess.TimeoutExpired):
         return [""] * count
     found = re.findall(r"(?s)<svg.*?</svg>", done.stdout.decode("utf-8", "replace"))

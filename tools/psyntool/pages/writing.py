@@ -58,7 +58,9 @@ def page(title, board, texts):
 
 
 def refuse_size():
-    raise Refused(f"the page would have more than {MOST_BYTES:,} bytes, which no browser shows well: `play` shows the same")
+    raise Refused(
+        f"the page would have more than {MOST_BYTES:,} bytes, which no browser shows well: `play` shows the same"
+    )
 
 
 def as_utf8(text):
@@ -83,7 +85,10 @@ def order_of(board):
     """Which propositions belong to which player, and which player moves first."""
     environment, controller = (", ".join(name for _, name in these) or "nothing" for these in board.automaton.owners())
     first = board.me if board.am_first else board.other
-    return f"The environment says {escaped(environment)}; the controller says {escaped(controller)}. In each step the {first} moves first."
+    return (
+        f"The environment says {escaped(environment)}; the controller says {escaped(controller)}. "
+        f"In each step the {first} moves first."
+    )
 
 
 def words_of(board):
@@ -97,24 +102,43 @@ def specification_of(board):
     of = board.specification
     if of is None:
         return f"<p>The automaton's acceptance: <code>{escaped(board.automaton.acceptance)}</code>.</p>"
-    rows = [(side, part) for side, parts in (("assumed", of.assumptions), ("guaranteed", of.guarantees)) for part in parts]
-    items = "\n".join(f"<li>{side}: {escaped(part.sentence)} <code>{escaped(part.title)}</code></li>" for side, part in rows)
-    items += "".join(f"\n<li>{SIDES[side]}, but no part by itself: <code>{escaped(said)}</code></li>" for side, said in of.others)
-    return f"<details open><summary>What is wanted, in {len(rows) + len(of.others)} parts</summary>\n<ul>\n{items}\n</ul></details>"
+    rows = [
+        (side, part) for side, parts in (("assumed", of.assumptions), ("guaranteed", of.guarantees)) for part in parts
+    ]
+    items = "\n".join(
+        f"<li>{side}: {escaped(part.sentence)} <code>{escaped(part.title)}</code></li>" for side, part in rows
+    )
+    items += "".join(
+        f"\n<li>{SIDES[side]}, but no part by itself: <code>{escaped(said)}</code></li>" for side, said in of.others
+    )
+    return (
+        "<details open><summary>What is wanted, "
+        f"in {len(rows) + len(of.others)} parts</summary>\n<ul>\n{items}\n</ul></details>"
+    )
 
 
 def parts_of(board):
     """The parts of a specification with their small pictures, as a section of the page; empty without parts."""
     if board.specification is None or not board.assumed and not board.guaranteed:
         return ""
-    rows = [(side, part) for side, parts in (("assumed", board.specification.assumptions), ("guaranteed", board.specification.guarantees)) for part in parts]
+    rows = [
+        (side, part)
+        for side, parts in (
+            ("assumed", board.specification.assumptions), ("guaranteed", board.specification.guarantees)
+        )
+        for part in parts
+    ]
     items = [
-        f'<figure{is_wide(svg) * WIDE}><figcaption>{side}: {escaped(part.sentence)} <code>{escaped(part.title)}</code><br><span></span></figcaption>'
-        f'<div class="wide picture" tabindex="0" role="group" aria-label="the part {escaped(part.title)}, with its present state marked">{svg}</div></figure>'
+        f'<figure{is_wide(svg) * WIDE}><figcaption>{side}: {escaped(part.sentence)} '
+        f'<code>{escaped(part.title)}</code><br><span></span></figcaption><div class="wide picture" tabindex="0" '
+        f'role="group" aria-label="the part {escaped(part.title)}, with its present state marked">{svg}</div></figure>'
         for (side, part), svg in zip(rows, drawing.of_parts([part for _, part in rows]))
     ]
     said = "\n".join(items)
-    return f'<section aria-labelledby="parts-title">\n<h2 id="parts-title">The parts</h2>\n<div id="parts">\n{said}\n</div>\n</section>'
+    return (
+        '<section aria-labelledby="parts-title">\n<h2 id="parts-title">The parts</h2>\n<div '
+        f'id="parts">\n{said}\n</div>\n</section>'
+    )
 
 
 def is_wide(svg):
@@ -129,12 +153,16 @@ def proved_of(board):
     links = {name: f'<a href="#clause-{name}"><code>{name}</code></a>' for name in CLAUSES}
     release, printed = releases.here(), "this game and this circuit for this certificate"
     if not board.is_printed:
-        answered = "<code>wins</code> for this circuit" if board.known_by == "verify" else "this circuit as the answer of <code>shrink</code>"
+        answered = (
+            "<code>wins</code> for this circuit"
+            if board.known_by == "verify"
+            else "this circuit as the answer of <code>shrink</code>"
+        )
         printed = f"this game and this certificate for this automaton, and {answered}"
     said = [
         re.sub(r"`(\w+)`", r"<code>\1</code>", " ".join(sentences_of(board)).format(**links)),
-        f"This is proved with {escaped(release.kit)} of all that psyn prints. When this page was made, by psyn {escaped(release.version)}, the "
-        f"program printed {printed}. The page itself is tested, and not proved.",
+        f"This is proved with {escaped(release.kit)} of all that psyn prints. When this page was made, by psyn "
+        f"{escaped(release.version)}, the program printed {printed}. The page itself is tested, and not proved.",
     ]
     return "\n".join(f"<p>{paragraph}</p>" for paragraph in said)
 
@@ -146,9 +174,15 @@ def sentences_of(board):
 
 def clause_entry(name):
     clause = CLAUSES[name]
-    return f'<dt id="clause-{name}"><code>{name}</code> of <code>{clause.record}</code>, in <code>{clause.file}</code></dt><dd>{clause.words}</dd>'
+    return (
+        f'<dt id="clause-{name}"><code>{name}</code> of <code>{clause.record}</code>, '
+        f'in <code>{clause.file}</code></dt><dd>{clause.words}</dd>'
+    )
 
 
 def link_of(title, name, data):
     """A link by which a browser saves exactly the given bytes as a file."""
-    return f'<a download="{escaped(name)}" href="data:text/plain;base64,{base64.b64encode(data).decode()}">the {escaped(title)}</a>'
+    return (
+        f'<a download="{escaped(name)}" href="data:text/plain;base64,{base64.b64encode(data).decode()}">the '
+        f'{escaped(title)}</a>'
+    )

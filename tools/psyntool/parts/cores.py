@@ -12,7 +12,9 @@ class Asking:
     that it is asked only once about the same parts."""
 
     def __init__(self, specification, flags=()):
-        self.specification, self.composer, self.said = specification, Composer(specification), {}
+        self.specification = specification
+        self.composer = Composer(specification)
+        self.said = {}
         self.head = " ".join(["synth", *flags]) + "\n"
 
     def has_controller(self, assumptions, guarantees):
@@ -50,7 +52,9 @@ def core_of(asking):
 
     parts = shrunk(of.assumptions if has_controller else of.guarantees, stays)
     if not stays(parts) or any(stays(without(parts, place, 1)) for place in range(len(parts))):
-        raise Unwritten("the answers of the program do not fit: with fewer parts of a side an answer came back that was gone")
+        raise Unwritten(
+            "the answers of the program do not fit: with fewer parts of a side an answer came back that was gone"
+        )
     return Core(has_controller, parts, of.having(parts, None) if has_controller else of.having(None, parts))
 
 

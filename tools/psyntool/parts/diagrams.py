@@ -19,7 +19,9 @@ class Diagrams:
         self.names = names
         # for each node: its proposition and its two children; for each leaf: a number greater than any proposition, and
         # its value
-        self.propositions, self.lows, self.highs = [], [], []
+        self.propositions = []
+        self.lows = []
+        self.highs = []
         self.known = {}
         self.texts = {}
 
@@ -28,7 +30,10 @@ class Diagrams:
         if found is None:
             found = self.known[key] = len(self.lows)
             if found > MOST_NODES:
-                raise Refused(f"more than {MOST_NODES:,} sets of letters have to be told apart; leave parts out, or write two as one")
+                raise Refused(
+                    f"more than {MOST_NODES:,} sets of letters have to be told apart; leave parts out, "
+                    "or write two as one"
+                )
             self.propositions.append(proposition)
             self.lows.append(low)
             self.highs.append(high)
@@ -63,7 +68,9 @@ class Diagrams:
             else:
                 (low, high), (other_low, other_high) = self.sides(first, proposition), self.sides(second, proposition)
                 found = self.node(
-                    proposition, self.joined(low, other_low, function, known), self.joined(high, other_high, function, known)
+                    proposition,
+                    self.joined(low, other_low, function, known),
+                    self.joined(high, other_high, function, known),
                 )
             known[key] = found
         return found
@@ -140,7 +147,9 @@ class Diagrams:
                     return dict(path)
                 continue
             proposition = self.propositions[now]
-            waiting += [(self.highs[now], (*path, (proposition, True))), (self.lows[now], (*path, (proposition, False)))]
+            waiting += [
+                (self.highs[now], (*path, (proposition, True))), (self.lows[now], (*path, (proposition, False)))
+            ]
         return None
 
     def labels(self, one):

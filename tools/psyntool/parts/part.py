@@ -73,7 +73,9 @@ def part_of(stem, sentence, renamed, text):
         raise Refused(f"its acceptance is {read.acceptance}; that of a part is `0 t` or `1 Inf(0)`")
     unknown = [old for old in renamed if old not in read.names]
     if unknown:
-        raise Refused(f"it has no proposition {unknown[0]}, so --as can't rename it; it has {', '.join(read.names) or 'none'}")
+        raise Refused(
+            f"it has no proposition {unknown[0]}, so --as can't rename it; it has {', '.join(read.names) or 'none'}"
+        )
     shown = [renamed.get(name, name) for name in read.names]
     names = tuple(renamed.get(name, name).removeprefix(NOT) for name in read.names)
     twice = next((name for name in names if names.count(name) > 1), None)
@@ -101,7 +103,13 @@ def with_negations(read, negated):
 
     for name, label in read.aliases.items():
         aliases[name] = of_label(label)
-    words = ["HOA: v1", *(f"name: {name}" for name in read.headers.get("name:", ())), f"Start: {read.start}", f"AP: {len(read.names)}", *map(quoted, read.names)]
+    words = [
+        "HOA: v1",
+        *(f"name: {name}" for name in read.headers.get("name:", ())),
+        f"Start: {read.start}",
+        f"AP: {len(read.names)}",
+        *map(quoted, read.names),
+    ]
     if "controllable-AP:" in read.headers:
         words += ["controllable-AP:", *map(str, sorted(read.controllable))]
     words += ["Acceptance: " + ("1 Inf(0)" if read.condition == BUCHI else "0 t"), "--BODY--"]
@@ -109,7 +117,11 @@ def with_negations(read, negated):
         words += [f"State: {state}", *(quoted(name) for name in [read.state_names.get(state)] if name)]
         for edge in read.edges.get(state, ()):
             marks = f"{{{' '.join(map(str, sorted(edge.marks)))}}}"
-            words += [f"[{label}] {edge.target} {marks}" for value, label in diagrams.labels(of_label(edge.label)).items() if value]
+            words += [
+                f"[{label}] {edge.target} {marks}"
+                for value, label in diagrams.labels(of_label(edge.label)).items()
+                if value
+            ]
     return " ".join([*words, "--END--"])
 
 
@@ -120,7 +132,11 @@ def with_names(text, renamed):
     for token in (it.text for it in hoa.tokens_of(text)):
         if token.startswith('"'):
             said = hoa.unquoted(token)
-            new = renamed.get(said, said).removeprefix(NOT) if is_listed else re.sub(r"\w+", lambda word: renamed.get(word[0], word[0]), said)
+            new = (
+                renamed.get(said, said).removeprefix(NOT)
+                if is_listed
+                else re.sub(r"\w+", lambda word: renamed.get(word[0], word[0]), said)
+            )
             token = token if new == said else quoted(new)
         elif token.endswith(":"):
             is_listed = token == "AP:"
@@ -150,7 +166,8 @@ class Moves:
     letter violates the part."""
 
     def __init__(self, part, numbers, diagrams):
-        self.part, self.diagrams = part, diagrams
+        self.part = part
+        self.diagrams = diagrams
         self.places = {number: numbers[name] for number, name in enumerate(part.names)}
         aliases = {}
         for name, label in part.automaton.aliases.items():
@@ -158,7 +175,10 @@ class Moves:
         self.of = {state: self.of_state(state, aliases) for state in part.automaton.states}
         hopeless = self.hopeless() if part.is_buchi else frozenset()
         if hopeless:
-            self.of = {state: diagrams.mapped(one, lambda move: None if move is None or move.target in hopeless else move, {}) for state, one in self.of.items()}
+            self.of = {
+                state: diagrams.mapped(one, lambda move: None if move is None or move.target in hopeless else move, {})
+                for state, one in self.of.items()
+            }
         self.start = None if part.automaton.start in hopeless else part.automaton.start
 
     def moved(self, label):
@@ -183,7 +203,10 @@ class Moves:
         if letter is not None:
             numbers = {there: here for here, there in self.places.items()}
             said = labels.letter_text({numbers[number]: truth for number, truth in letter.items()}, self.part.names)
-            raise Refused(f"two edges of state {self.part.automaton.title_of(state)} take {f'the letter {said}' if said else 'each letter'}; a part is deterministic")
+            raise Refused(
+                f"two edges of state {self.part.automaton.title_of(state)} take "
+                f"{f'the letter {said}' if said else 'each letter'}; a part is deterministic"
+            )
 
     def hopeless(self):
         """The states from which no accepting edge can be reached."""

@@ -17,7 +17,9 @@ def told(parts, meant):
     for name, [it, *others] in having.items():
         near = next((one for one in having if is_slip(name, one) and one not in it.names), None)
         if near is not None and not others and name not in meant:
-            lines.append(f"only {it.title} has the proposition {name}; did you mean {near}, of {having[near][0].title}?")
+            lines.append(
+                f"only {it.title} has the proposition {name}; did you mean {near}, of {having[near][0].title}?"
+            )
     return lines
 
 

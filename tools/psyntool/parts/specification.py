@@ -33,8 +33,8 @@ TOLD_BETTER = {"Nondeterministic", "NonParity"}
 
 @dataclass(frozen=True)
 class Specification:
-    """A specification: its assumptions and guarantees, all propositions in order, and the controller's propositions; and,
-    of a translated one, the sentences that are no parts, each with its side."""
+    """A specification: its assumptions and guarantees, all propositions in order, and the controller's propositions;
+    and, of a translated one, the sentences that are no parts, each with its side."""
 
     assumptions: tuple
     guarantees: tuple
@@ -72,7 +72,10 @@ class Wishes:
     """The parts and settings that a command line, and a list that it names, ask for."""
 
     def __init__(self):
-        self.parts, self.outs, self.is_strict, self.is_moore = [], None, False, False
+        self.parts = []
+        self.outs = None
+        self.is_strict = False
+        self.is_moore = False
         # of a specification in temporal logic all names that it declares
         self.names = ()
 
@@ -92,7 +95,9 @@ class Wishes:
                 is_spoken = is_sentence(word, of.folder)
                 if re.fullmatch(r"[A-Za-z_]\w*", word) and not os.path.exists(path):
                     refused_behind(of.place, refuse_name, word)
-                self.parts.append(Wish(name == ASSUME.name, word if is_spoken else path, of.sentence, of.place, is_spoken=is_spoken))
+                self.parts.append(
+                    Wish(name == ASSUME.name, word if is_spoken else path, of.sentence, of.place, is_spoken=is_spoken)
+                )
 
     def rename(self, word, count):
         """Renames a proposition of the last part, which must come from the same command line or list."""
@@ -147,11 +152,16 @@ def listed(text, wishes):
 def refuse_other_words(name, said):
     """Refuses a text that does not begin with a flag, and so is no list, and a flag that no list has."""
     if said and not said[0].text.startswith("-"):
-        raise Refused(f"{said[0].place}: {said[0].text!r} begins no list of parts: a list has {', '.join(FLAGS)}, as in `--guarantee part.hoa`")
+        raise Refused(
+            f"{said[0].place}: {said[0].text!r} begins no list of parts: a list has {', '.join(FLAGS)}, "
+            "as in `--guarantee part.hoa`"
+        )
     for word in said:
         flag = word.text.partition("=")[0]
         if flag.startswith("-") and flag != "-" and flag not in FLAGS:
-            raise Refused(f"{word.place}: a list has no flag {flag}{words.nearest(flag, FLAGS)}; it has {', '.join(FLAGS)}")
+            raise Refused(
+                f"{word.place}: a list has no flag {flag}{words.nearest(flag, FLAGS)}; it has {', '.join(FLAGS)}"
+            )
 
 
 def refuse_name(word):
@@ -173,14 +183,19 @@ def asked(request):
     reader, wishes = Reader(request), Wishes()
     for flag in OF_SENTENCES:
         if request.has(flag):
-            raise Refused(f"{request.command.name} {flag.name} stands beside no parts: {GUARANTEE.name} takes a sentence, too, and {OUTS.name} says whose the names are")
+            raise Refused(
+                f"{request.command.name} {flag.name} stands beside no parts: {GUARANTEE.name} takes a sentence, too, "
+                f"and {OUTS.name} says whose the names are"
+            )
     paths = list(request.words)
     for text in reader.texts([Kind.LIST] * len(paths), paths):
         if text.looks_like is Kind.SPECIFICATION:
             take_specification(text, reader, wishes)
             continue
         if text.looks_like not in (None, Kind.LIST):
-            raise Refused(f"{text.name} is {text.looks_like.with_article}; {request.command.name} reads a list of parts")
+            raise Refused(
+                f"{text.name} is {text.looks_like.with_article}; {request.command.name} reads a list of parts"
+            )
         listed(text, wishes)
     wishes.take(request.given)
     if not wishes.parts:
@@ -219,8 +234,8 @@ def automaton_of_sentences(basic):
 
 
 def of_list(text, reader, request=None):
-    """The specification that a list defines, or one in temporal logic. If the list says that the controller moves first, a
-    given request has the flag that says so."""
+    """The specification that a list defines, or one in temporal logic. If the list says that the controller moves
+    first, a given request has the flag that says so."""
     wishes = Wishes()
     if text.looks_like is Kind.SPECIFICATION:
         take_specification(text, reader, wishes)
@@ -247,7 +262,10 @@ def made(wishes, reader):
 
 def of_wishes(wishes, parts):
     """The specification with the given parts, and the settings that were asked for."""
-    sides = [tuple(it for it, wish in zip(parts, wishes.parts) if wish.is_assumed == is_assumed) for is_assumed in (True, False)]
+    sides = [
+        tuple(it for it, wish in zip(parts, wishes.parts) if wish.is_assumed == is_assumed)
+        for is_assumed in (True, False)
+    ]
     for side in sides:
         refuse_same_titles(side)
     names = tuple(dict.fromkeys([*wishes.names, *(name for it in parts for name in it.names)]))
@@ -321,7 +339,9 @@ def owned(parts, names, outs):
     strange = next((name for name in outs or () if name not in names), None)
     if strange is not None:
         if strange.rstrip(",;") in names:
-            raise Refused(f"{OUTS.shown}: no part has a proposition {strange!r}: write blanks between names, and no comma")
+            raise Refused(
+                f"{OUTS.shown}: no part has a proposition {strange!r}: write blanks between names, and no comma"
+            )
         raise Refused(f"{OUTS.shown}: no part has a proposition {strange}{words.nearest(strange, names)}")
     by = dict.fromkeys(mine, OUTS.name)
     for it in parts:
@@ -344,7 +364,9 @@ def kept(read):
         return None
     said = [hoa.unquoted(token) for token in tokens]
     if len(said) % WORDS_OF_AN_ITEM or any(side not in ("assume", "guarantee") for side in said[::WORDS_OF_AN_ITEM]):
-        raise NotComposed("an item `part:` is not `assume` or `guarantee` with three strings behind it: it was not written by compose")
+        raise NotComposed(
+            "an item `part:` is not `assume` or `guarantee` with three strings behind it: it was not written by compose"
+        )
     sides = {"assume": [], "guarantee": []}
     for at in range(0, len(said), WORDS_OF_AN_ITEM):
         side, title, sentence, text = said[at : at + WORDS_OF_AN_ITEM]
@@ -352,4 +374,11 @@ def kept(read):
     mine = frozenset(read.names[number] for number in read.controllable)
     is_strict = read.headers.get("reading:") == ["strict"]
     words = [hoa.unquoted(token) for token in others]
-    return Specification(tuple(sides["assume"]), tuple(sides["guarantee"]), read.names, mine, is_strict, tuple(zip(words[::2], words[1::2])))
+    return Specification(
+        tuple(sides["assume"]),
+        tuple(sides["guarantee"]),
+        read.names,
+        mine,
+        is_strict,
+        tuple(zip(words[::2], words[1::2])),
+    )

@@ -1,8 +1,8 @@
 """Sentences in temporal logic as parts of a specification.
 
-A sentence becomes a part if no `R` stands below `U` in it, once only names are negated (`G`, `W` count as `R`, and `F` as
-`U`). A state is what is left of the sentence, and what is left of the obligations that were there when all earlier ones
-had last been met; the edge on which these are met is accepting.
+A sentence becomes a part if no `R` stands below `U` in it, once only names are negated (`G`, `W` count as `R`, and `F`
+as `U`). A state is what is left of the sentence, and what is left of the obligations that were there when all earlier
+ones had last been met; the edge on which these are met is accepting.
 """
 from psyntool.ends import Refused
 from psyntool.parts import part
@@ -24,15 +24,19 @@ class Automaton:
     """The automaton of an obligation, whose states are found as they are reached."""
 
     def __init__(self, one: Obligation, obligations: Obligations, names: list):
-        self.names, self.remains = names, Remains(obligations)
+        self.names = names
+        self.remains = Remains(obligations)
         self.is_safe = not has_until(one, {})
         self.first = self.remains.of(one)
-        self.numbers, self.waiting = {}, []
+        self.numbers = {}
+        self.waiting = []
         self.number_of((self.first, self.remains.always if self.is_safe else self.open(self.first)))
 
     def open(self, left: int) -> int:
         """What is left if each obligation that begins with `R` is met, so that only those of `U` and `X` remain."""
-        return self.remains.diagrams.fixed(left, {number: True for number, one in self.remains.parts.items() if one.sign == "R"}, {})
+        return self.remains.diagrams.fixed(
+            left, {number: True for number, one in self.remains.parts.items() if one.sign == "R"}, {}
+        )
 
     def number_of(self, state: tuple) -> int:
         if state not in self.numbers:
@@ -56,7 +60,14 @@ class Automaton:
     def text(self) -> str:
         """The automaton's text."""
         diagrams = Diagrams()
-        words = ["HOA: v1", "Start: 0", f"AP: {len(self.names)}", *map(part.quoted, self.names), "Acceptance: " + ("0 t" if self.is_safe else "1 Inf(0)"), "--BODY--"]
+        words = [
+            "HOA: v1",
+            "Start: 0",
+            f"AP: {len(self.names)}",
+            *map(part.quoted, self.names),
+            "Acceptance: " + ("0 t" if self.is_safe else "1 Inf(0)"),
+            "--BODY--",
+        ]
         while self.waiting:
             state = self.waiting.pop(0)
             moves = self.of_letters(diagrams, state, 0, ())
@@ -66,7 +77,8 @@ class Automaton:
         return " ".join([*words, "--END--"])
 
     def of_letters(self, diagrams: Diagrams, state: tuple, place: int, true: tuple) -> int:
-        """The moves of a state, as a diagram over the names from one on, where the truth of those before it is given."""
+        """The moves of a state, as a diagram over the names from one on, where the truth of those before it is
+        given."""
         if place == len(self.names):
             return diagrams.leaf(self.move(state, frozenset(true)))
         sides = [self.of_letters(diagrams, state, place + 1, those) for those in (true, (*true, self.names[place]))]
@@ -87,7 +99,14 @@ def has_release_below(one: Obligation, is_below: bool, known: dict) -> bool:
     """Whether `R` stands below `U` in an obligation, or anywhere if the obligation stands there itself."""
     if (one, is_below) not in known:
         is_wrong = one.sign == "R" and is_below
-        known[one, is_below] = is_wrong or any(has_release_below(it, is_below or one.sign == "U", known) for it in one.operands if isinstance(it, Obligation))
+        known[one, is_below] = (
+            is_wrong
+            or any(
+                has_release_below(it, is_below or one.sign == "U", known)
+                for it in one.operands
+                if isinstance(it, Obligation)
+            )
+        )
     return known[one, is_below]
 
 
@@ -98,7 +117,9 @@ def part_of(title: str, sentence: str, formula, names: list):
         with limited():
             one = obligations.of(formula)
             if has_release_below(one, False, {}):
-                raise Refused(f"as a part it would have to say what holds for ever at last, and a part can't{AS_A_WHOLE}")
+                raise Refused(
+                    f"as a part it would have to say what holds for ever at last, and a part can't{AS_A_WHOLE}"
+                )
             if len(names) > MOST_NAMES:
                 raise Refused(f"it mentions {len(names)} propositions, and as a part at most {MOST_NAMES}")
             return part.part_of(title, sentence, {}, Automaton(one, obligations, names).text())

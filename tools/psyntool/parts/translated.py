@@ -1,5 +1,6 @@
-"""One automaton for all sentences of a specification in temporal logic. It is composed of the sentences as parts. If some
-sentence can't be a part, it is the program's translation of all, with items for those that can, and for the others."""
+"""One automaton for all sentences of a specification in temporal logic. It is composed of the sentences as parts. If
+some sentence can't be a part, it is the program's translation of all, with items for those that can, and for the
+others."""
 from psyntool import asking, console, files, program, specifying
 from psyntool.ends import Refused
 from psyntool.parts import specification, spoken
@@ -11,8 +12,8 @@ SIDES = {True: "assume", False: "guarantee"}
 
 
 def automaton_of(reader, text, request=None):
-    """The automaton's text, and the composer if all sentences are parts, else None. If the controller moves first, a given
-    request has the flag that says so."""
+    """The automaton's text, and the composer if all sentences are parts, else None. If the controller moves first, a
+    given request has the flag that says so."""
     wishes, basic = specification.Wishes(), specifying.read(reader.specification(text))
     wishes.is_moore = basic.is_moore
     try:
@@ -22,7 +23,9 @@ def automaton_of(reader, text, request=None):
     except Refused as error:
         composer, made = None, translation(text, basic, error)
         if not reader.settings.quiet:
-            console.tell(f"{text.name}: {str(error).removesuffix(spoken.AS_A_WHOLE)}: one automaton of all sentences is shown")
+            console.tell(
+                f"{text.name}: {str(error).removesuffix(spoken.AS_A_WHOLE)}: one automaton of all sentences is shown"
+            )
     if request:
         specification.pass_on_order(wishes, request)
     return made, composer

@@ -30,7 +30,12 @@ def picture(automaton, reach=None, has_legend=True):
         lines += [edge_line(automaton, source, *one) for source, targets in between.items() for one in targets.items()]
     else:
         lines += [state_table(automaton, state, between.get(state, {})) for state in states]
-        lines += [f"  s{source}:t{target} -> s{target};" for source, targets in between.items() for target in targets if source != target]
+        lines += [
+            f"  s{source}:t{target} -> s{target};"
+            for source, targets in between.items()
+            for target in targets
+            if source != target
+        ]
     return "\n".join([*lines, "}", ""])
 
 
@@ -54,13 +59,21 @@ def edge_line(automaton, source, target, edges):
 
 
 def state_table(automaton, state, targets):
-    """A state as a table: its number and name, and a row for each target, with the labels of the edges that lead there."""
+    """A state as a table: its number and name, and a row for each target, with the labels of the edges that lead
+    there."""
     head = html.escape(wrapped(automaton.title_of(state), ",;")).replace("\n", "<br/>")
     rows = [f'<tr><td bgcolor="lightgrey">{head}</td></tr>']
     for target, edges in targets.items():
-        label = html.escape("\n".join(label_of(automaton, edge, TABLE_WIDTH) for edge in edges)).replace("\n", '<br align="left"/>')
-        rows.append(f'<tr><td port="t{target}" align="left" balign="left">{label}<br align="left"/>   to {target}</td></tr>')
-    return f'  s{state} [shape=plain, label=<<table border="1" cellborder="0" cellspacing="0" cellpadding="3">{"".join(rows)}</table>>];'
+        label = html.escape("\n".join(label_of(automaton, edge, TABLE_WIDTH) for edge in edges)).replace(
+            "\n", '<br align="left"/>'
+        )
+        rows.append(
+            f'<tr><td port="t{target}" align="left" balign="left">{label}<br align="left"/>   to {target}</td></tr>'
+        )
+    return (
+        f'  s{state} [shape=plain, '
+        f'label=<<table border="1" cellborder="0" cellspacing="0" cellpadding="3">{"".join(rows)}</table>>];'
+    )
 
 
 def automaton_legend(automaton, is_cut):

@@ -32,9 +32,14 @@ def picture(circuit, reach=None):
     for place, literal in enumerate(circuit.inputs):
         if is_drawn(literal):
             lines.append(f"  n{literal // 2} [shape=invtriangle, label={quoted(circuit.name_of('i', place))}];")
-    lines += [f"  n{latch.literal // 2} [shape=box, label={quoted(circuit.name_of('l', place))}];" for place, latch in latches]
+    lines += [
+        f"  n{latch.literal // 2} [shape=box, label={quoted(circuit.name_of('l', place))}];" for place, latch in latches
+    ]
     small = ", width=0.15, height=0.15, fixedsize=true" if len(gates) > FEW_GATES else ""
-    lines += [f"  n{gate.literal // 2} [shape=circle, label={quoted('' if small else str(gate.literal // 2))}{small}];" for gate in gates]
+    lines += [
+        f"  n{gate.literal // 2} [shape=circle, label={quoted('' if small else str(gate.literal // 2))}{small}];"
+        for gate in gates
+    ]
     used = [*circuit.outputs, *(latch.next for _, latch in latches), *(side for gate in gates for side in gate.sides)]
     if any(literal < 2 for literal in used):
         lines.append('  n0 [shape=plaintext, label="0"];')

@@ -26,7 +26,9 @@ def legend(rows):
         shade = f' bgcolor="{colour}"' if colour else ""
         said = [html.escape(part) for part in (sign, meaning)]
         cells.append(f'<tr><td align="left"{shade}>{said[0]}</td><td align="left">{said[1]}</td></tr>')
-    return f'  labelloc=t; labeljust=l; label=<<table border="0" cellborder="0" cellspacing="2">{"".join(cells)}</table>>;'
+    return (
+        f'  labelloc=t; labeljust=l; label=<<table border="0" cellborder="0" cellspacing="2">{"".join(cells)}</table>>;'
+    )
 
 
 def wrapped(text, ends, width=WIDTH):
@@ -76,4 +78,7 @@ def within(what, count, begins, successors, reach, begin, most_edges=math.inf):
     most = MOST
     if edges > most_edges:
         has, most = has.replace("vertices", f"vertices and {edges} edges"), f"{most_edges} edges"
-    raise Refused(f"{has}, and a picture of more than {most} can't be read: --reach {fitting} draws what so many steps from {begin} reach")
+    raise Refused(
+        f"{has}, and a picture of more than {most} can't be read: "
+        f"--reach {fitting} draws what so many steps from {begin} reach"
+    )

@@ -42,7 +42,9 @@ class Names:
         self.keys = {vertex.identity: self.key_of(vertex) for vertex in game.vertices}
 
     def key_of(self, vertex):
-        state, sign, behind = (vertex.name or "").partition("/") if "/" in (vertex.name or "") else (vertex.name or "").partition(":")
+        state, sign, behind = (
+            (vertex.name or "").partition("/") if "/" in (vertex.name or "") else (vertex.name or "").partition(":")
+        )
         number = None if state == "sink" else int(state) if state.isdecimal() else -1
         if sign == "/" and behind.isdecimal() and (number is None or number in self.states):
             return Key(number, int(behind), None)
@@ -87,7 +89,11 @@ class Names:
         edges, aliases, chain = self.automaton.edges.get(before.state, ()), self.automaton.aliases, self.automaton.chain
         if after.state is None:
             return labels.meeting([(*edge.label, labels.NOT) for edge in edges], aliases, before.letter)
-        fitting = [edge for edge in edges if edge.target == after.state and (chain is None or chain.priority(edge.marks) == after.priority)]
+        fitting = [
+            edge
+            for edge in edges
+            if edge.target == after.state and (chain is None or chain.priority(edge.marks) == after.priority)
+        ]
         found = (labels.meeting([edge.label], aliases, before.letter) for edge in fitting)
         return next((letter for letter in found if letter is not None), None)
 
@@ -97,12 +103,15 @@ class Drawing:
     tables, so that no letter is drawn over another."""
 
     def __init__(self, game, certificate, automaton, reach, cycle=()):
-        self.game, self.entries = game, certificate.entries if certificate else {}
+        self.game = game
+        self.entries = certificate.entries if certificate else {}
         self.cycle = set(zip(cycle, [*cycle[1:], *cycle[:1]]))
         if certificate and set(self.entries) != set(game.by_identity):
             raise Unreadable(OTHER_GAME)
         begins, begin = (cycle, "the cycle") if cycle else ([game.vertices[0].identity], "its first vertex")
-        self.drawn = within("game", len(game.vertices), begins, lambda one: game.by_identity[one].successors, reach, begin)
+        self.drawn = within(
+            "game", len(game.vertices), begins, lambda one: game.by_identity[one].successors, reach, begin
+        )
         self.vertices = [vertex for vertex in game.vertices if self.drawn is None or vertex.identity in self.drawn]
         self.names = Names(automaton, game) if automaton else None
         self.has_tables = bool(self.names) and sum(len(vertex.successors) for vertex in self.vertices) > FEW_EDGES
@@ -138,10 +147,15 @@ class Drawing:
         shade = f' bgcolor="{REGION[entry.winner]}"' if entry else ""
         rows = [f"<tr><td{shade}>{html.escape(self.names.of_choice(vertex))}</td></tr>"]
         for target in vertex.successors:
-            said = html.escape(f"{self.names.of_edge(vertex, self.game.by_identity[target])}   to {self.names.short(target)}")
+            said = html.escape(
+                f"{self.names.of_edge(vertex, self.game.by_identity[target])}   to {self.names.short(target)}"
+            )
             said = f"<b>{said}</b>" if self.is_move(vertex, target) else said
             rows.append(f'<tr><td port="t{target}" align="left">{said}</td></tr>')
-        return f'  v{vertex.identity} [shape=plain, label=<<table border="1" cellborder="0" cellspacing="0">{"".join(rows)}</table>>];'
+        return (
+            f'  v{vertex.identity} [shape=plain, '
+            f'label=<<table border="1" cellborder="0" cellspacing="0">{"".join(rows)}</table>>];'
+        )
 
     def edge_lines(self, vertex):
         entry = self.entries.get(vertex.identity)
@@ -185,14 +199,22 @@ class Drawing:
                 ("red", f"player 1 wins from there, by the bold {bold}", REGION[1]),
             ]
         if self.cycle:
-            rows.append(("blue", f"a cycle that player {self.entries[next(iter(self.cycle))[0]].winner} loses, and was to win", "skyblue"))
+            rows.append((
+                "blue",
+                f"a cycle that player {self.entries[next(iter(self.cycle))[0]].winner} loses, and was to win",
+                "skyblue",
+            ))
         return [*rows, *([("..", "what lies further on is not drawn", "")] if self.drawn is not None else [])]
 
     def letter_rows(self):
         if self.has_tables:
             who = "controller" if self.vertices[0].owner else "environment"
             return [
-                ("table", f"the state's number and what was chosen in it; the {who} moves there, a row for each choice", ""),
+                (
+                    "table",
+                    f"the state's number and what was chosen in it; the {who} moves there, a row for each choice",
+                    "",
+                ),
                 ("a letter", "one of those that lead alike", ""),
             ]
         return [

@@ -18,7 +18,10 @@ from psyntool.texts.circuit import at
 
 PLAYERS = ("environment", "controller")
 OTHER_CIRCUIT = "the circuit is not the one that was printed with this game and this certificate"
-OTHER_NAMES = "the {} wins, but the circuit's inputs and outputs don't have the names of its propositions: `verify` tells which are missing"
+OTHER_NAMES = (
+    "the {} wins, but the circuit's inputs and outputs don't have the names of its propositions: "
+    "`verify` tells which are missing"
+)
 LONGEST_SET = 60
 # Where a letter without an edge leads: to no state, with priority 1.
 NO_END = (None, 1)
@@ -61,19 +64,33 @@ class Board:
     certificate."""
 
     def __init__(self, read, game, certificate, circuit, specification=None, known_by="synth"):
-        self.automaton, self.game, self.certificate, self.circuit, self.known_by = read, game, certificate, circuit, known_by
+        self.automaton = read
+        self.game = game
+        self.certificate = certificate
+        self.circuit = circuit
+        self.known_by = known_by
         if set(certificate.entries) != set(game.by_identity):
             raise Unreadable(OTHER_GAME)
         begin = game.vertices[0]
-        self.begin, self.winner = begin.identity, certificate.entries[begin.identity].winner
+        self.begin = begin.identity
+        self.winner = certificate.entries[begin.identity].winner
         self.names = Names(read, game)
         owned = read.owners()
-        self.mine, self.theirs = owned[self.winner], owned[1 - self.winner]
+        self.mine = owned[self.winner]
+        self.theirs = owned[1 - self.winner]
         self.am_first = begin.owner != self.winner
-        if sorted(circuit.names("i")) != sorted(name for _, name in self.mine) or sorted(circuit.names("o")) != sorted(name for _, name in self.theirs):
+        if (
+            sorted(circuit.names("i")) != sorted(name for _, name in self.mine)
+            or sorted(circuit.names("o")) != sorted(name for _, name in self.theirs)
+        ):
             raise Unreadable(OTHER_CIRCUIT if self.is_printed else OTHER_NAMES.format(PLAYERS[1 - self.winner]))
-        self.places = {(key.state, key.priority): identity for identity, key in self.names.keys.items() if key.letter is None}
-        self.diagrams, self.known_sets, self.known_ends, self.known_choices_at = Diagrams(read.names), {}, {}, {}
+        self.places = {
+            (key.state, key.priority): identity for identity, key in self.names.keys.items() if key.letter is None
+        }
+        self.diagrams = Diagrams(read.names)
+        self.known_sets = {}
+        self.known_ends = {}
+        self.known_choices_at = {}
         numbers = {name: number for number, name in enumerate(read.names)}
         self.specification = specification
         sides = (specification.assumptions, specification.guarantees) if specification else ((), ())
@@ -110,7 +127,9 @@ class Board:
     def counts(self, vertex):
         """The counts that the certificate has for a vertex, from the greatest priority down."""
         entry = self.certificate.entries[vertex]
-        return tuple(entry.counts.get(priority, 0) for priority in sorted(self.certificate.opposing(entry.winner), reverse=True))
+        return tuple(
+            entry.counts.get(priority, 0) for priority in sorted(self.certificate.opposing(entry.winner), reverse=True)
+        )
 
     def choices(self, vertex, theirs, states):
         """The letters that the user can choose at a vertex. Letters for which the automaton has no edge come last.
@@ -134,7 +153,9 @@ class Board:
                 if broken is not None:
                     found = self.diagrams.letter(parted, lambda value, broken=broken: value == broken)
                     letter = {number: found.get(number, False) for number, _ in self.mine}
-                    yield Choice(one, letter, self.set_text(said, letter), after.state, after.priority, self.counts(one), broken)
+                    yield Choice(
+                        one, letter, self.set_text(said, letter), after.state, after.priority, self.counts(one), broken
+                    )
 
     def behind(self, vertex, theirs, ends):
         """The vertices to which the user's letters lead behind a letter of the circuit; `ends` are the ends of these
@@ -151,7 +172,9 @@ class Board:
         given state. For a letter without an edge, the diagram gives the state and the priority of the game's sink."""
         if state not in self.known_ends:
             edges = self.automaton.edges.get(state, ())
-            sets = [(self.set_of(edge.label), (edge.target, self.automaton.chain.priority(edge.marks))) for edge in edges]
+            sets = [
+                (self.set_of(edge.label), (edge.target, self.automaton.chain.priority(edge.marks))) for edge in edges
+            ]
             self.known_ends[state] = self.diagrams.parting(sets, NO_END)
         return self.known_ends[state]
 
@@ -176,16 +199,21 @@ class Board:
         for moves, state in zip(self.guaranteed, states):
             if state is not None:
                 title = (moves.part.title,)
-                here = self.diagrams.mapped(moves.of[state], lambda move, title=title: title if move is None else (), {})
+                here = self.diagrams.mapped(
+                    moves.of[state], lambda move, title=title: title if move is None else (), {}
+                )
                 whole = self.diagrams.joined(whole, here, added, {})
         return whole
 
     def longest(self, choices, theirs, states):
         """The choice that should delay the user's loss longest. This is the choice whose vertex has the greatest counts
         in the certificate, compared from the greatest priority down. Among equals, a controller takes the choice behind
-        which most guarantees are kept longest (`kept`); among equals again, the vertex with the smallest id is taken."""
+        which most guarantees are kept longest (`kept`); among equals again, the vertex with the smallest id is
+        taken."""
         most = max(choice.counts for choice in choices)
-        tied = sorted((choice for choice in choices if choice.counts == most), key=lambda choice: choice.vertex)[:MOST_TIED]
+        tied = sorted((choice for choice in choices if choice.counts == most), key=lambda choice: choice.vertex)[
+            :MOST_TIED
+        ]
         if len(tied) == 1 or self.winner == 0 or not self.guaranteed or None in states:
             return tied[0]
         return max(tied, key=lambda choice: self.kept(choice, theirs, states))
@@ -209,7 +237,10 @@ class Board:
                 break
             seen[vertex] = step
             theirs = self.their_letter(vertex)
-            choice = max(self.known_choices(vertex, theirs, tuple(states)), key=lambda it: (it.counts, -len(it.broken), -it.vertex))
+            choice = max(
+                self.known_choices(vertex, theirs, tuple(states)),
+                key=lambda it: (it.counts, -len(it.broken), -it.vertex),
+            )
         if vertex in seen:
             # what the loop does not meet fails too
             for place in range(len(states)):
@@ -252,7 +283,9 @@ class Circuit:
     """The circuit of a play, which the program simulates."""
 
     def __init__(self, board, text):
-        self.board, self.text, self.made = board, text, board.circuit.ordered
+        self.board = board
+        self.text = text
+        self.made = board.circuit.ordered
         numbers = {name: number for number, name in enumerate(board.automaton.names)}
         self.inputs, self.outputs = ([numbers[name] for name in board.circuit.names(kind)] for kind in "io")
 
@@ -289,7 +322,9 @@ class Play:
     """An interactive play: the steps that were played, and the present state."""
 
     def __init__(self, board, text):
-        self.board, self.circuit, self.steps = board, Circuit(board, text), []
+        self.board = board
+        self.circuit = Circuit(board, text)
+        self.steps = []
         self.look()
 
     @property
@@ -315,7 +350,14 @@ class Play:
         nothing = self.circuit.digits({number: False for number, _ in self.board.mine})
         self.latches, said = self.circuit.after([*self.lines, nothing])
         self.theirs = None if self.board.am_first else said
-        self.loop = next((place for place, step in enumerate(self.steps) if (step.state, step.latches) == (self.state, self.latches)), None)
+        self.loop = next(
+            (
+                place
+                for place, step in enumerate(self.steps)
+                if (step.state, step.latches) == (self.state, self.latches)
+            ),
+            None,
+        )
 
     @property
     def is_over(self):
@@ -372,7 +414,8 @@ class Play:
 
     def end_behind(self, last):
         """Leaves out what was played behind a step, and the loop."""
-        self.steps, self.loop = self.steps[: last + 1], None
+        self.steps = self.steps[: last + 1]
+        self.loop = None
 
     def stimulus(self):
         """The user's letters as a lasso stimulus, whose lap (repeated part) is the loop of the play or, without a loop,

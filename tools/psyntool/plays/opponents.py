@@ -1,5 +1,5 @@
-"""The circuit against which a user plays. Where the environment wins, it is one that `shrink` has made smaller, since its
-moves are easier to see through."""
+"""The circuit against which a user plays. Where the environment wins, it is one that `shrink` has made smaller, since
+its moves are easier to see through."""
 from dataclasses import replace
 
 from psyntool import asking, files, limits, outputs, program, shrinking
@@ -32,13 +32,17 @@ def smaller(given):
     refuse_losing(given, answer)
     if not shrinking.is_circuit(answer):
         return given
-    return with_circuit(given, files.Text(Kind.CIRCUIT, given.printed[0].name, answer.bytes + outputs.CIRCUIT_ENDING.encode()), "shrink")
+    return with_circuit(
+        given, files.Text(Kind.CIRCUIT, given.printed[0].name, answer.bytes + outputs.CIRCUIT_ENDING.encode()), "shrink"
+    )
 
 
 def with_circuit(given, text, known_by):
     """The same with another circuit, which is known to win by a command of the program."""
     printed = (text, *given.printed[1:])
-    board = reading.board_of(given.automaton, *(it.string for it in printed), name=given.specification.name, known_by=known_by)
+    board = reading.board_of(
+        given.automaton, *(it.string for it in printed), name=given.specification.name, known_by=known_by
+    )
     return replace(given, printed=printed, board=board)
 
 

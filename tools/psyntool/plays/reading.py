@@ -64,8 +64,8 @@ def board_of(text, *printed, name="", known_by="synth"):
 
 
 def written_beside(reader, spec, path):
-    """The text of the automaton in a file, with the sentences, if there is a specification in temporal logic, and `agree`
-    finds that the automaton accepts exactly the words that satisfy it; else None."""
+    """The text of the automaton in a file, with the sentences, if there is a specification in temporal logic, and
+    `agree` finds that the automaton accepts exactly the words that satisfy it; else None."""
     if spec.looks_like is not Kind.SPECIFICATION or not os.path.exists(path):
         return None
     from psyntool import specifying

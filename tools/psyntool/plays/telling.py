@@ -15,7 +15,11 @@ def offered(play):
     longest."""
     choices = play.choices()
     best, width = play.longest(choices), max(len(choice.said) for choice in choices)
-    lines = [f"{'*' if choice is best else ' '}{number:>3}  {choice.said:<{width}}  -> {where(play.board, play.aimed(choice))}" for number, choice in enumerate(choices, 1)]
+    lines = [
+        f"{'*' if choice is best else ' '}{number:>3}  {choice.said:<{width}}  "
+        f"-> {where(play.board, play.aimed(choice))}"
+        for number, choice in enumerate(choices, 1)
+    ]
     return choices, lines
 
 
@@ -61,7 +65,9 @@ def table(play):
     rows = [head]
     for place, step in enumerate(play.steps):
         said = [board.letter_text({number: step.letter[number] for number in these}) for these in owned]
-        rows.append((str(place), board.title(step.state), *said, "no edge" if step.target is None else str(step.priority)))
+        rows.append(
+            (str(place), board.title(step.state), *said, "no edge" if step.target is None else str(step.priority))
+        )
     widths = [max(len(row[column]) for row in rows) for column in range(len(head))]
     lines = ["  ".join(word.ljust(width) for word, width in zip(row, widths)).rstrip() for row in rows]
     if play.loop is not None:

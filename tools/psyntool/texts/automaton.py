@@ -54,7 +54,9 @@ class Automaton:
         """The first edge of a state that can be taken if exactly the propositions in `true` are true, because its label
         holds then; None if there is none."""
         edges = self.edges.get(state, ())
-        place = labels.first_met([edge.label for edge in edges], {number: number in true for number in range(len(self.names))}, self.aliases)
+        place = labels.first_met(
+            [edge.label for edge in edges], {number: number in true for number in range(len(self.names))}, self.aliases
+        )
         return None if place is None else edges[place]
 
 
@@ -70,7 +72,17 @@ def read(text):
         state, name, these = hoa.state_of(reader, head)
         edges[state], names[state] = these, name
     reader.take(hoa.STOP)
-    return Automaton(head.start, head.names, head.controllable, head.acceptance, head.condition, head.aliases, names, edges, head.others)
+    return Automaton(
+        head.start,
+        head.names,
+        head.controllable,
+        head.acceptance,
+        head.condition,
+        head.aliases,
+        names,
+        edges,
+        head.others,
+    )
 
 
 def place_without_owners(text):

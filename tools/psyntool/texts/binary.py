@@ -97,7 +97,9 @@ def in_order(gates):
         while stack:
             gate = stack[-1]
             variable = gate.literal // 2
-            waiting = [by_variable[side // 2] for side in gate.sides if side // 2 in by_variable and side // 2 not in done]
+            waiting = [
+                by_variable[side // 2] for side in gate.sides if side // 2 in by_variable and side // 2 not in done
+            ]
             if variable in done or not waiting:
                 stack.pop()
                 if variable not in done:

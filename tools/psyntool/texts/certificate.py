@@ -36,7 +36,9 @@ class Certificate:
         lines += [" ".join([word, *map(str, these)]) for word, these in (("odd", self.odd), ("even", self.even))]
         for identity, entry in self.entries.items():
             counts = [entry.counts.get(priority, 0) for priority in self.opposing(entry.winner)]
-            lines.append(" ".join(map(str, [identity, entry.winner, "-" if entry.move is None else entry.move, *counts])))
+            lines.append(
+                " ".join(map(str, [identity, entry.winner, "-" if entry.move is None else entry.move, *counts]))
+            )
         return "\n".join([*lines, ""])
 
 

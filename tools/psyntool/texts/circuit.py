@@ -52,7 +52,9 @@ class Circuit:
     @property
     def needed_variables(self):
         """The variables on which the outputs depend, by gates and latches."""
-        sides = {gate.literal // 2: gate.sides for gate in self.gates} | {latch.literal // 2: (latch.next,) for latch in self.latches}
+        sides = {gate.literal // 2: gate.sides for gate in self.gates} | {
+            latch.literal // 2: (latch.next,) for latch in self.latches
+        }
         found, waiting = set(), [literal // 2 for literal in self.outputs]
         while waiting:
             one = waiting.pop()
@@ -127,7 +129,10 @@ class Circuit:
         most = max([0, *defined, *(2 * variable for variable in self.read_variables)]) // 2
         head = ("aag", most, len(self.inputs), len(self.latches), len(self.outputs), len(self.gates))
         rows = [head, *((literal,) for literal in self.inputs)]
-        rows += [(latch.literal, latch.next, latch.reset) if latch.reset else (latch.literal, latch.next) for latch in self.latches]
+        rows += [
+            (latch.literal, latch.next, latch.reset) if latch.reset else (latch.literal, latch.next)
+            for latch in self.latches
+        ]
         rows += [*((literal,) for literal in self.outputs), *((gate.literal, *gate.sides) for gate in self.gates)]
         return "".join(" ".join(map(str, row)) + "\n" for row in rows) + self.ending
 

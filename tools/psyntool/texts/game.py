@@ -44,7 +44,9 @@ class Game:
         lines = [f"parity {max(vertex.identity for vertex in self.vertices)};"]
         for vertex in self.vertices:
             name = "" if vertex.name is None else f' "{vertex.name}"'
-            lines.append(f"{vertex.identity} {vertex.priority} {vertex.owner} {','.join(map(str, vertex.successors))}{name};")
+            lines.append(
+                f"{vertex.identity} {vertex.priority} {vertex.owner} {','.join(map(str, vertex.successors))}{name};"
+            )
         return "\n".join([*lines, ""])
 
 

@@ -55,7 +55,8 @@ class Reader:
     """A list of tokens, and the parser's position in it."""
 
     def __init__(self, tokens):
-        self.tokens, self.at = tokens, 0
+        self.tokens = tokens
+        self.at = 0
         # the labels of edges that were parsed, by their tokens
         self.labels = {}
 

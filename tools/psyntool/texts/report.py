@@ -20,5 +20,7 @@ def read(text):
     word, newline, rest = text.partition("\n")
     parts = tuple(rest.split("\n" + SEPARATOR))
     if word not in WORDS or not newline or len(parts) not in (1, 3):
-        raise Unreadable("this is no answer of `synth`: REALIZABLE or UNREALIZABLE, a circuit, and a game and a certificate or none")
+        raise Unreadable(
+            "this is no answer of `synth`: REALIZABLE or UNREALIZABLE, a circuit, and a game and a certificate or none"
+        )
     return Report(word, tuple(part + "\n" for part in parts[:-1]) + parts[-1:])

@@ -8,7 +8,8 @@ LISTS = ("INPUTS", "OUTPUTS")
 
 
 def owners(text):
-    """The names of the environment's propositions, and those of the controller's, in the order of their declarations."""
+    """The names of the environment's propositions, and those of the controller's, in the order of their
+    declarations."""
     words = list(words_of(text))
     return [declared(words, title) for title in LISTS]
 
@@ -16,7 +17,9 @@ def owners(text):
 def names(text):
     """The names of all propositions, in the order of their declarations."""
     words = list(words_of(text))
-    return [name for title in sorted(LISTS, key=lambda title: begin(words, title) or 0) for name in declared(words, title)]
+    return [
+        name for title in sorted(LISTS, key=lambda title: begin(words, title) or 0) for name in declared(words, title)
+    ]
 
 
 def is_moore(text):
@@ -38,7 +41,9 @@ def words_of(text):
 
 def begin(words, title):
     """The place of a word behind which a brace stands, or None. A tag may be such a word, and so may a name."""
-    return next((place for place, word in enumerate(words) if word == title and words[place + 1 : place + 2] == ["{"]), None)
+    return next(
+        (place for place, word in enumerate(words) if word == title and words[place + 1 : place + 2] == ["{"]), None
+    )
 
 
 def declared(words, title):

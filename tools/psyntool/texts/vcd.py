@@ -44,11 +44,19 @@ def wave(circuit, trace, lap_from=None):
         if [len(part) for part in row] != counts:
             raise Unreadable(f"line {time + 1} of the trace is not one of this circuit: {'|'.join(row)[:60]!r}")
     scopes += [] if lap_from is None else [("lasso", ["lap"])]
-    lines = ["$timescale 1 ns $end", "$scope module circuit $end", *declarations(scopes), "$upscope $end", "$enddefinitions $end"]
+    lines = [
+        "$timescale 1 ns $end",
+        "$scope module circuit $end",
+        *declarations(scopes),
+        "$upscope $end",
+        "$enddefinitions $end",
+    ]
     before = None
     for time, row in enumerate(rows):
         values = "".join(row) + ("" if lap_from is None else str(int(time >= lap_from)))
         lines.append(f"#{time}")
-        lines += [f"{value}{code_of(place)}" for place, value in enumerate(values) if before is None or before[place] != value]
+        lines += [
+            f"{value}{code_of(place)}" for place, value in enumerate(values) if before is None or before[place] != value
+        ]
         before = values
     return "\n".join([*lines, f"#{len(rows)}", ""])

@@ -78,9 +78,17 @@ def module(made, title, about=(), remarks=None):
     said = equations(made, Names(inputs, latches, outputs, wires.__getitem__))
     clocks = clocks if said.registers else ()
     ports = [*(("input", name) for name in (*clocks, *inputs)), *(("output", name) for name in outputs)]
-    body = [*declared(said), *assigned(made, said, inputs, remarks or {}), *(clocked(said.registers, *clocks) if clocks else [])]
-    lines = [f"// {shown(line)}" for line in (*about, *timing(clocks), *scope.changed, *left_out(latches, said.registers))]
-    return "\n".join([*lines, *heading(plain(title), ports), *(f"  {line}" if line else "" for line in body), "endmodule", ""])
+    body = [
+        *declared(said),
+        *assigned(made, said, inputs, remarks or {}),
+        *(clocked(said.registers, *clocks) if clocks else []),
+    ]
+    lines = [
+        f"// {shown(line)}" for line in (*about, *timing(clocks), *scope.changed, *left_out(latches, said.registers))
+    ]
+    return "\n".join(
+        [*lines, *heading(plain(title), ports), *(f"  {line}" if line else "" for line in body), "endmodule", ""]
+    )
 
 
 def plain(title):
@@ -103,13 +111,19 @@ def timing(clocks):
 def left_out(latches, registers):
     kept = {register.name for register in registers}
     names = [name for name in latches if name not in kept]
-    return [f"No output depends on {', '.join(names)}, which {'is' if len(names) == 1 else 'are'} left out."] if names else []
+    return (
+        [f"No output depends on {', '.join(names)}, which {'is' if len(names) == 1 else 'are'} left out."]
+        if names
+        else []
+    )
 
 
 def heading(name, ports):
     """The lines up to the end of the list of ports."""
     lines = [f"  {way} wire {identifier(port)}" for way, port in ports]
-    return [f"module {name} (", *(f"{line}," for line in lines[:-1]), lines[-1], ");"] if ports else [f"module {name} ();"]
+    return (
+        [f"module {name} (", *(f"{line}," for line in lines[:-1]), lines[-1], ");"] if ports else [f"module {name} ();"]
+    )
 
 
 def declared(said):
@@ -132,7 +146,11 @@ def told(port, phrase, sources, inputs):
     if phrase:
         return f"{port} is {phrase}."
     sides = [[name for name in sources if (name in inputs) == is_input] for is_input in (True, False)]
-    said = [f"the {title}{'s' * (len(names) > 1)} {', '.join(names)}" for title, names in zip(("input", "register"), sides) if names]
+    said = [
+        f"the {title}{'s' * (len(names) > 1)} {', '.join(names)}"
+        for title, names in zip(("input", "register"), sides)
+        if names
+    ]
     return f"{port} is computed from {' and '.join(said)}."
 
 
@@ -140,4 +158,12 @@ def clocked(registers, clock, reset):
     """The block that moves the registers to their next values."""
     firsts = [f"    {identifier(it.name)} <= 1'b{it.first};" for it in registers]
     nexts = [f"    {identifier(it.name)} <= {text(it.next)};" for it in registers]
-    return ["", f"always @(posedge {identifier(clock)})", f"  if ({identifier(reset)}) begin", *firsts, "  end else begin", *nexts, "  end"]
+    return [
+        "",
+        f"always @(posedge {identifier(clock)})",
+        f"  if ({identifier(reset)}) begin",
+        *firsts,
+        "  end else begin",
+        *nexts,
+        "  end",
+    ]

@@ -20,7 +20,10 @@ class Sides:
 
     def having(self, assumptions=None, guarantees=None):
         """The specification with only the given sentences of each side, or with all of them."""
-        sides = self.assumptions if assumptions is None else tuple(assumptions), self.guarantees if guarantees is None else tuple(guarantees)
+        sides = (
+            self.assumptions if assumptions is None else tuple(assumptions),
+            self.guarantees if guarantees is None else tuple(guarantees),
+        )
         return replace(self, assumptions=sides[0], guarantees=sides[1])
 
     def text(self) -> str:
@@ -28,15 +31,18 @@ class Sides:
 
 
 def sides_of(basic: Basic) -> Sides:
-    return Sides(basic, *(tuple(one for one in basic.sentences if one.word in words) for words in (ASSUMED, GUARANTEED)))
+    return Sides(
+        basic, *(tuple(one for one in basic.sentences if one.word in words) for words in (ASSUMED, GUARANTEED))
+    )
 
 
 class Asking:
-    """Whether a specification has a controller if only some of its sentences are used. The program's answers are kept, so
-    that it is asked only once about the same sentences."""
+    """Whether a specification has a controller if only some of its sentences are used. The program's answers are kept,
+    so that it is asked only once about the same sentences."""
 
     def __init__(self, specification: Sides):
-        self.specification, self.said = specification, {}
+        self.specification = specification
+        self.said = {}
 
     def has_controller(self, assumptions, guarantees) -> bool:
         """Whether there is a controller for these assumptions and guarantees, as the program answers."""
@@ -45,7 +51,9 @@ class Asking:
     def answer(self, assumptions, guarantees) -> program.Answer:
         asked = frozenset(map(id, assumptions)), frozenset(map(id, guarantees))
         if asked not in self.said:
-            self.said[asked] = answer_to(self.specification.having(assumptions, guarantees).text(), len(assumptions) + len(guarantees))
+            self.said[asked] = answer_to(
+                self.specification.having(assumptions, guarantees).text(), len(assumptions) + len(guarantees)
+            )
         return self.said[asked]
 
 

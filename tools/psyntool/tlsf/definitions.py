@@ -17,9 +17,12 @@ class Definitions:
 
     def __init__(self, read: Specification, settings: dict):
         self.evaluator = Evaluator(self.declared, self.called)
-        self.places, self.written = {}, {}
+        self.places = {}
+        self.written = {}
         # values that are known, and definitions; and those that are being evaluated, with what they need
-        self.values, self.definitions, self.open = {}, {}, set()
+        self.values = {}
+        self.definitions = {}
+        self.open = set()
         self.parameters = {made.name for made in read.parameters}
         for made in (*read.parameters, *read.definitions):
             self.declare(made.at, made.name)
@@ -50,10 +53,16 @@ class Definitions:
             self.declare(value.at, value.name)
             for at, pattern in value.patterns:
                 if len(pattern) > MOST_NAMES:
-                    raise Wrong(at, f"this value has {len(pattern):,} bits, and psyn reads at most {MOST_NAMES} inputs and outputs together")
+                    raise Wrong(
+                        at,
+                        f"this value has {len(pattern):,} bits, "
+                        f"and psyn reads at most {MOST_NAMES} inputs and outputs together",
+                    )
                 if len(pattern) != width:
                     raise Wrong(at, f"this value has {len(pattern)} bits, and those before it have {width}")
-                other = next((name for name, before in seen if name != value.name and have_common(before, pattern)), None)
+                other = next(
+                    (name for name, before in seen if name != value.name and have_common(before, pattern)), None
+                )
                 if other:
                     raise Wrong(at, f"`{other}` and `{value.name}` have bits in common")
                 seen.append((value.name, pattern))
@@ -66,7 +75,10 @@ class Definitions:
         if made.enumeration:
             enumeration = made.enumeration.text
             if enumeration not in self.enumerations:
-                raise Wrong(made.enumeration.at, f"there is no enumeration `{enumeration}`{hint(enumeration, self.enumerations)}")
+                raise Wrong(
+                    made.enumeration.at,
+                    f"there is no enumeration `{enumeration}`{hint(enumeration, self.enumerations)}",
+                )
             width = self.enumerations[enumeration][0].width
         elif made.width is not None:
             width = self.evaluator.number(made.width, {})
@@ -77,7 +89,11 @@ class Definitions:
             value = self.evaluator.formulas.name(made.name)
         else:
             if width > MOST_NAMES:
-                raise Wrong(made.at, f"the bus `{made.name}` has {width:,} signals, and psyn reads at most {MOST_NAMES} inputs and outputs together")
+                raise Wrong(
+                    made.at,
+                    f"the bus `{made.name}` has {width:,} signals, "
+                    f"and psyn reads at most {MOST_NAMES} inputs and outputs together",
+                )
             names = tuple(f"{made.name}_{index}" for index in range(width))
             for index, name in enumerate(names):
                 self.write(made.at, name, f"{made.name}[{index}]")
@@ -88,18 +104,31 @@ class Definitions:
     def write(self, at: int, name: str, said: str):
         """Takes a name of the basic form, which no other signal has."""
         if name in self.written:
-            raise Wrong(at, f"`{self.written[name]}` and `{said}` are both written as `{name}` in the basic form: give one of them another name")
+            raise Wrong(
+                at,
+                f"`{self.written[name]}` and `{said}` are both written as `{name}` in the basic form: "
+                "give one of them another name",
+            )
         if len(self.written) == MOST_NAMES:
-            raise Wrong(at, f"there are more than {MOST_NAMES} inputs and outputs, the most that psyn reads, and `{said}` is one more")
+            raise Wrong(
+                at,
+                f"there are more than {MOST_NAMES} inputs and outputs, the most that psyn reads, "
+                f"and `{said}` is one more",
+            )
         self.written[name] = said
 
     def in_enumeration(self, at: int, bus: Bus):
         """The formula that a bus has some value of its enumeration, which is `true` if it always has."""
         formulas, width = self.evaluator.formulas, len(bus.signals)
         patterns = [pattern for bits in self.enumerations[bus.enumeration] for pattern in bits.patterns]
-        if width <= MOST_BITS and all(any(have_common(f"{row:0{width}b}", pattern) for pattern in patterns) for row in range(1 << width)):
+        if (
+            width <= MOST_BITS
+            and all(any(have_common(f"{row:0{width}b}", pattern) for pattern in patterns) for row in range(1 << width))
+        ):
             return True
-        return formulas.joined(at, "||", [sentences.has_bits(formulas, at, bus, bits) for bits in self.enumerations[bus.enumeration]])
+        return formulas.joined(
+            at, "||", [sentences.has_bits(formulas, at, bus, bits) for bits in self.enumerations[bus.enumeration]]
+        )
 
     # ---- names and calls in expressions
 
@@ -113,7 +142,11 @@ class Definitions:
             raise Wrong(at, f"`{name}` is defined by itself")
         self.open.add(name)
         made = self.definitions[name]
-        self.values[name] = self.evaluator.number(made.clauses[0].value, {}) if name in self.parameters else self.by_clauses(at, made, {})
+        self.values[name] = (
+            self.evaluator.number(made.clauses[0].value, {})
+            if name in self.parameters
+            else self.by_clauses(at, made, {})
+        )
         self.open.remove(name)
         return self.values[name]
 
@@ -140,7 +173,9 @@ class Definitions:
     def holds(self, guard, scope: dict) -> bool:
         value = self.evaluator.value(guard, scope)
         if not isinstance(value, bool):
-            raise Wrong(guard.at, f"a guard is decided when the specification is written out, and this is {described(value)}")
+            raise Wrong(
+                guard.at, f"a guard is decided when the specification is written out, and this is {described(value)}"
+            )
         return value
 
     # ---- patterns
@@ -157,7 +192,12 @@ class Definitions:
             found.update({pattern.text: formula} if pattern.text != WILD else {})
             return True
         if isinstance(pattern, Truth):
-            return formula is pattern.value or isinstance(formula, Formula) and not formula.sign and formula.operands == ("true" if pattern.value else "false",)
+            return (
+                formula is pattern.value
+                or isinstance(formula, Formula)
+                and not formula.sign
+                and formula.operands == ("true" if pattern.value else "false",)
+            )
         sign, operands = outermost(pattern)
         if not isinstance(formula, Formula) or formula.sign != sign:
             return False
@@ -179,8 +219,13 @@ def outermost(pattern) -> tuple:
 def grouped(pattern: Chain) -> tuple:
     """The two operands of the outermost operator of a chain."""
     if pattern.is_right:
-        return pattern.operands[0], Chain(pattern.operands[1].at, pattern.signs[1:], pattern.places[1:], pattern.operands[1:], True)
-    return Chain(pattern.at, pattern.signs[:-1], pattern.places[:-1], pattern.operands[:-1], False), pattern.operands[-1]
+        return (
+            pattern.operands[0],
+            Chain(pattern.operands[1].at, pattern.signs[1:], pattern.places[1:], pattern.operands[1:], True),
+        )
+    return (
+        Chain(pattern.at, pattern.signs[:-1], pattern.places[:-1], pattern.operands[:-1], False), pattern.operands[-1]
+    )
 
 
 def have_common(left: str, right: str) -> bool:

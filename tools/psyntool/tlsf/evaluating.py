@@ -20,7 +20,10 @@ class Evaluator:
     """Evaluates expressions. `declared` maps a name to its value, `called` calls a definition."""
 
     def __init__(self, declared, called):
-        self.formulas, self.sets, self.declared, self.called = Formulas(), Sets(), declared, called
+        self.formulas = Formulas()
+        self.sets = Sets()
+        self.declared = declared
+        self.called = called
         self.deep = 0
         self.rules = {
             Number: lambda it, scope: it.value,
@@ -43,7 +46,10 @@ class Evaluator:
         self.formulas.spend(it.at, 1)
         self.deep += 1
         if self.deep > MOST_DEEP:
-            raise Wrong(it.at, f"calls and operators nest more than {MOST_DEEP:,} deep here: does a function call itself without end?")
+            raise Wrong(
+                it.at,
+                f"calls and operators nest more than {MOST_DEEP:,} deep here: does a function call itself without end?",
+            )
         made = self.rules[type(it)](it, scope)
         self.deep -= 1
         return made
@@ -64,9 +70,13 @@ class Evaluator:
         if isinstance(value, (bool, Formula)):
             return value
         if isinstance(value, Bus):
-            raise Wrong(at, f"a formula is wanted here, and `{value.name}` is a bus: name one of its signals, `{value.name}[i]`")
+            raise Wrong(
+                at, f"a formula is wanted here, and `{value.name}` is a bus: name one of its signals, `{value.name}[i]`"
+            )
         if isinstance(value, Bits):
-            raise Wrong(at, f"a formula is wanted here, and this is {described(value)}: compare a bus with it, by `==` or `!=`")
+            raise Wrong(
+                at, f"a formula is wanted here, and this is {described(value)}: compare a bus with it, by `==` or `!=`"
+            )
         raise Wrong(at, f"a formula is wanted here, and this is {described(value)}")
 
     def elements(self, it, scope: dict) -> Elements:
@@ -91,7 +101,13 @@ class Evaluator:
             raise Wrong(it.at, f"`{it.name}` is {described(bus)}, and only a bus has an index")
         if not 0 <= index < len(bus.signals):
             last = len(bus.signals) - 1
-            has = f"has the signals {bus.name}[0] to {bus.name}[{last}]" if last > 0 else f"has the signal {bus.name}[0] alone" if not last else "has no signal"
+            has = (
+                f"has the signals {bus.name}[0] to {bus.name}[{last}]"
+                if last > 0
+                else f"has the signal {bus.name}[0] alone"
+                if not last
+                else "has no signal"
+            )
             raise Wrong(it.index.at, f"the bus {has}, and this is {bus.name}[{index}]")
         return self.formulas.name(bus.signals[index])
 
@@ -107,7 +123,10 @@ class Evaluator:
     def range(self, it, scope: dict) -> Elements:
         first, second, last = [self.number(one, scope) for one in (it.first, it.second, it.last)]
         if first == second:
-            raise Wrong(it.second.at, f"the range {{{first}, {second} .. {last}}} has no step: its first two numbers are the same")
+            raise Wrong(
+                it.second.at,
+                f"the range {{{first}, {second} .. {last}}} has no step: its first two numbers are the same",
+            )
         step = second - first
         count = max(0, (last - first) // step + 1)
         if count > MOST_ELEMENTS:
@@ -121,7 +140,9 @@ class Evaluator:
             yield scope
             return
         choice = choices[0]
-        for value in self.between(choice, scope) if isinstance(choice, Between) else self.elements(choice.elements, scope).items:
+        for value in (
+            self.between(choice, scope) if isinstance(choice, Between) else self.elements(choice.elements, scope).items
+        ):
             yield from self.scopes(choices[1:], {**scope, choice.name: value})
 
     def between(self, it, scope: dict):
@@ -289,5 +310,9 @@ class Evaluator:
             return sentences.has_bits(self.formulas, at, left, right)
         for one in (left, right):
             if not is_number(one):
-                raise Wrong(at, f"`{sign}` compares numbers, or a bus with a value of its enumeration, and not {described(one)}{': use `<->`' * isinstance(one, Formula)}")
+                raise Wrong(
+                    at,
+                    f"`{sign}` compares numbers, or a bus with a value of its enumeration, "
+                    f"and not {described(one)}{': use `<->`' * isinstance(one, Formula)}",
+                )
         return left == right

@@ -29,9 +29,9 @@ class Unset(Exception):
 
 @dataclass(frozen=True)
 class Sentence:
-    """A sentence: the word of its section, its formula in the basic form, the line of the text on which the formula begins
-    for which it is written (0 if there is none), and that formula as the text has it, if no other sentence is written for
-    it."""
+    """A sentence: the word of its section, its formula in the basic form, the line of the text on which the formula
+    begins for which it is written (0 if there is none), and that formula as the text has it, if no other sentence is
+    written for it."""
 
     word: str
     formula: object
@@ -51,8 +51,8 @@ class Sentence:
 
 @dataclass(frozen=True)
 class Basic:
-    """A specification in the basic form: the lines of its head, the names of its inputs and outputs, whether its semantics
-    are strict, whether the outputs move first, and the sentences in the order of their sections."""
+    """A specification in the basic form: the lines of its head, the names of its inputs and outputs, whether its
+    semantics are strict, whether the outputs move first, and the sentences in the order of their sections."""
 
     head: tuple
     inputs: tuple
@@ -114,8 +114,18 @@ def deep_calls():
 def written(specification: Specification, text: str, settings: dict) -> Basic:
     refuse_unknown(specification, settings)
     definitions = Definitions(specification, settings)
-    head = [f"{SIGN}\n", *(f"// {name} = {definitions.declared(made.at, name)}\n" for made in specification.parameters for name in [made.name])]
-    names = [tuple(name for value in those for name in names_of(value)) for those in (definitions.inputs, definitions.outputs)]
+    head = [
+        f"{SIGN}\n",
+        *(
+            f"// {name} = {definitions.declared(made.at, name)}\n"
+            for made in specification.parameters
+            for name in [made.name]
+        ),
+    ]
+    names = [
+        tuple(name for value in those for name in names_of(value))
+        for those in (definitions.inputs, definitions.outputs)
+    ]
     order = specification.is_strict, specification.target == "Moore"
     return Basic((*head, *info(specification)), *names, *order, tuple(sentences(text, specification, definitions)))
 
@@ -124,7 +134,10 @@ def refuse_unknown(specification: Specification, settings: dict):
     names = [made.name for made in specification.parameters]
     for name in settings:
         if name not in names:
-            raise Unset(f"there is no parameter {name}{nearest(name, names)}; " + (f"the specification has {', '.join(names)}" if names else "the specification has none"))
+            raise Unset(
+                f"there is no parameter {name}{nearest(name, names)}; "
+                + (f"the specification has {', '.join(names)}" if names else "the specification has none")
+            )
 
 
 def sentences(text: str, specification: Specification, definitions: Definitions) -> list:
@@ -135,9 +148,17 @@ def sentences(text: str, specification: Specification, definitions: Definitions)
         size += formula.size if isinstance(formula, Formula) else 1
         length += formula.length if isinstance(formula, Formula) else len("false")
         if size > MOST_OPERATORS:
-            raise Wrong(at, f"written out, the specification has more than {MOST_OPERATORS:,} operators and operands up to here, the most that psyn reads")
+            raise Wrong(
+                at,
+                f"written out, the specification has more than {MOST_OPERATORS:,} operators and operands up to here, "
+                "the most that psyn reads",
+            )
         if length > MOST_BYTES:
-            raise Wrong(at, f"written out, the specification has more than {MOST_BYTES:,} bytes up to here, the most that psyn reads")
+            raise Wrong(
+                at,
+                f"written out, the specification has more than {MOST_BYTES:,} bytes up to here, "
+                "the most that psyn reads",
+            )
         parts, row = sentences_of(formula), bisect.bisect_right(starts, at)
         source = shown(text[at:stop]) if len(parts) == 1 else ""
         found += [Sentence(word, one, row, source) for one in parts]
@@ -150,9 +171,11 @@ def shown(source: str) -> str:
 
 
 def formulas_of(specification: Specification, definitions: Definitions):
-    """The formula of each sentence with its offset, the offset behind it, and its section: first that buses have values of
-    their enumerations."""
-    for word, declared, those in ((OF_INPUTS, specification.inputs, definitions.inputs), (OF_OUTPUTS, specification.outputs, definitions.outputs)):
+    """The formula of each sentence with its offset, the offset behind it, and its section: first that buses have values
+    of their enumerations."""
+    for word, declared, those in (
+        (OF_INPUTS, specification.inputs, definitions.inputs), (OF_OUTPUTS, specification.outputs, definitions.outputs)
+    ):
         for signal, bus in zip(declared, those):
             if isinstance(bus, Bus) and bus.enumeration:
                 formula = definitions.in_enumeration(signal.at, bus)

@@ -21,7 +21,24 @@ LEVELS = (
     # `!`, `X`, `F`, `G` and operators over sets whose value is a formula stand here
     ({}, "left"),
     ({"IN": "IN", "ELEM": "IN", "<-": "IN"}, "left"),
-    ({"==": "==", "EQ": "==", "!=": "!=", "/=": "!=", "NEQ": "!=", "<": "<", "LE": "<", "<=": "<=", "LEQ": "<=", ">": ">", "GE": ">", ">=": ">=", "GEQ": ">="}, "left"),
+    (
+        {
+            "==": "==",
+            "EQ": "==",
+            "!=": "!=",
+            "/=": "!=",
+            "NEQ": "!=",
+            "<": "<",
+            "LE": "<",
+            "<=": "<=",
+            "LEQ": "<=",
+            ">": ">",
+            "GE": ">",
+            ">=": ">=",
+            "GEQ": ">=",
+        },
+        "left",
+    ),
     ({"(+)": "(+)", "CUP": "(+)"}, "left"),
     ({"(*)": "(*)", "CAP": "(*)"}, "left"),
     ({"(\\)": "(\\)", "(-)": "(\\)", "SETMINUS": "(\\)"}, "right"),
@@ -30,7 +47,9 @@ LEVELS = (
     ({"*": "*", "MUL": "*"}, "left"),
 )
 LEVEL_OF = {word: level for level, (signs, _) in enumerate(LEVELS) for word in signs}
-UNARY, SET, SUM = (next(level for level, (signs, _) in enumerate(LEVELS) if word in signs) for word in ("IN", "(+)", "+"))
+UNARY, SET, SUM = (
+    next(level for level, (signs, _) in enumerate(LEVELS) if word in signs) for word in ("IN", "(+)", "+")
+)
 UNARY -= 1
 # Operators before their operand: those of formulas, and those that bind most.
 OF_FORMULAS = {"!": "!", "NOT": "!", "not": "!", "X": "X", "F": "F", "G": "G"}
@@ -40,7 +59,14 @@ BIG_FORMULAS = {"&&": "&&", "AND": "&&", "FORALL": "&&", "||": "||", "OR": "||",
 BIG_OTHERS = {"+": "+", "SUM": "+", "*": "*", "PROD": "*", "(+)": "(+)", "CUP": "(+)", "(*)": "(*)", "CAP": "(*)"}
 CONSTANTS = {"true": True, "false": False}
 # Words that no declaration may take as a name.
-KEYWORDS = {*(word for word in (*LEVEL_OF, *OF_FORMULAS, *OF_NUMBERS, *BIG_FORMULAS, *BIG_OTHERS) if word.isalpha() and word.isupper()), *CONSTANTS}
+KEYWORDS = {
+    *(
+        word
+        for word in (*LEVEL_OF, *OF_FORMULAS, *OF_NUMBERS, *BIG_FORMULAS, *BIG_OTHERS)
+        if word.isalpha() and word.isupper()
+    ),
+    *CONSTANTS,
+}
 KEYWORDS |= {"otherwise", "enum", "_"}
 # Words of sentences between operands and before them, which are names if a text declares them.
 WORDS = ("until", "weak", "unless", "and", "or", "xor", "not", "within", "at")
@@ -59,7 +85,9 @@ class Parser:
     is a word of sentences."""
 
     def __init__(self, tokens: list[Token], declared: frozenset):
-        self.tokens, self.at, self.declared = tokens, 0, declared
+        self.tokens = tokens
+        self.at = 0
+        self.declared = declared
         self.depth = 0
         # where each `within n f` that stands in parentheses begins
         self.closed = set()
@@ -88,11 +116,17 @@ class Parser:
 
     def take(self, sign: str, where: str = "") -> Token:
         if not self.is_sign(sign):
-            self.expected({"word": "a word", "number": "a number", "string": 'a string in `"`'}.get(sign, f"`{sign}`") + where)
+            self.expected(
+                {"word": "a word", "number": "a number", "string": 'a string in `"`'}.get(sign, f"`{sign}`") + where
+            )
         return self.advance()
 
     def expected(self, what: str):
-        near = [token.text for token in (self.now, *self.tokens[max(0, self.at - 1) : self.at]) if token.kind == "word" and token.text not in self.declared]
+        near = [
+            token.text
+            for token in (self.now, *self.tokens[max(0, self.at - 1) : self.at])
+            if token.kind == "word" and token.text not in self.declared
+        ]
         raise Wrong(self.now.start, f"{what} is expected here, and this is {self.now.shown}{elsewhere.hint(*near)}")
 
     def name(self, of: str) -> Token:
@@ -125,7 +159,11 @@ class Parser:
         text, kind = self.now.text, self.now.kind
         if text not in LEVEL_OF or kind in ("string", "number") or text == "|" and self.in_bars:
             return None
-        if kind == "word" and text in WORDS and (text in self.declared or text == "weak" and self.next().text != "until"):
+        if (
+            kind == "word"
+            and text in WORDS
+            and (text in self.declared or text == "weak" and self.next().text != "until")
+        ):
             return None
         return LEVEL_OF[text]
 
@@ -166,7 +204,9 @@ class Parser:
         token = self.now
         sign = self.formula_sign(token)
         if sign and loosest > UNARY:
-            raise Wrong(token.start, f"{token.shown} binds less than the operator before it: write parentheses around it")
+            raise Wrong(
+                token.start, f"{token.shown} binds less than the operator before it: write parentheses around it"
+            )
         if sign == "big":
             return self.big(BIG_FORMULAS[token.text], UNARY)
         if sign == "within":
@@ -217,7 +257,13 @@ class Parser:
     def within(self):
         """Parses `within n f`, where n is a number, a name or in parentheses."""
         token = self.advance()
-        count = self.number() if self.is_sign("number") else self.parenthesised() if self.is_sign("(") else Name(self.now.start, self.name("a number").text)
+        count = (
+            self.number()
+            if self.is_sign("number")
+            else self.parenthesised()
+            if self.is_sign("(")
+            else Name(self.now.start, self.name("a number").text)
+        )
         return Within(token.start, count, self.binary(UNARY))
 
     def inner(self):
@@ -257,7 +303,10 @@ class Parser:
         """Takes `<`, and returns true, or takes `<=`."""
         sign = LEVELS[LEVEL_OF["<"]][0].get(self.now.text)
         if sign not in ("<", "<="):
-            raise Wrong(self.now.start, f"in these brackets stands `i IN set` or `low <= i < high`, and this is {self.now.shown}")
+            raise Wrong(
+                self.now.start,
+                f"in these brackets stands `i IN set` or `low <= i < high`, and this is {self.now.shown}",
+            )
         self.advance()
         return sign == "<"
 
@@ -302,7 +351,9 @@ class Parser:
             elements.append(self.inner())
             if self.is_sign(".."):
                 if len(elements) != 2:
-                    raise Wrong(self.now.start, "a range gives its first two numbers and its last one, as in {0, 1 .. n - 1}")
+                    raise Wrong(
+                        self.now.start, "a range gives its first two numbers and its last one, as in {0, 1 .. n - 1}"
+                    )
                 self.advance()
                 last = self.inner()
                 self.take("}")
@@ -324,7 +375,11 @@ class Parser:
     def named(self):
         """Parses a name, a signal of a bus, or a call."""
         token = self.advance()
-        if token.text == "at" and token.text not in self.declared and tuple(self.next(count - 1).text for count in (1, 2, 3)) == AT_MOST_ONE_OF[1:]:
+        if (
+            token.text == "at"
+            and token.text not in self.declared
+            and tuple(self.next(count - 1).text for count in (1, 2, 3)) == AT_MOST_ONE_OF[1:]
+        ):
             self.at += 3
             return Call(token.start, AT_MOST_ONE, self.arguments())
         if self.is_sign("("):

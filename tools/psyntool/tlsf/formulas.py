@@ -41,16 +41,21 @@ class Formula:
 
 
 class Formulas:
-    """Makes formulas, and counts the steps of doing so. Each function takes the offset at which the expression stands for
-    which the formula is made."""
+    """Makes formulas, and counts the steps of doing so. Each function takes the offset at which the expression stands
+    for which the formula is made."""
 
     def __init__(self):
-        self.made, self.steps = {}, 0
+        self.made = {}
+        self.steps = 0
 
     def spend(self, at: int, steps: int):
         self.steps += steps
         if self.steps > MOST_STEPS:
-            raise Wrong(at, f"writing this specification out takes more than {MOST_STEPS:,} steps: choose smaller parameters or sets")
+            raise Wrong(
+                at,
+                f"writing this specification out takes more than {MOST_STEPS:,} steps: "
+                "choose smaller parameters or sets",
+            )
 
     def name(self, text: str) -> Formula:
         return self.kept("", (text,), 1, 0, len(text))
@@ -69,10 +74,15 @@ class Formulas:
         size, nesting, length = count, 0, count * len(written(sign))
         for place, part in enumerate(parts):
             closed = needs_parentheses(sign, part, place == len(parts) - 1)
-            size, nesting, length = size + part.size, max(nesting, part.nesting + closed), length + part.length + 2 * closed
+            size, nesting, length = (
+                size + part.size, max(nesting, part.nesting + closed), length + part.length + 2 * closed
+            )
         nesting += len(parts) == 1
         if size > MOST_OPERATORS:
-            raise Wrong(at, f"written out, this has more than {MOST_OPERATORS:,} operators and operands, the most that psyn reads")
+            raise Wrong(
+                at,
+                f"written out, this has more than {MOST_OPERATORS:,} operators and operands, the most that psyn reads",
+            )
         if nesting > MOST_NESTED:
             raise Wrong(at, f"written out, this nests more than {MOST_NESTED} deep, the most that psyn reads")
         if length > MOST_BYTES:

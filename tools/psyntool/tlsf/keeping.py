@@ -5,7 +5,14 @@ from psyntool.tlsf.expanding import Basic, Sentence
 from psyntool.tlsf.obligations import Obligations, Remains, limited, truths
 
 # The names of sentences by their sections, for messages.
-TITLES = {"INITIALLY": "initial assumption", "PRESET": "initial guarantee", "REQUIRE": "assumption", "ASSERT": "guarantee", "ASSUME": "assumption", "GUARANTEE": "guarantee"}
+TITLES = {
+    "INITIALLY": "initial assumption",
+    "PRESET": "initial guarantee",
+    "REQUIRE": "assumption",
+    "ASSERT": "guarantee",
+    "ASSUME": "assumption",
+    "GUARANTEE": "guarantee",
+}
 # Formulas of these sections are meant at each step.
 AT_EACH_STEP = ("REQUIRE", "ASSERT")
 ASSUMED, GUARANTEED = ("INITIALLY", "REQUIRE", "ASSUME"), ("PRESET", "ASSERT", "GUARANTEE")
@@ -33,7 +40,9 @@ class Word:
     """A lasso by its letters, those of the stem and of one lap, each the set of the names that are true."""
 
     def __init__(self, letters: list, stem: int):
-        self.letters, self.stem, self.known = letters, stem, {}
+        self.letters = letters
+        self.stem = stem
+        self.known = {}
         self.obligations = Obligations()
         self.remains = Remains(self.obligations)
 
@@ -93,7 +102,9 @@ def is_broken_first(sentence: Sentence, basic: Basic, word: Word) -> bool:
 
 def alone(basic: Basic, sentence: Sentence) -> str:
     """The text of the specification whose only sentence is the given one, which is guaranteed."""
-    return basic.having([sentence]).text() if sentence.word in GUARANTEED else basic.having([guaranteed(sentence)]).text()
+    return (
+        basic.having([sentence]).text() if sentence.word in GUARANTEED else basic.having([guaranteed(sentence)]).text()
+    )
 
 
 def guaranteed(sentence: Sentence) -> Sentence:

@@ -1,5 +1,5 @@
-"""Checks the names of a specification before anything is evaluated: a name that is not declared is told even where it is
-not needed for the given parameters."""
+"""Checks the names of a specification before anything is evaluated: a name that is not declared is told even where it
+is not needed for the given parameters."""
 from psyntool.tlsf import elsewhere
 from psyntool.tlsf.sentences import CALLED
 from psyntool.tlsf.syntax import Big, Call, Chain, Match, Member, Name, Prefix, Specification, Truth
@@ -21,7 +21,11 @@ class Names:
     def __init__(self, read: Specification):
         self.functions = {made.name: made.arguments for made in read.definitions if made.arguments is not None}
         self.enumerations = {made.name for made in read.enumerations}
-        self.values = {made.name for made in (*read.parameters, *read.definitions, *read.inputs, *read.outputs) if made.name not in self.functions}
+        self.values = {
+            made.name
+            for made in (*read.parameters, *read.definitions, *read.inputs, *read.outputs)
+            if made.name not in self.functions
+        }
         self.values |= {value.name for made in read.enumerations for value in made.values}
         self.deep = 0
 
@@ -85,26 +89,49 @@ class Names:
         if it.name in self.functions:
             count = len(self.functions[it.name])
             if len(it.arguments) != count:
-                raise Wrong(it.at, f"`{it.name}` has {count} argument{'s' * (count != 1)}, and gets {len(it.arguments)} here")
+                raise Wrong(
+                    it.at, f"`{it.name}` has {count} argument{'s' * (count != 1)}, and gets {len(it.arguments)} here"
+                )
         elif it.name in self.values or it.name in self.enumerations:
             raise Wrong(it.at, f"`{it.name}` is no function")
         elif it.name not in CALLED:
-            raise Wrong(it.at, f"there is no function `{it.name}`{hint(it.name, [*self.functions, *CALLED]) or elsewhere.hint(it.name)}")
+            raise Wrong(
+                it.at,
+                "there is no function "
+                f"`{it.name}`{hint(it.name, [*self.functions, *CALLED]) or elsewhere.hint(it.name)}",
+            )
 
     def check_pattern(self, it, scope: frozenset, found: set):
         """Checks a pattern, and adds its names to `found`."""
         self.enter(it)
         if isinstance(it, Name):
-            if it.text in scope or it.text in found or it.text in self.values or it.text in self.functions or it.text in self.enumerations:
-                raise Wrong(it.at, f"a name in a pattern is a new one, and `{it.text}` is there before; `_` fits everything")
+            if (
+                it.text in scope
+                or it.text in found
+                or it.text in self.values
+                or it.text in self.functions
+                or it.text in self.enumerations
+            ):
+                raise Wrong(
+                    it.at, f"a name in a pattern is a new one, and `{it.text}` is there before; `_` fits everything"
+                )
             found |= {it.text} - {WILD}
-        elif isinstance(it, Prefix) and it.sign in OF_PATTERNS or isinstance(it, Chain) and OF_PATTERNS.issuperset(it.signs):
+        elif (
+            isinstance(it, Prefix)
+            and it.sign in OF_PATTERNS
+            or isinstance(it, Chain)
+            and OF_PATTERNS.issuperset(it.signs)
+        ):
             if isinstance(it, Chain) and len(it.operands) > MOST_OPERANDS:
                 raise Wrong(it.at, f"a pattern has at most {MOST_OPERANDS} operands side by side")
             for one in parts_of(it):
                 self.check_pattern(one, scope, found)
         elif not isinstance(it, Truth):
-            raise Wrong(it.at, "a pattern consists of names, `_`, `true`, `false` and operators of formulas, and this is something else")
+            raise Wrong(
+                it.at,
+                "a pattern consists of names, `_`, `true`, `false` and operators of formulas, "
+                "and this is something else",
+            )
         self.deep -= 1
 
 

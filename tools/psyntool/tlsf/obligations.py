@@ -30,9 +30,9 @@ def limited():
 
 @dataclass(frozen=True, slots=True, eq=False)
 class Obligation:
-    """An obligation: its operator (`true`, `false`, `name`, `not`, `&&`, `||`, `X`, `U`, `R`), its operands, its number in
-    the order in which obligations were made, and whether it has `X`, `U` or `R`. The operand of a name, or of a name that
-    is negated, is the name."""
+    """An obligation: its operator (`true`, `false`, `name`, `not`, `&&`, `||`, `X`, `U`, `R`), its operands, its number
+    in the order in which obligations were made, and whether it has `X`, `U` or `R`. The operand of a name, or of a name
+    that is negated, is the name."""
 
     sign: str
     operands: tuple
@@ -44,8 +44,11 @@ class Obligations:
     """Makes obligations, in at most so many steps."""
 
     def __init__(self, most_steps: int = 1_000_000):
-        self.left, self.made, self.known = most_steps, {}, {}
-        self.true, self.false = self.kept("true", ()), self.kept("false", ())
+        self.left = most_steps
+        self.made = {}
+        self.known = {}
+        self.true = self.kept("true", ())
+        self.false = self.kept("false", ())
 
     def kept(self, sign: str, operands: tuple) -> Obligation:
         self.left -= 1 + len(operands)
@@ -53,7 +56,9 @@ class Obligations:
             raise TooLong
         key = (sign, frozenset(operands) if sign in ("&&", "||") else operands)
         if key not in self.made:
-            is_of_later = sign in ("X", "U", "R") or any(isinstance(one, Obligation) and one.is_of_later for one in operands)
+            is_of_later = (
+                sign in ("X", "U", "R") or any(isinstance(one, Obligation) and one.is_of_later for one in operands)
+            )
             self.made[key] = Obligation(sign, operands, len(self.made), is_of_later)
         return self.made[key]
 
@@ -111,7 +116,11 @@ class Obligations:
     def of_operator(self, formula: Formula, holds: bool) -> Obligation:
         sign, parts = formula.sign, formula.operands
         if not sign:
-            return self.of(parts[0] == "true", holds) if parts[0] in ("true", "false") else self.kept("name" if holds else "not", parts)
+            return (
+                self.of(parts[0] == "true", holds)
+                if parts[0] in ("true", "false")
+                else self.kept("name" if holds else "not", parts)
+            )
         if sign == "!":
             return self.of(parts[0], not holds)
         if sign in ("&&", "||"):
@@ -136,16 +145,20 @@ class Obligations:
 
 
 class Remains:
-    """What is left of obligations behind letters, as decision diagrams over names and over obligations that begin with `X`,
-    `U` or `R`, in at most so many nodes. Equal functions of them have equal numbers, so the same remains are seen again,
-    and remains that nothing can meet at the next step are the leaf `false`."""
+    """What is left of obligations behind letters, as decision diagrams over names and over obligations that begin with
+    `X`, `U` or `R`, in at most so many nodes. Equal functions of them have equal numbers, so the same remains are seen
+    again, and remains that nothing can meet at the next step are the leaf `false`."""
 
     def __init__(self, obligations: Obligations, most_nodes: int = 50_000):
-        self.obligations, self.most_nodes = obligations, most_nodes
+        self.obligations = obligations
+        self.most_nodes = most_nodes
         self.texts = {}
         self.diagrams = Diagrams(self.texts)
-        self.never, self.always = self.diagrams.leaf(False), self.diagrams.leaf(True)
-        self.parts, self.known, self.behind = {}, {}, {}
+        self.never = self.diagrams.leaf(False)
+        self.always = self.diagrams.leaf(True)
+        self.parts = {}
+        self.known = {}
+        self.behind = {}
         self.done = {"&&": {}, "||": {}}
 
     def both(self, first: int, second: int) -> int:
@@ -194,7 +207,9 @@ class Remains:
         if part.sign == "name":
             return high if part.operands[0] in letter else low
         step = self.step_of(part, letter)
-        return self.either(self.both(step, high), self.both(self.diagrams.mapped(step, lambda value: not value, {}), low))
+        return self.either(
+            self.both(step, high), self.both(self.diagrams.mapped(step, lambda value: not value, {}), low)
+        )
 
     def step_of(self, one: Obligation, letter: frozenset) -> int:
         if one.sign == "X":
@@ -206,8 +221,8 @@ class Remains:
         return self.both(right, self.either(left, again))
 
     def breaks(self, one: Obligation, letters: list, stem: int):
-        """The first step of a lasso behind which nothing meets what is left of an obligation, or None if there is none, or if
-        finding it takes too many nodes. The letters are those of the stem and of one lap."""
+        """The first step of a lasso behind which nothing meets what is left of an obligation, or None if there is none,
+        or if finding it takes too many nodes. The letters are those of the stem and of one lap."""
         try:
             return self.first_break(self.of(one), letters, stem)
         except TooLong:
@@ -243,8 +258,8 @@ class Remains:
 
 
 def truths(one: Obligation, letters: list, stem: int, known: dict) -> list:
-    """The truth of an obligation at each place of a lasso, whose letters are those of the stem and of one lap; `known` has
-    the truths that are found already."""
+    """The truth of an obligation at each place of a lasso, whose letters are those of the stem and of one lap; `known`
+    has the truths that are found already."""
     if one not in known:
         known[one] = truths_of(one, letters, stem, known)
     return known[one]
@@ -265,8 +280,8 @@ def truths_of(one: Obligation, letters: list, stem: int, known: dict) -> list:
 
 
 def of_until(left: list, right: list, stem: int, is_until: bool) -> list:
-    """The truths of `U` or `R` by those of its operands, from the last place back: the lap twice, since its end leads to
-    its begin."""
+    """The truths of `U` or `R` by those of its operands, from the last place back: the lap twice, since its end leads
+    to its begin."""
     found, later, places = [False] * len(left), not is_until, range(len(left))
     for place in [*reversed(places[stem:]), *reversed(places)]:
         later = right[place] or left[place] and later if is_until else right[place] and (left[place] or later)
@@ -288,7 +303,11 @@ def text_of(one: Obligation) -> str:
     left, right = parts
     if left.sign == ("true" if sign == "U" else "false"):
         return f"{'F' if sign == 'U' else 'G'} {inside(right)}"
-    others = [part for part in right.operands if part is not left] if sign == "R" and right.sign == "||" and left in right.operands else []
+    others = (
+        [part for part in right.operands if part is not left]
+        if sign == "R" and right.sign == "||" and left in right.operands
+        else []
+    )
     if len(others) == 1:
         return f"{inside(others[0])} W {inside(left)}"
     return f"{inside(left)} {sign} {inside(right)}"
@@ -296,5 +315,9 @@ def text_of(one: Obligation) -> str:
 
 def inside(one: Obligation) -> str:
     """The text of an obligation as an operand."""
-    is_bare = one.sign in ("true", "false", "name", "not", "X") or one.sign in ("U", "R") and one.operands[0].sign == ("true" if one.sign == "U" else "false")
+    is_bare = (
+        one.sign in ("true", "false", "name", "not", "X")
+        or one.sign in ("U", "R")
+        and one.operands[0].sign == ("true" if one.sign == "U" else "false")
+    )
     return text_of(one) if is_bare else f"({text_of(one)})"

@@ -1,5 +1,5 @@
-"""`play` of a specification in temporal logic: the user plays against the circuit in PREFIX.aag, and sees at each step what
-each sentence demands, and which one a step breaks."""
+"""`play` of a specification in temporal logic: the user plays against the circuit in PREFIX.aag, and sees at each step
+what each sentence demands, and which one a step breaks."""
 from psyntool import asking, console, files, outputs, program, specifying
 from psyntool.command import AUTO, ENV, TLSF
 from psyntool.ends import Refused, Unwritten
@@ -46,7 +46,14 @@ def played(request, texts, play, flags, paths):
     verdict = program.ask(given)
     if not asking.is_had(verdict):
         raise Unwritten(f"lasso of this play: {verdict.died or verdict.text.rstrip()}")
-    console.write_text("\n".join([*play.table(), *ended(play), f"{paths[0]} has these letters of the {play.players[0]}; lasso: {verdict.text.rstrip()}", ""]))
+    console.write_text("\n".join(
+        [
+            *play.table(),
+            *ended(play),
+            f"{paths[0]} has these letters of the {play.players[0]}; lasso: {verdict.text.rstrip()}",
+            "",
+        ]
+    ))
     return 0
 
 
@@ -133,7 +140,11 @@ def tally(play):
     for one, left in zip(play.sentences, play.now.left):
         side = "broken" if left == play.remains.never else "owed" if id(one) in owed else "kept so far"
         sides[side].append(str(one.row))
-    told = [f"{side}: line{'s' * (len(set(rows)) > 1)} {', '.join(dict.fromkeys(rows))}" for side, rows in sides.items() if rows]
+    told = [
+        f"{side}: line{'s' * (len(set(rows)) > 1)} {', '.join(dict.fromkeys(rows))}"
+        for side, rows in sides.items()
+        if rows
+    ]
     return f" ({'; '.join(told)})" if play.steps and all(one.row for one in play.sentences) else ""
 
 
@@ -148,12 +159,21 @@ def choice(play, letter):
 
 def broken(play, place):
     """Lines on the sentences that a step breaks."""
-    return [line for one in play.broken_at(play.steps[place]) for line in (f"step {place} breaks the {titled(one)}", f"  {one.said}")]
+    return [
+        line
+        for one in play.broken_at(play.steps[place])
+        for line in (f"step {place} breaks the {titled(one)}", f"  {one.said}")
+    ]
 
 
 def ended(play):
-    """How the play ended: the sentences that it broke, and what comes again and again, with those that the loop violates."""
+    """How the play ended: the sentences that it broke, and what comes again and again, with those that the loop
+    violates."""
     told = [line for place in range(len(play.steps)) for line in broken(play, place)]
     if play.loop is None:
         return told
-    return [*told, play.looping, *(line for one in play.unmet() for line in (f"the loop does not keep the {titled(one)}", f"  {one.said}"))]
+    return [
+        *told,
+        play.looping,
+        *(line for one in play.unmet() for line in (f"the loop does not keep the {titled(one)}", f"  {one.said}")),
+    ]

@@ -23,7 +23,8 @@ class Machine:
 
     def __init__(self, made):
         self.made = made.ordered
-        self.inputs, self.outputs = made.names("i"), made.names("o")
+        self.inputs = made.names("i")
+        self.outputs = made.names("o")
         self.size = len(made.gates) + len(made.latches) + 10
         self.start = tuple(latch.reset if latch.reset < 2 else 0 for latch in made.latches)
 
@@ -57,13 +58,16 @@ class Play:
     """A play against the circuit of a player. `sentences` are those that are watched."""
 
     def __init__(self, basic: Basic, made, sentences):
-        self.basic, self.machine, self.sentences = basic, Machine(made), tuple(sentences)
+        self.basic = basic
+        self.machine = Machine(made)
+        self.sentences = tuple(sentences)
         self.is_controller = set(self.machine.inputs) == set(basic.inputs)
         self.obligations = Obligations()
         self.remains = Remains(self.obligations)
         with limited():
             self.first = tuple(self.remains.of(self.meant(one)) for one in self.sentences)
-        self.steps, self.now = [], Position(self.machine.start, self.first)
+        self.steps = []
+        self.now = Position(self.machine.start, self.first)
         # the places of the sentences that `hold_out` keeps
         self.watched = range(len(self.sentences))
 
@@ -107,7 +111,9 @@ class Play:
         """The user's letters; of many inputs only those with at most one that is true, and the one with all."""
         names = self.machine.inputs
         if len(names) <= MOST_INPUTS:
-            return [frozenset(those) for count in range(len(names) + 1) for those in itertools.combinations(names, count)]
+            return [
+                frozenset(those) for count in range(len(names) + 1) for those in itertools.combinations(names, count)
+            ]
         return [frozenset(), *(frozenset((name,)) for name in names), frozenset(names)]
 
     @property
@@ -119,7 +125,11 @@ class Play:
     def looping(self) -> str:
         """Which steps come again and again."""
         last = len(self.steps) - 1
-        return f"step {last} comes again and again" if self.loop == last else f"steps {self.loop} to {last} come again and again"
+        return (
+            f"step {last} comes again and again"
+            if self.loop == last
+            else f"steps {self.loop} to {last} come again and again"
+        )
 
     # ---- sentences
 
@@ -144,7 +154,11 @@ class Play:
         """The sentences that no step breaks, and that the loop violates."""
         with limited():
             word = Word([step.letter for step in self.steps], self.loop)
-            return [one for one, left in zip(self.sentences, self.now.left) if left != self.remains.never and not word.keeps(one)]
+            return [
+                one
+                for one, left in zip(self.sentences, self.now.left)
+                if left != self.remains.never and not word.keeps(one)
+            ]
 
     # ---- holding out
 
@@ -155,8 +169,8 @@ class Play:
             self.take(self.longest())
 
     def longest(self) -> frozenset:
-        """The letter with which no watched sentence is broken for most steps, as far as it looks ahead. Of equal letters, an
-        environment chooses one behind which most is owed, and a controller one behind which least is."""
+        """The letter with which no watched sentence is broken for most steps, as far as it looks ahead. Of equal
+        letters, an environment chooses one behind which most is owed, and a controller one behind which least is."""
         self.known, self.gates_left, best, letter = {}, MOST_GATES, None, frozenset()
         for mine in self.letters():
             after = self.moved(self.now, mine).after
@@ -190,7 +204,10 @@ class Play:
         head = ("step", "environment", "controller", "owed after it")
         rows = [head]
         for place, step in enumerate(self.steps):
-            said = [" ".join(name for name in names if name in step.letter) or "-" for names in (self.basic.inputs, self.basic.outputs)]
+            said = [
+                " ".join(name for name in names if name in step.letter) or "-"
+                for names in (self.basic.inputs, self.basic.outputs)
+            ]
             rows.append((str(place), *said, "; ".join(dict.fromkeys(text for _, text in self.owed(step.after)))))
         widths = [max(len(row[column]) for row in rows) for column in range(len(head))]
         lines = ["  ".join(word.ljust(width) for word, width in zip(row, widths)).rstrip() for row in rows]

@@ -49,7 +49,12 @@ def is_of_full_form(token: Token, following: Token, declared: frozenset) -> bool
         return token.kind not in SIGNS_OF_BASIC_FORM
     if token.text in declared or token.text in WORDS_OF_BASIC_FORM:
         return False
-    return token.text in KEYWORDS or token.text in ("GLOBAL", *WORDS) or bool(LETTERS.fullmatch(token.text)) or following.kind == "("
+    return (
+        token.text in KEYWORDS
+        or token.text in ("GLOBAL", *WORDS)
+        or bool(LETTERS.fullmatch(token.text))
+        or following.kind == "("
+    )
 
 
 def declared_by(tokens: list[Token]) -> frozenset:
@@ -83,7 +88,8 @@ class Reader(Parser):
 
     def __init__(self, tokens: list[Token], declared: frozenset):
         super().__init__(tokens, declared)
-        self.read_words, self.made = {}, Specification()
+        self.read_words = {}
+        self.made = Specification()
         self.semantics = None
 
     def read(self) -> Specification:
@@ -177,7 +183,10 @@ class Reader(Parser):
 
     def order_of_finite_words(self):
         if self.is_word(FINITE):
-            raise Wrong(self.now.start, "psyn reads formulas on infinite words, and `Finite` says that this specification is on finite ones")
+            raise Wrong(
+                self.now.start,
+                "psyn reads formulas on infinite words, and `Finite` says that this specification is on finite ones",
+            )
 
     def check_order(self):
         """Refuses a text that does not say who moves first, or says it in two ways."""
@@ -188,7 +197,11 @@ class Reader(Parser):
         if self.made.semantics != self.made.target:
             have, want = self.made.semantics, self.made.target
             at = self.read_words["TARGET"].start
-            raise Wrong(at, f"SEMANTICS is {have} and TARGET {want}: psyn reads and plays in one order; write `TARGET: {have}`, or `SEMANTICS: {want}` if that is meant")
+            raise Wrong(
+                at,
+                f"SEMANTICS is {have} and TARGET {want}: psyn reads and plays in one order; write `TARGET: {have}`, "
+                f"or `SEMANTICS: {want}` if that is meant",
+            )
 
     # ---- declarations
 
@@ -198,7 +211,9 @@ class Reader(Parser):
             if token.text == "DEFINITIONS" and self.is_word("enum"):
                 self.made.enumerations.append(self.enumeration())
             else:
-                (self.made.parameters if token.text == "PARAMETERS" else self.made.definitions).append(self.definition(token.text))
+                (self.made.parameters if token.text == "PARAMETERS" else self.made.definitions).append(
+                    self.definition(token.text)
+                )
             self.end_of_declaration()
         self.advance()
 

@@ -23,14 +23,23 @@ class Sanity:
     """What is found out about a specification, by questions to the program."""
 
     def __init__(self, basic: Basic):
-        self.basic, self.sides, self.formulas = basic, sides_of(basic), Formulas()
+        self.basic = basic
+        self.sides = sides_of(basic)
+        self.formulas = Formulas()
         self.unknown = []
 
     # ---- questions
 
     def demand(self, sentences):
         """The formula that some sentences demand."""
-        return self.formulas.joined(0, "&&", [self.formulas.before(0, "G", one.formula) if one.word in AT_EACH_STEP else one.formula for one in sentences])
+        return self.formulas.joined(
+            0,
+            "&&",
+            [
+                self.formulas.before(0, "G", one.formula) if one.word in AT_EACH_STEP else one.formula
+                for one in sentences
+            ],
+        )
 
     def has_controller(self, basic: Basic, formula):
         """The program's answer to the specification that guarantees a formula; None if it does not decide."""
@@ -41,8 +50,8 @@ class Sanity:
             return None
 
     def is_possible(self, formula, what: str) -> bool:
-        """Whether some lasso satisfies a formula: whether a controller of all signals does. If the program does not decide
-        that, it is noted, and taken to be possible."""
+        """Whether some lasso satisfies a formula: whether a controller of all signals does. If the program does not
+        decide that, it is noted, and taken to be possible."""
         if isinstance(formula, bool):
             return formula
         free = replace(self.basic, inputs=(), outputs=(*self.basic.inputs, *self.basic.outputs))
@@ -65,7 +74,9 @@ class Sanity:
         those = self.sides.assumptions
         if self.is_possible(self.demand(those), "whether the assumptions can be kept"):
             return []
-        few = shrunk(those, lambda some: not self.is_possible(self.demand(some), "whether fewer assumptions can be kept"))
+        few = shrunk(
+            those, lambda some: not self.is_possible(self.demand(some), "whether fewer assumptions can be kept")
+        )
         return [f"nothing keeps {of_those(few, 'assumption')}, so each circuit wins:", *said(few)]
 
     def of_breakable(self) -> list:
@@ -74,13 +85,17 @@ class Sanity:
         if not those or not self.is_breakable(those):
             return []
         few = shrunk(those, self.is_breakable)
-        head = f"a controller can break {of_those(few, 'assumption')}, so the one that psyn finds may do that and no more:"
+        head = (
+            f"a controller can break {of_those(few, 'assumption')}, so the one that psyn finds may do that and no more:"
+        )
         return [head, *said(few), *self.play(few)]
 
     def breaking(self, those):
         """The program's answer to whether a controller can make some assumptions fail."""
         demand = self.demand(those)
-        answer = None if isinstance(demand, bool) else self.has_controller(self.basic, self.formulas.negation(0, demand))
+        answer = (
+            None if isinstance(demand, bool) else self.has_controller(self.basic, self.formulas.negation(0, demand))
+        )
         if answer is None:
             self.unknown.append(f"whether a controller can break {of_those(those, 'assumption')}")
         return answer
@@ -107,14 +122,21 @@ class Sanity:
         found, those = [], self.sides.guarantees
         for one in console.counted("guarantees", those if len(those) > 1 or self.sides.assumptions else ()):
             others = [other for other in those if other is not one]
-            left = self.formulas.joined(0, "&&", [self.demand([*self.sides.assumptions, *others]), self.formulas.negation(0, self.demand([one]))])
+            left = self.formulas.joined(
+                0,
+                "&&",
+                [self.demand([*self.sides.assumptions, *others]), self.formulas.negation(0, self.demand([one]))],
+            )
             if not self.is_possible(left, f"whether the {titled(one)} follows from the others"):
                 found += [f"the {titled(one)} follows from the others:", f"  {one.said}"]
         return found
 
     def of_names(self) -> list:
         """Names that no sentence has, and those of one sentence that are nearly names of others."""
-        having = {name: [one for one in self.basic.sentences if name in one.names] for name in (*self.basic.inputs, *self.basic.outputs)}
+        having = {
+            name: [one for one in self.basic.sentences if name in one.names]
+            for name in (*self.basic.inputs, *self.basic.outputs)
+        }
         found, pairs = [f"no sentence mentions {name}" for name, those in having.items() if not those], set()
         for name, those in having.items():
             near = next((other for other in having if is_slip(name, other) and len(having[other]) >= len(those)), None)

@@ -26,7 +26,11 @@ def at_most_one(formulas: Formulas, at: int, those: list):
     """No two of them hold."""
     count = len(those)
     if count * (count - 1) // 2 > MOST_OPERATORS:
-        raise Wrong(at, f"no two of {count:,} formulas: written out, this has more than {MOST_OPERATORS:,} operators and operands, the most that psyn reads")
+        raise Wrong(
+            at,
+            f"no two of {count:,} formulas: written out, this has more than {MOST_OPERATORS:,} operators and operands, "
+            "the most that psyn reads",
+        )
     pairs = [(one, other) for place, one in enumerate(those) for other in those[place + 1 :]]
     return formulas.joined(at, "&&", [formulas.negation(at, formulas.joined(at, "&&", pair)) for pair in pairs])
 
@@ -37,7 +41,14 @@ def onehot(formulas: Formulas, at: int, those: list):
 
 
 # By each word its formula, and whether it has one argument alone.
-CALLED = {"stable": (stable, False), "rises": (rises, True), "falls": (falls, True), "onehot": (onehot, False), AT_MOST_ONE: (at_most_one, False), "onehot0": (at_most_one, False)}
+CALLED = {
+    "stable": (stable, False),
+    "rises": (rises, True),
+    "falls": (falls, True),
+    "onehot": (onehot, False),
+    AT_MOST_ONE: (at_most_one, False),
+    "onehot0": (at_most_one, False),
+}
 
 
 def called(formulas: Formulas, it, values: list):
@@ -49,7 +60,11 @@ def called(formulas: Formulas, it, values: list):
             raise Wrong(at, f"`{it.name}` is of formulas and buses, and this is {described(value)}")
         those += [formulas.name(name) for name in value.signals] if isinstance(value, Bus) else [value]
     if not those or has_one and len(those) > 1:
-        raise Wrong(it.at, f"`{it.name}` is of {'one formula' if has_one else 'at least one formula'}, and this is of {len(those) or 'none'}")
+        raise Wrong(
+            it.at,
+            f"`{it.name}` is of {'one formula' if has_one else 'at least one formula'}, "
+            f"and this is of {len(those) or 'none'}",
+        )
     formulas.spend(it.at, len(those))
     return function(formulas, it.at, those)
 
@@ -57,9 +72,14 @@ def called(formulas: Formulas, it, values: list):
 def has_bits(formulas: Formulas, at: int, bus: Bus, bits: Bits):
     """The formula that a bus has a value of an enumeration: bit 0 is the first one of the value."""
     if len(bus.signals) != bits.width:
-        raise Wrong(at, f"the bus `{bus.name}` has {len(bus.signals)} signals, and the value `{bits.name}` has {bits.width} bits")
+        raise Wrong(
+            at,
+            f"the bus `{bus.name}` has {len(bus.signals)} signals, and the value `{bits.name}` has {bits.width} bits",
+        )
     found = []
     for pattern in bits.patterns:
         names = [(formulas.name(name), bit) for name, bit in zip(bus.signals, pattern) if bit != "*"]
-        found.append(formulas.joined(at, "&&", [name if bit == "1" else formulas.negation(at, name) for name, bit in names]))
+        found.append(
+            formulas.joined(at, "&&", [name if bit == "1" else formulas.negation(at, name) for name, bit in names])
+        )
     return formulas.joined(at, "||", found)

@@ -26,8 +26,8 @@ BETWEEN = ("U", "R", "W", "M")
 
 
 def tokens_of(text: str, begin: int, known: frozenset) -> list[Token]:
-    """The tokens of a sentence, as TLSF's full form has them; their offsets begin with the given one. A known name is no
-    word of another tool."""
+    """The tokens of a sentence, as TLSF's full form has them; their offsets begin with the given one. A known name is
+    no word of another tool."""
     tokens, at, brackets = [], 0, 0
     while at < len(text):
         found = FORM.match(text, at)
@@ -67,8 +67,8 @@ class Sentences(Parser):
 
 
 def read(sections: list, inputs, outputs: list, is_moore: bool, is_strict: bool) -> tuple:
-    """The specification of sentences, and the text in which its offsets are. `sections` has the word of a section for each
-    sentence; `inputs` is None if each other name of the sentences is an input."""
+    """The specification of sentences, and the text in which its offsets are. `sections` has the word of a section for
+    each sentence; `inputs` is None if each other name of the sentences is an input."""
     known, found, begin = frozenset([*(inputs or ()), *outputs]), [], 0
     for word, text in sections:
         with deep_calls():
@@ -79,7 +79,9 @@ def read(sections: list, inputs, outputs: list, is_moore: bool, is_strict: bool)
         inputs = [name for name in dict.fromkeys(used) if name not in known]
     order = "Moore" if is_moore else "Mealy"
     declared = [[Signal(0, name) for name in names] for names in (inputs, outputs)]
-    made = Specification(semantics=order, is_strict=is_strict, target=order, inputs=declared[0], outputs=declared[1], sections=found)
+    made = Specification(
+        semantics=order, is_strict=is_strict, target=order, inputs=declared[0], outputs=declared[1], sections=found
+    )
     return made, "\n".join(text for _, text in sections)
 
 

@@ -29,7 +29,8 @@ class Wrong(Exception):
 
 
 class Token(NamedTuple):
-    """A token: its kind (`word`, `number`, `string`, the sign itself, or `end`), its text, and where it begins and ends."""
+    """A token: its kind (`word`, `number`, `string`, the sign itself, or `end`), its text, and where it begins and
+    ends."""
 
     kind: str
     text: str
@@ -51,7 +52,12 @@ def tokens_of(text: str) -> list[Token]:
     while at < len(text):
         found = FORM.match(text, at)
         if not found:
-            raise Wrong(at, "this string is not closed" if text[at] == '"' else f"no word, number or sign of TLSF begins with {shown_byte(text[at])}")
+            raise Wrong(
+                at,
+                "this string is not closed"
+                if text[at] == '"'
+                else f"no word, number or sign of TLSF begins with {shown_byte(text[at])}",
+            )
         if found["comment"]:
             at = behind_comment(text, at)
             continue
@@ -61,7 +67,11 @@ def tokens_of(text: str) -> list[Token]:
             if kind == "word" and len(found[0]) > MOST_BYTES_OF_A_WORD:
                 raise Wrong(at, f"this word has {len(found[0]):,} bytes, and at most {MOST_BYTES_OF_A_WORD:,} are read")
             if len(tokens) > MOST_TOKENS:
-                raise Wrong(at, f"up to here the specification has more than {MOST_TOKENS:,} words, numbers and signs, and no more are read")
+                raise Wrong(
+                    at,
+                    f"up to here the specification has more than {MOST_TOKENS:,} words, numbers and signs, "
+                    "and no more are read",
+                )
         at = found.end()
     return [*tokens, Token("end", "", len(text), len(text))]
 

@@ -69,7 +69,8 @@ class Sets:
         self.numbers = {}
 
     def of(self, values) -> Elements:
-        """The set of the given values: numbers in increasing order, and others in the order in which they first occur."""
+        """The set of the given values: numbers in increasing order, and others in the order in which they first
+        occur."""
         found = {key_of(value): value for value in values}
         items = tuple(found.values())
         number = self.numbers.setdefault(frozenset(found), len(self.numbers))
