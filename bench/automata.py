@@ -50,7 +50,9 @@ fn main(rt: HostRuntime) -> io::Result<()> {
 }
 """
 HEAD = 'HOA: v1 Start: 0 AP: 4 "a" "b" "c" "d" controllable-AP: 0 1 '
-LETTERS = "".join(f"Alias: @{k} " + "&".join(f"{'' if k >> p & 1 else '!'}{p}" for p in range(4)) + "\n" for k in range(16))
+LETTERS = "".join(
+    f"Alias: @{k} " + "&".join(f"{'' if k >> p & 1 else '!'}{p}" for p in range(4)) + "\n" for k in range(16)
+)
 
 
 def target(states, q, k):
@@ -58,11 +60,19 @@ def target(states, q, k):
 
 
 def body(states, edge_of):
-    return "--BODY--\n" + "".join(f"State:{q}\n" + "".join(edge_of(q, k) for k in range(16)) for q in range(states)) + "--END--\n"
+    return (
+        "--BODY--\n"
+        + "".join(f"State:{q}\n" + "".join(edge_of(q, k) for k in range(16)) for q in range(states))
+        + "--END--\n"
+    )
 
 
 def implicit(states):
-    return HEAD + "Acceptance: 1 Inf(0) " + body(states, lambda q, k: f"{target(states, q, k)}{{0}}\n" if k % 3 else f"{target(states, q, k)}\n")
+    return (
+        HEAD
+        + "Acceptance: 1 Inf(0) "
+        + body(states, lambda q, k: f"{target(states, q, k)}{{0}}\n" if k % 3 else f"{target(states, q, k)}\n")
+    )
 
 
 def labels(states):
@@ -71,11 +81,23 @@ def labels(states):
 
 def colours(states):
     chain = "".join(f"{'Inf' if k % 2 else 'Fin'}({k}){'|' if k % 2 else '&'}(" for k in range(32)) + "t" + ")" * 32
-    return HEAD + f"Acceptance: 32 {chain} " + body(states, lambda q, k: f"{target(states, q, k)}{{{' '.join(str((q + k * e) % 32) for e in range(k % 3 + 1))}}}\n")
+    return (
+        HEAD
+        + f"Acceptance: 32 {chain} "
+        + body(
+            states,
+            lambda q, k: f"{target(states, q, k)}{{{' '.join(str((q + k * e) % 32) for e in range(k % 3 + 1))}}}\n",
+        )
+    )
 
 
 def overlap(states):
-    return HEAD + LETTERS + "Acceptance: 1 Inf(0) " + body(states, lambda q, k: f"[@{k - (k == 15 and q == states - 1)}]{target(states, q, k)}\n")
+    return (
+        HEAD
+        + LETTERS
+        + "Acceptance: 1 Inf(0) "
+        + body(states, lambda q, k: f"[@{k - (k == 15 and q == states - 1)}]{target(states, q, k)}\n")
+    )
 
 
 def made(folder):
@@ -93,7 +115,9 @@ def made(folder):
     with open(os.path.join(folder, "crates.txt"), "w", encoding="utf-8") as file:
         file.writelines(lines + ["automaton_time: ps_automaton ps_hoa ps_text\n"])
     subprocess.run(["git", "init", "-q"], cwd=folder, check=True)
-    subprocess.run(["rt", "run"], cwd=os.path.join(crates, "automaton_time"), check=True, input=b"", stdout=subprocess.DEVNULL)
+    subprocess.run(
+        ["rt", "run"], cwd=os.path.join(crates, "automaton_time"), check=True, input=b"", stdout=subprocess.DEVNULL
+    )
     return os.path.join(crates, "automaton_time", "out", "automaton_time")
 
 
@@ -106,7 +130,11 @@ def measure(program):
             run = subprocess.run([program], input=text, capture_output=True, check=True)
             spent = time.perf_counter() - begin
             growth = "" if before is None else f"  growth {spent / before[1] / (states / before[0]):.2f}"
-            print(f"{family.__name__:9} {states:6} states {len(text) / (1 << 20):6.1f} MiB {spent:7.2f} s  {run.stdout.decode().strip()}{growth}", flush=True)
+            print(
+                f"{family.__name__:9} {states:6} states {len(text) / (1 << 20):6.1f} MiB {spent:7.2f} s  "
+                f"{run.stdout.decode().strip()}{growth}",
+                flush=True,
+            )
             before = (states, spent)
 
 

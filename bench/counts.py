@@ -27,35 +27,16 @@ import argparse
 import importlib.util
 import os
 import random
-import shutil
 import subprocess
 import sys
 import tempfile
 
 BENCH = os.path.dirname(os.path.abspath(__file__))
-TOP = os.path.dirname(BENCH)
 sys.dont_write_bytecode = True
 sys.path.insert(0, BENCH)
-from sources import copy_program  # noqa: E402
-BELOW = ("ps_attractor", "ps_components", "ps_game", "ps_measure")
+from sources import made  # noqa: E402
+USES = ("anyhow", "ps_game", "ps_measure")
 WIDE = ["random 100000 2 1000 1", "random 20000 2 1000 1"]
-
-
-def made(folder):
-    """Builds the program in a folder."""
-    crates = os.path.join(folder, "crates")
-    for name in BELOW:
-        shutil.copytree(os.path.join(TOP, "crates", name), os.path.join(crates, name))
-    copy_program("counts", crates)
-    shutil.copy(os.path.join(TOP, "HANDLES"), folder)
-    with open(os.path.join(TOP, "crates.txt"), encoding="utf-8") as file:
-        lines = [line for line in file if line.split(":")[0] in BELOW]
-    with open(os.path.join(folder, "crates.txt"), "w", encoding="utf-8") as file:
-        file.writelines(lines + ["counts: anyhow ps_game ps_measure\n"])
-    subprocess.run(["git", "init", "-q"], cwd=folder, check=True)
-    crate = os.path.join(crates, "counts")
-    subprocess.run(["rt", "run"], cwd=crate, check=True, input=b"0 0", stdout=subprocess.DEVNULL)
-    return os.path.join(crate, "out", "counts")
 
 
 def task(is_shown, nodes, winners, moves):
@@ -90,7 +71,9 @@ def solved(yardstick, path, runs):
     least `counts_ms` of all runs."""
     best = None
     for _ in range(runs):
-        run = subprocess.run([yardstick, "solve", "--out", "sol", "--stats", path], capture_output=True, check=True, text=True)
+        run = subprocess.run(
+            [yardstick, "solve", "--out", "sol", "--stats", path], capture_output=True, check=True, text=True
+        )
         words = run.stderr.split()
         values = dict(zip(words[::2], words[1::2]))
         best = min(best or 1e9, float(values["counts_ms"]))
@@ -120,14 +103,27 @@ def measure(program, yardstick, nodes, runs):
         if sum(int(one[word]) for one in found) != int(values[other]):
             sys.exit(f"{word}: {found}, but {other} {values[other]}")
     edges = int(values["edges"])
-    return [len(nodes), edges, values["priorities"], f"{ours:.1f}", f"{theirs:.1f}", f"{ours / max(theirs, 0.001):.2f}", f"{ours * 1e6 / edges:.0f}"]
+    return [
+        len(nodes),
+        edges,
+        values["priorities"],
+        f"{ours:.1f}",
+        f"{theirs:.1f}",
+        f"{ours / max(theirs, 0.001):.2f}",
+        f"{ours * 1e6 / edges:.0f}",
+    ]
 
 
 def speed(program, given):
     spec = importlib.util.spec_from_file_location("games", given.games)
     games = importlib.util.module_from_spec(spec)
     spec.loader.exec_module(games)
-    print("  ".join(f"{word:>10}" for word in ["vertices", "edges", "priorities", "psyn ms", "other ms", "ratio", "ns/edge"]) + "  game")
+    print(
+        "  ".join(
+            f"{word:>10}" for word in ["vertices", "edges", "priorities", "psyn ms", "other ms", "ratio", "ns/edge"]
+        )
+        + "  game"
+    )
     for line in games.SUITE[given.size] + (WIDE if given.size == "large" else []):
         if given.only not in line:
             continue
@@ -198,11 +194,17 @@ def drawn(dice):
     """A random game with random winners and moves."""
     count, levels = dice.choice((1, 2, 3, 4, 6, 9, 15)), dice.choice((1, 2, 3, 5, 9))
     degree, loose = dice.choice((1, 1, 2, 3)), dice.choice((0, 0, 0.1, 0.5))
-    nodes = [(dice.randrange(levels), dice.randrange(2), dice.sample(range(count), dice.randint(1, min(degree, count)))) for _ in range(count)]
+    nodes = [
+        (dice.randrange(levels), dice.randrange(2), dice.sample(range(count), dice.randint(1, min(degree, count))))
+        for _ in range(count)
+    ]
     winners = [dice.choice((0, 1, 2)) if dice.random() < loose else dice.randrange(2) for _ in range(count)]
     if dice.random() < 0.5:
         winners = [dice.randrange(2)] * count
-    moves = [None if dice.random() < loose else dice.randrange(count) if dice.random() < loose else dice.choice(s) for _, _, s in nodes]
+    moves = [
+        None if dice.random() < loose else dice.randrange(count) if dice.random() < loose else dice.choice(s)
+        for _, _, s in nodes
+    ]
     return nodes, winners, moves
 
 
@@ -227,7 +229,10 @@ def compare(program, number):
                 sys.exit(f"player {player} of {nodes}, {winners}, {moves}: {fault or words}")
             lost += raises is None
             raised += bool(raises)
-    print(f"{len(cases)} games with two players each: {lost} lost cycles, {raised} tables with counts above 0, all as the plain search has them")
+    print(
+        f"{len(cases)} games with two players each: {lost} lost cycles, {raised} tables with counts above 0, "
+        "all as the plain search has them"
+    )
 
 
 def main():
@@ -243,7 +248,7 @@ def main():
     if given.random is None and given.yardstick is None:
         sys.exit(__doc__)
     with tempfile.TemporaryDirectory() as folder:
-        program = given.program or made(folder)
+        program = given.program or made("counts", folder, USES, b"0 0")
         if given.random is not None:
             compare(program, given.random)
         else:

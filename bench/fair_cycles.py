@@ -23,37 +23,18 @@ milliseconds (the least of seven runs), and these divided by the milliseconds of
 import argparse
 import os
 import random
-import shutil
 import subprocess
 import sys
 import tempfile
 
 sys.dont_write_bytecode = True
 BENCH = os.path.dirname(os.path.abspath(__file__))
-TOP = os.path.dirname(BENCH)
 sys.path.insert(0, BENCH)
-from sources import copy_program  # noqa: E402
-BELOW = ("ps_components", "ps_fairness")
+from sources import made  # noqa: E402
+USES = ("anyhow", "ps_components", "ps_fairness")
 LEAST = 65_536
 MARKS = 8
 NONE = 1 << 40
-
-
-def made(folder):
-    """Builds the program in a folder."""
-    crates = os.path.join(folder, "crates")
-    for name in BELOW:
-        shutil.copytree(os.path.join(TOP, "crates", name), os.path.join(crates, name))
-    copy_program("fair_cycles", crates)
-    shutil.copy(os.path.join(TOP, "HANDLES"), folder)
-    with open(os.path.join(TOP, "crates.txt"), encoding="utf-8") as file:
-        lines = [line for line in file if line.split(":")[0] in BELOW]
-    with open(os.path.join(folder, "crates.txt"), "w", encoding="utf-8") as file:
-        file.writelines(lines + ["fair_cycles: anyhow ps_components ps_fairness\n"])
-    subprocess.run(["git", "init", "-q"], cwd=folder, check=True)
-    crate = os.path.join(crates, "fair_cycles")
-    subprocess.run(["rt", "run"], cwd=crate, check=True, input=b"0 ", stdout=subprocess.DEVNULL)
-    return os.path.join(crate, "out", "fair_cycles")
 
 
 def answer(program, marks, slots):
@@ -116,7 +97,9 @@ def drawn_small(dice):
 
 def ring(count, dice):
     places = {count // MARKS * k: k for k in range(MARKS)}
-    return [((v + step) % count, places.get(v, NONE) if step == 1 else NONE) for v in range(count) for step in (1, 2, 3, 4)]
+    return [
+        ((v + step) % count, places.get(v, NONE) if step == 1 else NONE) for v in range(count) for step in (1, 2, 3, 4)
+    ]
 
 
 def back(count, dice):
@@ -126,7 +109,9 @@ def back(count, dice):
 
 
 def drawn(count, dice):
-    return [((v + dice.randrange(-500, 500)) % count, dice.randrange(MARKS - 1)) for v in range(count) for _ in range(4)]
+    return [
+        ((v + dice.randrange(-500, 500)) % count, dice.randrange(MARKS - 1)) for v in range(count) for _ in range(4)
+    ]
 
 
 def rings(count, dice):
@@ -134,7 +119,12 @@ def rings(count, dice):
     for v in range(count):
         start = v // 64 * 64
         after = start + 64 if start + 64 < count else NONE
-        slots += [(start + (v + 1) % 64, v % (MARKS - 1)), (start + (v + 7) % 64, NONE), (after, NONE), (start + (v * 3) % 64, NONE)]
+        slots += [
+            (start + (v + 1) % 64, v % (MARKS - 1)),
+            (start + (v + 7) % 64, NONE),
+            (after, NONE),
+            (start + (v * 3) % 64, NONE),
+        ]
     return slots
 
 
@@ -145,7 +135,7 @@ def main():
     parser.add_argument("--program")
     options = parser.parse_args()
     with tempfile.TemporaryDirectory() as folder:
-        program = options.program or made(folder)
+        program = options.program or made("fair_cycles", folder, USES, b"0 ")
         dice = random.Random(7)
         found = 0
         for number in range(options.random):
@@ -163,7 +153,10 @@ def main():
                 runs = [answer(program, MARKS, slots) for _ in range(7)]
                 millis = min(nanos for nanos, _, _ in runs) / 1e6
                 ratio = f"{millis / last:5.2f}" if last else "    -"
-                print(f"{family.__name__:6} edges {4 * count:9} marks {MARKS} cycle {runs[0][1]:9} {millis:9.1f} ms {ratio}")
+                print(
+                    f"{family.__name__:6} edges {4 * count:9} marks {MARKS} cycle {runs[0][1]:9} "
+                    f"{millis:9.1f} ms {ratio}"
+                )
                 last = millis
                 count *= 2
 

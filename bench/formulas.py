@@ -4,9 +4,9 @@
   bench/formulas.py PEER [COUNT [SEED]]
 
 PEER is a command that reads lines, each with a formula, a tab and a lasso, and writes `yes` or `no` for each. All
-parentheses of a formula are written. A lasso is `10,01(00,11)`: the letters of the stem, and in parentheses those of the
-lap; a letter has a digit for each proposition, in the order in which the formula first names them. Formulas have up to
-30 nodes and up to five propositions. psyn ($PSYN, or crates/psyn/out/psyn) gets a circuit whose inputs are all
+parentheses of a formula are written. A lasso is `10,01(00,11)`: the letters of the stem, and in parentheses those of
+the lap; a letter has a digit for each proposition, in the order in which the formula first names them. Formulas have up
+to 30 nodes and up to five propositions. psyn ($PSYN, or crates/psyn/out/psyn) gets a circuit whose inputs are all
 propositions, and the lasso as its stimulus. Prints how many answers agree, and each formula on which they differ.
 """
 import os
@@ -38,7 +38,9 @@ def asked(chance):
     """A random formula with its number of propositions, and a lasso; at least one proposition occurs."""
     while True:
         places = {}
-        formula = renamed(formulas.a_formula(chance, chance.randrange(1, NODES + 1), chance.randrange(1, len(NAMES) + 1)), places)
+        formula = renamed(
+            formulas.a_formula(chance, chance.randrange(1, NODES + 1), chance.randrange(1, len(NAMES) + 1)), places
+        )
         if places:
             return formula, len(places), *formulas.a_lasso(chance, len(places))
 
@@ -65,7 +67,9 @@ def main():
     while agreed + wrong < count:
         rows = [asked(chance) for _ in range(min(CHUNK, count - agreed - wrong))]
         lines = [f"{formulas.text_of(row[0], NAMES)}\t{digits(row[2])}({digits(row[3])})" for row in rows]
-        theirs = subprocess.run(shlex.split(peer), input="\n".join(lines) + "\n", stdout=subprocess.PIPE, text=True, check=True).stdout.split()
+        theirs = subprocess.run(
+            shlex.split(peer), input="\n".join(lines) + "\n", stdout=subprocess.PIPE, text=True, check=True
+        ).stdout.split()
         ours = sweeps.at_once(lambda row: answer_of(path, row), rows)
         for line, one, other in zip(lines, ours, theirs, strict=True):
             yes += one == "yes"

@@ -35,14 +35,21 @@ def head(states, inputs):
     sets."""
     names = " ".join(f'"i{k}"' for k in range(inputs))
     chain = "Inf(3) | (Fin(2) & (Inf(1) | Fin(0)))"
-    return f'HOA: v1\nStates: {states}\nStart: 0\nAP: {inputs + 1} {names} "o"\ncontrollable-AP: {inputs}\nAcceptance: 4 {chain}\n'
+    return (
+        f'HOA: v1\nStates: {states}\nStart: 0\nAP: {inputs + 1} {names} "o"\ncontrollable-AP: {inputs}\nAcceptance: '
+        f'4 {chain}\n'
+    )
 
 
 def by_states(states):
     """In each state, each letter of the four inputs has an edge for one value of the output."""
     parts = [head(states, 4)]
     for x in range(16):
-        parts.append(f"Alias: @{x} " + "&".join(f"{'' if x >> p & 1 else '!'}{p}" for p in range(4)) + f"&{'' if x % 2 else '!'}4\n")
+        parts.append(
+            f"Alias: @{x} "
+            + "&".join(f"{'' if x >> p & 1 else '!'}{p}" for p in range(4))
+            + f"&{'' if x % 2 else '!'}4\n"
+        )
     parts.append("--BODY--\n")
     for q in range(states):
         parts.append(f"State: {q}\n")

@@ -1,7 +1,8 @@
 #!/usr/bin/env python3
 """Runs psyn on texts that are made to be hard, and prints how long each run takes and how much memory it uses.
 
-  bench/hostile.py PSYN [--only KIND,..] [--commands COMMAND,..] [--rungs N] [--seconds N] [--mebibytes N] [--stack KIBIBYTES]
+  bench/hostile.py PSYN [--only KIND,..] [--commands COMMAND,..] [--rungs N] [--seconds N] [--mebibytes N] [--stack
+  KIBIBYTES]
 
 hostile_texts.py defines the kinds of texts; most texts have 10 to 16 MiB, and games made of rungs have 40 rungs. Each
 text is given to each command that reads it. By default, a run has a stack of 1,024 KiB, at most 1,024 MiB of memory (a
@@ -114,13 +115,19 @@ def measure_kind(given, kind, counts):
             said = marks(is_larger, status, start, processor)
             counts.update(["runs", *said, *["wrong"] * is_wrong(is_larger, status, start)])
             first = start.split(b"\n")[0][:44].decode(errors="replace")
-            row = f"{kind.__name__:19} {number:2} {command[:22]:22} {processor:8.2f} {seconds:8.2f} {used.ru_maxrss >> 10:8} {length:10} {status:7}  {first}"
+            row = (
+                f"{kind.__name__:19} {number:2} {command[:22]:22} {processor:8.2f} {seconds:8.2f} "
+                f"{used.ru_maxrss >> 10:8} {length:10} {status:7}  {first}"
+            )
             print(row, *said, flush=True)
 
 
 def measure(given, kinds):
     counts = collections.Counter()
-    print("kind                no command                  proc s  clock s       MB      bytes  status  answer", flush=True)
+    print(
+        "kind                no command                  proc s  clock s       MB      bytes  status  answer",
+        flush=True,
+    )
     for kind in kinds:
         measure_kind(given, kind, counts)
     print(", ".join(f"{count} {mark}" for mark, count in counts.items()))

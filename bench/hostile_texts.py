@@ -11,7 +11,8 @@ import tempfile
 Run = collections.namedtuple("Run", "command texts is_larger", defaults=(False,))
 SIZE = 1 << 24
 AUTOMATON_COMMANDS = (
-    "lasso", "game", "game --moore", "cert", "cert --compact", "synth", "synth --moore", "synth --full --compact", "synth --cert",
+    "lasso", "game", "game --moore", "cert", "cert --compact", "synth", "synth --moore", "synth --full --compact",
+    "synth --cert",
 )
 BESIDE = {"lasso": ("", ""), "synth --cert": ("",)}
 CERTIFICATE_START = "psyncert 1\nvertices 1\n"
@@ -57,7 +58,9 @@ def label():
 def wide_label():
     """A long label over 64 propositions: a disjunction of cubes of six literals."""
     cubes = ("|" + "&".join(f"{'!' * ((k >> b) % 2)}{(k * 7 + b * 11) % 64}" for b in range(6)) for k in range(SIZE))
-    return on_automata(filled(head(propositions(64), range(32), "1 Inf(0)") + "State: 0 [f", cubes, "] 0 {0} --END--\n"))
+    return on_automata(
+        filled(head(propositions(64), range(32), "1 Inf(0)") + "State: 0 [f", cubes, "] 0 {0} --END--\n")
+    )
 
 
 def twined_label():
@@ -78,7 +81,10 @@ def condition():
 
 def states():
     """65,535 states with 16 unlabelled edges each: one edge for each letter over four propositions."""
-    rows = (f"State: {q}\n" + "".join(f"{(q * 31 + e * 977) % 65535} {{{e % 3}}}\n" for e in range(16)) for q in range(65535))
+    rows = (
+        f"State: {q}\n" + "".join(f"{(q * 31 + e * 977) % 65535} {{{e % 3}}}\n" for e in range(16))
+        for q in range(65535)
+    )
     return on_automata(filled(head(propositions(4), [2, 3], "3 Fin(2) & (Inf(1) | Fin(0))"), rows, "--END--\n"))
 
 
@@ -98,18 +104,25 @@ def marks():
     """A state with an edge for each of 131,072 letters; all edges lead to one state, and their sets of acceptance marks
     would collide in a hash table with a fixed seed."""
     masks = map(int, colliding(1 << 17, 17, 1 << 60, 0))
-    row = ("[" + "&".join(f"{'!' * (1 - (k >> b) % 2)}{b}" for b in range(17)) + f"] 0 {{{' '.join(str(s) for s in range(64) if mask >> s & 1)}}}\n"
-           for k, mask in enumerate(masks))
+    row = (
+        "[" + "&".join(
+            f"{'!' * (1 - (k >> b) % 2)}{b}" for b in range(17)
+        ) + f"] 0 {{{' '.join(str(s) for s in range(64) if mask >> s & 1)}}}\n"
+        for k, mask in enumerate(masks)
+    )
     return on_automata(filled(head(propositions(17), [16], "64 t") + "State: 0\n", row, "--END--\n"))
 
 
 def letters():
-    """65,534 states, each with an edge for one letter of 20 propositions; the pairs of a state and its letter would collide
-    in a hash table with a fixed seed. With --moore, such a pair stands for a vertex."""
+    """65,534 states, each with an edge for one letter of 20 propositions; the pairs of a state and its letter would
+    collide in a hash table with a fixed seed. With --moore, such a pair stands for a vertex."""
     count = 65534
     chosen = map(int, colliding(count, 14, 1 << 20, "each"))
-    rows = (f"State: {q} [{'&'.join(('' if letter >> b & 1 else '!') + str(b) for b in range(20))}] {(q + 1) % count} {{0}}\n"
-            for q, letter in enumerate(chosen))
+    rows = (
+        "State: "
+        f"{q} [{'&'.join(('' if letter >> b & 1 else '!') + str(b) for b in range(20))}] {(q + 1) % count} {{0}}\n"
+        for q, letter in enumerate(chosen)
+    )
     return on_automata(filled(head(propositions(21), range(20), "1 Inf(0)"), rows, "--END--\n"))
 
 
@@ -122,9 +135,14 @@ def inputs():
 def cascades():
     """States that test 16 inputs one after another; the first true input chooses the next state."""
     def row(q):
-        edges = (f"[{'&'.join([f'!{(q + j) % 48}' for j in range(e)] + [str((q + e) % 48)])}] {(q * 17 + e) % 20000}" for e in range(16))
+        edges = (
+            f"[{'&'.join([f'!{(q + j) % 48}' for j in range(e)] + [str((q + e) % 48)])}] {(q * 17 + e) % 20000}"
+            for e in range(16)
+        )
         return f"State: {q} {' '.join(edges)}\n"
-    return on_automata(filled(head(propositions(64), range(48, 64), "0 t"), (row(q) for q in range(20000)), "--END--\n"))
+    return on_automata(
+        filled(head(propositions(64), range(48, 64), "0 t"), (row(q) for q in range(20000)), "--END--\n")
+    )
 
 
 def nesting():
@@ -152,7 +170,9 @@ def names():
     start = head(propositions(8), [7], "1 Inf(0)").removesuffix("--BODY--\n")
     aliases = [f"@{'n' * 2000}{k:04}" for k in range(4096)]
     uses = (f"State: {q} [{aliases[(q * 61) % 4096]}&{aliases[(q * 997) % 4096]}] 0 {{0}}\n" for q in range(65535))
-    text = filled(start + "".join(f"Alias: {name} {k % 8}\n" for k, name in enumerate(aliases)) + "--BODY--\n", uses, "--END--\n")
+    text = filled(
+        start + "".join(f"Alias: {name} {k % 8}\n" for k, name in enumerate(aliases)) + "--BODY--\n", uses, "--END--\n"
+    )
     return on_automata(head(long, [63], "0 t") + "State: 0 [0] 0 [!0&63] 0 --END--\n") + on_automata(text)
 
 
@@ -174,7 +194,10 @@ def colliding(count, bits, most, *first):
     with the tag 1, the index of a number, and the number."""
     with tempfile.TemporaryDirectory() as room:
         program = os.path.join(room, "colliding")
-        subprocess.run(["cc", "-O2", "-o", program, os.path.join(os.path.dirname(os.path.abspath(__file__)), "colliding.c")], check=True)
+        subprocess.run(
+            ["cc", "-O2", "-o", program, os.path.join(os.path.dirname(os.path.abspath(__file__)), "colliding.c")],
+            check=True,
+        )
         found = subprocess.run([program, *map(str, (count, bits, most, *first))], capture_output=True, check=True)
     return found.stdout.decode().split()
 
@@ -237,7 +260,9 @@ def game_by_rungs(family, rungs):
             here = len(lines)
             targets = targets_at(family, leads, rung, rungs) or [here]
             owner = player ^ (rung % 2) if family.turns else player
-            lines.append(f"{here} {priority_at(family, kind, number, rung, rungs)} {owner} {','.join(map(str, targets))};\n")
+            lines.append(
+                f"{here} {priority_at(family, kind, number, rung, rungs)} {owner} {','.join(map(str, targets))};\n"
+            )
     return "".join(lines)
 
 
@@ -306,7 +331,9 @@ BY_RUNGS = (ladder, second_ladder, twisted, braided, steep, slow_to_improve)
 def names_of_games():
     """Three texts: a vertex with a name of 16 MiB; a vertex with an id of 16 MiB of zeros; and a number of 16 MiB of
     nines."""
-    return on_games(f'0 0 0 0 "{"n" * (SIZE - 20)}";\n') + on_games(f'{"0" * (SIZE - 20)} 0 0 0;\n') + on_games("9" * SIZE)
+    return (
+        on_games(f'0 0 0 0 "{"n" * (SIZE - 20)}";\n') + on_games(f'{"0" * (SIZE - 20)} 0 0 0;\n') + on_games("9" * SIZE)
+    )
 
 
 def certificates():
@@ -318,10 +345,14 @@ def certificates():
     counts = [((v + 4) // 5, (v + 2) // 5) for v in range(count)]
     start = f"vertices {count}\nodd 1 3\neven 0 2 4\n"
     lines = [f"{line} {one} {three}\n" for line, (one, three) in zip(begun, counts)]
-    pairs = [f"{line}{f' 1:{one}' * (one > 0)}{f' 3:{three}' * (three > 0)}\n" for line, (one, three) in zip(begun, counts)]
+    pairs = [
+        f"{line}{f' 1:{one}' * (one > 0)}{f' 3:{three}' * (three > 0)}\n" for line, (one, three) in zip(begun, counts)
+    ]
     right = f"psyncert 1\n{start}{''.join(lines)}"
     last = right.removesuffix(lines[-1]) + lines[-1].replace(" 0 - ", " 0 7 ")
-    texts = [right, last, right[:-1], f"psyncert 1\n{start}0 0 0 {'1' * 1000000}\n", f"psyncert 2\n{start}{''.join(pairs)}"]
+    texts = [
+        right, last, right[:-1], f"psyncert 1\n{start}0 0 0 {'1' * 1000000}\n", f"psyncert 2\n{start}{''.join(pairs)}"
+    ]
     return [Run(command, (game, text)) for command in ("closed", "check") for text in texts]
 
 
@@ -346,7 +377,9 @@ def gates():
     closed = [f"2 {2 * count - 2} 3", *rising]
     runs = []
     for listed, inputs_of in ((rising, ["2"]), (rising[::-1], ["2"]), (closed, [])):
-        runs += on_circuits(circuit(inputs_of, [], [str(2 * count - 2)], listed, count), "0\n1\n" if inputs_of else "\n\n")
+        runs += on_circuits(
+            circuit(inputs_of, [], [str(2 * count - 2)], listed, count), "0\n1\n" if inputs_of else "\n\n"
+        )
     return runs
 
 
@@ -404,7 +437,9 @@ def counting():
             carry = 2 * v
             continue
         both, neither, turned = 2 * top + 2, 2 * top + 4, 2 * top + 6
-        gates_of += [f"{both} {2 * v} {carry}", f"{neither} {2 * v + 1} {carry ^ 1}", f"{turned} {both + 1} {neither + 1}"]
+        gates_of += [
+            f"{both} {2 * v} {carry}", f"{neither} {2 * v + 1} {carry ^ 1}", f"{turned} {both + 1} {neither + 1}"
+        ]
         lines.append(f"{2 * v} {turned}")
         carry, top = both, top + 3
     return [Run("lasso", (ONE_STATE, circuit([], lines, [], gates_of, top), "-\n\n"), True)]
@@ -417,11 +452,18 @@ def inputs_at_the_limit():
 
 def first_lines():
     """First lines of 16 MiB: one word, words of one letter, flags, and blanks."""
-    lines = ["x" * SIZE, "x " * (SIZE // 2), "solve" + " --compact" * (SIZE // 10), "solve" + " " * SIZE, "synth --" + "c" * SIZE]
+    lines = [
+        "x" * SIZE,
+        "x " * (SIZE // 2),
+        "solve" + " --compact" * (SIZE // 10),
+        "solve" + " " * SIZE,
+        "synth --" + "c" * SIZE,
+    ]
     return [Run(line, ("0 0 0 0;",)) for line in lines]
 
 
 KINDS = (
-    label, wide_label, twined_label, condition, states, edges, equal_edges, marks, letters, inputs, cascades, nesting, comments, names, vertices, ids, priorities,
-    fan, *BY_RUNGS, names_of_games, certificates, gates, latches, wires, variables, stimuli, letters_and_gates, counting, inputs_at_the_limit, first_lines,
+    label, wide_label, twined_label, condition, states, edges, equal_edges, marks, letters, inputs, cascades, nesting,
+    comments, names, vertices, ids, priorities, fan, *BY_RUNGS, names_of_games, certificates, gates, latches, wires,
+    variables, stimuli, letters_and_gates, counting, inputs_at_the_limit, first_lines,
 )

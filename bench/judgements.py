@@ -64,7 +64,9 @@ def simple_arbiter(n):
 def full_arbiter(n):
     asked, given, _, sentences = simple_arbiter(n)
     for r, g in zip(asked, given):
-        sentences += [f"G (({g} && G !{r}) -> F !{g})", f"G (({g} && X (!{r} && !{g})) -> X ({r} R !{g}))", f"{r} R !{g}"]
+        sentences += [
+            f"G (({g} && G !{r}) -> F !{g})", f"G (({g} && X (!{r} && !{g})) -> X ({r} R !{g}))", f"{r} R !{g}"
+        ]
     return asked, given, [], sentences
 
 
@@ -76,7 +78,9 @@ def prio_arbiter(n):
 
 def load_balancer(n):
     asked, given = numbered("r", n), numbered("g", n)
-    assumed = ["G F idle", f"G ((idle && X {none(given)}) -> X idle)", "G ((X !g0) || X ((!r0 && !idle) U (!r0 && idle)))"]
+    assumed = [
+        "G F idle", f"G ((idle && X {none(given)}) -> X idle)", "G ((X !g0) || X ((!r0 && !idle) U (!r0 && idle)))"
+    ]
     sentences = [f"X {exclusive(given)}", f"G ((X {some(given)}) -> idle)", "G (r0 -> X !g1)"]
     return ["idle", *asked], given, assumed, sentences + [f"!F G ({r} && X !{g})" for r, g in zip(asked, given)]
 
@@ -111,7 +115,9 @@ def lift_open(n):
     sentences = ["f0", exclusive(floors)]
     for i, floor in enumerate(floors):
         near = [floor, *floors[max(0, i - 1) : i], *floors[i + 1 : i + 2]]
-        sentences += [f"G ({floor} -> X {some(near)})", f"G (({floor} && open) -> X {floor})", f"G (b{i} -> F ({floor} && open))"]
+        sentences += [
+            f"G ({floor} -> X {some(near)})", f"G (({floor} && open) -> X {floor})", f"G (b{i} -> F ({floor} && open))"
+        ]
     return numbered("b", n), [*floors, "open"], [], [*sentences, "G F !open"]
 
 
@@ -132,7 +138,9 @@ SIZES = (8, 5, 8, 8, 10, 9, 9, 12, 6, 3)
 
 def text(inputs, outputs, assumed, sentences):
     lists = f"INPUTS {{ {'; '.join(inputs)}; }} OUTPUTS {{ {'; '.join(outputs)}; }}"
-    sections = [f"{word} {{ {'; '.join(those)}; }}" for word, those in (("ASSUME", assumed), ("GUARANTEE", sentences)) if those]
+    sections = [
+        f"{word} {{ {'; '.join(those)}; }}" for word, those in (("ASSUME", assumed), ("GUARANTEE", sentences)) if those
+    ]
     return f"INFO {{ SEMANTICS: Mealy TARGET: Mealy }} MAIN {{ {lists} {' '.join(sections)} }}\n"
 
 
@@ -140,7 +148,11 @@ class Bench:
     """The programs, and the helper bench/held.c, which tells what a process took."""
 
     def __init__(self, words, folder):
-        self.peer, self.runs, self.most, self.folder, self.held = words.peer, words.runs, words.most, folder, os.path.join(folder, "held")
+        self.peer = words.peer
+        self.runs = words.runs
+        self.most = words.most
+        self.folder = folder
+        self.held = os.path.join(folder, "held")
         subprocess.run(["cc", "-O2", "-o", self.held, os.path.join(BENCH, "held.c")], check=True)
 
     def path(self, ending):
@@ -156,7 +168,9 @@ class Bench:
         self.written("in", given)
         with open(self.path("in"), "rb") as file:
             begin = lambda: (os.dup2(write, 3), limited(self.most))  # noqa: E731
-            child = subprocess.Popen([self.held, *words], stdin=file, stdout=subprocess.PIPE, pass_fds=[3], preexec_fn=begin)
+            child = subprocess.Popen(
+                [self.held, *words], stdin=file, stdout=subprocess.PIPE, pass_fds=[3], preexec_fn=begin
+            )
         said = child.communicate()[0].decode()
         os.close(write)
         with open(read, encoding="ascii") as file:
@@ -166,7 +180,11 @@ class Bench:
     def both(self):
         """What the peer prints of a specification up to its second check, and the seconds until it had written the
         automaton, and until the end of that check."""
-        child = subprocess.Popen([self.peer, "one", self.path("tlsf")], stdout=subprocess.PIPE, env={**os.environ, "P14_HOA": self.path("hoa")})
+        child = subprocess.Popen(
+            [self.peer, "one", self.path("tlsf")],
+            stdout=subprocess.PIPE,
+            env={**os.environ, "P14_HOA": self.path("hoa")},
+        )
         at, lines = {}, []
         for line in child.stdout:
             lines.append(line.decode())
@@ -194,7 +212,8 @@ def limited(seconds):
 
 class Case:
     def __init__(self, bench, name):
-        self.bench, self.is_ended = bench, False
+        self.bench = bench
+        self.is_ended = False
         family, size = name.split(":")
         self.spec = text(*{one.__name__: one for one in FAMILIES}[family](int(size)))
         bench.written("tlsf", self.spec)
@@ -224,15 +243,25 @@ class Case:
         self.bench.written("aag", circuit)
         found = []
         for _ in range(self.bench.runs):
-            said, seconds, held, _ = self.bench.took([self.bench.peer, "circuit", self.bench.path("tlsf"), self.bench.path("aag"), *env])
+            said, seconds, held, _ = self.bench.took(
+                [self.bench.peer, "circuit", self.bench.path("tlsf"), self.bench.path("aag"), *env]
+            )
             if " satisfies " not in said:
                 sys.exit(f"the peer says: {said}")
-            found.append((*self.psyn(f"verify --tlsf{' --env' * bool(env)}", "wins\n", self.spec, circuit), seconds, held))
-        return [min(column) for column in zip(*found)], f"{first.lower()}, {circuit.split()[5]} gates{', ended' * self.is_ended}"
+            found.append(
+                (*self.psyn(f"verify --tlsf{' --env' * bool(env)}", "wins\n", self.spec, circuit), seconds, held)
+            )
+        return (
+            [min(column) for column in zip(*found)],
+            f"{first.lower()}, {circuit.split()[5]} gates{', ended' * self.is_ended}",
+        )
 
 
 def beside(own, held, other, theirs):
-    return f"{own:7.3f} s {held:4.0f} MiB, peer {other:7.3f} {theirs:4.0f}: {own / max(other, 1e-4):5.2f} {held / theirs:5.2f}"
+    return (
+        f"{own:7.3f} s {held:4.0f} MiB, peer {other:7.3f} {theirs:4.0f}: "
+        f"{own / max(other, 1e-4):5.2f} {held / theirs:5.2f}"
+    )
 
 
 def told(name, verified, agreed):
@@ -244,7 +273,9 @@ def main():
     words.add_argument("peer")
     words.add_argument("--runs", type=int, default=3)
     words.add_argument("--most", type=int, default=100)
-    words.add_argument("names", nargs="*", default=[f"{family.__name__}:{size}" for family, size in zip(FAMILIES, SIZES)])
+    words.add_argument(
+        "names", nargs="*", default=[f"{family.__name__}:{size}" for family, size in zip(FAMILIES, SIZES)]
+    )
     given = words.parse_intermixed_args()
     os.sched_setaffinity(0, {max(os.sched_getaffinity(0))})
     sums = []

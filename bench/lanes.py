@@ -18,48 +18,17 @@ two.
 import argparse
 import os
 import random
-import shutil
 import subprocess
 import sys
 import tempfile
 
 sys.dont_write_bytecode = True
 BENCH = os.path.dirname(os.path.abspath(__file__))
-TOP = os.path.dirname(BENCH)
 sys.path.insert(0, BENCH)
-from sources import copy_program  # noqa: E402
-STANDS_ON = ("ps_circuit", "ps_simulate")
+from sources import made  # noqa: E402
+USES = ("anyhow", "ps_circuit", "ps_simulate")
 SIZES = (10_000, 100_000, 1_000_000)
 LETTERS = 8
-
-
-def lines_below(names):
-    """The lines of crates.txt, by crate, for the given crates and all crates that they use."""
-    with open(os.path.join(TOP, "crates.txt"), encoding="utf-8") as file:
-        lines = {line.split(":")[0]: line for line in file if ":" in line and not line.startswith("#")}
-    found, pending = {}, list(names)
-    while pending:
-        name = pending.pop()
-        if name in lines and name not in found:
-            found[name] = lines[name]
-            pending += lines[name].split(":")[1].split()
-    return found
-
-
-def made(folder):
-    """Builds the program in a folder."""
-    crates = os.path.join(folder, "crates")
-    below = lines_below(STANDS_ON)
-    for name in below:
-        shutil.copytree(os.path.join(TOP, "crates", name), os.path.join(crates, name))
-    copy_program("lanes", crates)
-    shutil.copy(os.path.join(TOP, "HANDLES"), folder)
-    with open(os.path.join(folder, "crates.txt"), "w", encoding="utf-8") as file:
-        file.writelines([*below.values(), f"lanes: anyhow {' '.join(STANDS_ON)}\n"])
-    subprocess.run(["git", "init", "-q"], cwd=folder, check=True)
-    crate = os.path.join(crates, "lanes")
-    subprocess.run(["rt", "run"], cwd=crate, check=True, input=b"aag 0 0 0 0 0\n", stdout=subprocess.DEVNULL)
-    return os.path.join(crate, "out", "lanes")
 
 
 def times(program, text):
@@ -100,15 +69,22 @@ def main():
     import simulate  # the circuits of the other bench
 
     with tempfile.TemporaryDirectory() as folder:
-        program = given.program or made(folder)
+        program = given.program or made("lanes", folder, USES, b"aag 0 0 0 0 0\n")
         dice = random.Random(given.random)
         for _ in range(given.random):
             times(program, circuit_text(dice))
-        print(f"{given.random} circuits: in 256 lanes, {LETTERS} letters long, outputs and latches as the plain runs have them")
+        print(
+            f"{given.random} circuits: in 256 lanes, {LETTERS} letters long, "
+            "outputs and latches as the plain runs have them"
+        )
         for gates in SIZES:
             found = times(program, simulate.circuit_text(gates))
             each = {word: nanos / LETTERS / gates for word, nanos in found.items()}
-            print(f"{gates:>9} gates: {each['lanes']:.1f} ns a gate in lanes, {each['plain']:.1f} in one run, ratio {found['lanes'] / found['plain']:.1f}", flush=True)
+            print(
+                f"{gates:>9} gates: {each['lanes']:.1f} ns a gate in lanes, {each['plain']:.1f} in one run, "
+                f"ratio {found['lanes'] / found['plain']:.1f}",
+                flush=True,
+            )
 
 
 if __name__ == "__main__":

@@ -24,7 +24,6 @@ import argparse
 import collections
 import os
 import random
-import shutil
 import subprocess
 import sys
 import tempfile
@@ -36,10 +35,10 @@ sys.path.insert(0, BENCH)
 sys.path.insert(0, os.path.join(TOP, "tools"))
 from psyntool.ends import Refused  # noqa: E402
 from psyntool.program import path as own_path  # noqa: E402
-from sources import copy_program  # noqa: E402
-STANDS_ON = (
-    "ps_aiger", "ps_automaton", "ps_brief", "ps_certificate", "ps_diagram", "ps_game", "ps_hoa", "ps_machine",
-    "ps_mixing", "ps_program", "ps_referee", "ps_synthesis",
+from sources import made  # noqa: E402
+USES = (
+    "anyhow", "indexmap", "ps_aiger", "ps_automaton", "ps_brief", "ps_certificate", "ps_diagram", "ps_game", "ps_hoa",
+    "ps_machine", "ps_mixing", "ps_program", "ps_referee", "ps_synthesis",
 )
 CONDITIONS = (
     "0 t", "1 Inf(0)", "1 Fin(0)", "2 Fin(0) & Inf(1)", "2 Inf(0) | Fin(1)", "3 Inf(0) | (Fin(1) & Inf(2))",
@@ -47,27 +46,6 @@ CONDITIONS = (
 )
 MOST_EDGES = 1_024  # of a state, if `synth` is to do without the game
 TRIVIAL = "HOA: v1 Start: 0 controllable-AP: Acceptance: 0 t --BODY-- State: 0 [t] 0 --END--\n"
-
-
-def made(folder):
-    """Builds the program in a folder."""
-    import lanes  # which crates another one uses
-
-    crates = os.path.join(folder, "crates")
-    below = lanes.lines_below(STANDS_ON)
-    for name in below:
-        shutil.copytree(os.path.join(TOP, "crates", name), os.path.join(crates, name))
-    copy_program("lifted", crates)
-    shutil.copy(os.path.join(TOP, "HANDLES"), folder)
-    with open(os.path.join(folder, "crates.txt"), "w", encoding="utf-8") as file:
-        file.writelines([*below.values(), f"lifted: anyhow indexmap {' '.join(STANDS_ON)}\n"])
-    subprocess.run(["git", "init", "-q"], cwd=folder, check=True)
-    crate = os.path.join(crates, "lifted")
-    text = b"game\n" + TRIVIAL.encode()
-    run = subprocess.run(["rt", "run"], cwd=crate, check=False, input=text, stdout=subprocess.DEVNULL)
-    if run.returncode != 0:
-        sys.exit(f"lifted: the program is not built: `rt run` ends with status {run.returncode}")
-    return os.path.join(crate, "out", "lifted")
 
 
 def edges_of(dice, names, states, sets, said=()):
@@ -167,7 +145,11 @@ def main():
     try:
         psyn = given.psyn or own_path()
         with tempfile.TemporaryDirectory() as folder:
-            wrong = compare(given, psyn, [given.program or made(folder), *["plain"] * given.plain])
+            wrong = compare(
+                given,
+                psyn,
+                [given.program or made("lifted", folder, USES, b"game\n" + TRIVIAL.encode()), *["plain"] * given.plain],
+            )
     except (OSError, Refused) as error:
         sys.exit(f"lifted: {error}")
     sys.exit(f"{wrong} of {given.cases} cases differ" if wrong else None)

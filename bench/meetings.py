@@ -1,13 +1,15 @@
 #!/usr/bin/env python3
-"""Lets each environment that `synth --tlsf` prints for random specifications meet all controllers of up to two memories.
+"""Lets each environment that `synth --tlsf` prints for random specifications meet all controllers of up to two
+memories.
 
   bench/meetings.py [COUNT [SEED]]
 
-COUNT random specifications of up to 10 nodes in their formulas have one input and one or two outputs. Where psyn ($PSYN,
-or crates/psyn/out/psyn) says UNREALIZABLE, each controller with at most two memories is enumerated, and plays against
-the circuit until memory and latches come again. The lasso of this play must violate the specification, by an evaluator
-of formulas in Python. Where psyn says REALIZABLE, its circuit is met by all environments of up to two memories, and each
-lasso must satisfy the specification. Prints each specification where that fails, and at last how many plays there were.
+COUNT random specifications of up to 10 nodes in their formulas have one input and one or two outputs. Where psyn
+($PSYN, or crates/psyn/out/psyn) says UNREALIZABLE, each controller with at most two memories is enumerated, and plays
+against the circuit until memory and latches come again. The lasso of this play must violate the specification, by an
+evaluator of formulas in Python. Where psyn says REALIZABLE, its circuit is met by all environments of up to two
+memories, and each lasso must satisfy the specification. Prints each specification where that fails, and at last how
+many plays there were.
 """
 import collections
 import itertools
@@ -28,19 +30,28 @@ NODES, MEMORIES = 10, 2
 
 
 class Machine:
-    """A circuit as a table that is filled where a play asks: latches and what it reads give latches and what it says."""
+    """A circuit as a table that is filled where a play asks: latches and what it reads give latches and what it
+    says."""
 
     def __init__(self, text):
-        self.made, self.known = circuit.read(text).ordered, {}
+        self.made = circuit.read(text).ordered
+        self.known = {}
         self.names = self.made.names("i"), self.made.names("o")
         self.start = tuple(latch.reset for latch in self.made.latches)
 
     def step(self, latches, given):
         if (latches, given) not in self.known:
             values = {latch.literal // 2: value for latch, value in zip(self.made.latches, latches)}
-            known = self.made.known_values(values | {literal // 2: int(name in given) for literal, name in zip(self.made.inputs, self.names[0])})
+            known = self.made.known_values(
+                values | {literal // 2: int(name in given) for literal, name in zip(self.made.inputs, self.names[0])}
+            )
             after = tuple(circuit.at(known, latch.next) for latch in self.made.latches)
-            self.known[latches, given] = after, frozenset(name for name, literal in zip(self.names[1], self.made.outputs) if circuit.at(known, literal))
+            self.known[latches, given] = (
+                after,
+                frozenset(
+                    name for name, literal in zip(self.names[1], self.made.outputs) if circuit.at(known, literal)
+                ),
+            )
         return self.known[latches, given]
 
 
@@ -49,11 +60,15 @@ def letters(names):
 
 
 def players(reads, says, is_first):
-    """All players with at most two memories: for each memory what the player says and where it goes, by what it reads; one
-    who is first says the same whatever it reads."""
+    """All players with at most two memories: for each memory what the player says and where it goes, by what it reads;
+    one who is first says the same whatever it reads."""
     seen, said, nexts = letters(reads), letters(says), range(MEMORIES)
     if is_first:
-        rows = [{letter: (goes[k], one) for k, letter in enumerate(seen)} for one in said for goes in itertools.product(nexts, repeat=len(seen))]
+        rows = [
+            {letter: (goes[k], one) for k, letter in enumerate(seen)}
+            for one in said
+            for goes in itertools.product(nexts, repeat=len(seen))
+        ]
     else:
         rows = [dict(zip(seen, row)) for row in itertools.product(itertools.product(nexts, said), repeat=len(seen))]
     return itertools.product(rows, repeat=MEMORIES)

@@ -24,7 +24,10 @@ ONE_STATE = "HOA: v1 Start: 0 controllable-AP: Acceptance: 0 t --BODY-- State: 0
 
 def game(count, degree, priorities):
     dice = random.Random(count)
-    rows = (f"{v} {dice.randrange(priorities)} {v % 2} {','.join(map(str, dice.sample(range(count), degree)))};\n" for v in range(count))
+    rows = (
+        f"{v} {dice.randrange(priorities)} {v % 2} {','.join(map(str, dice.sample(range(count), degree)))};\n"
+        for v in range(count)
+    )
     return "".join(rows)
 
 
@@ -38,8 +41,14 @@ def latches(count):
 
 
 def states(count):
-    head = 'HOA: v1 Start: 0 AP: 4 "a" "b" "c" "d" controllable-AP: 2 3 Acceptance: 3 Fin(2) & (Inf(1) | Fin(0)) --BODY--\n'
-    rows = (f"State: {q}\n" + "".join(f"{(q * 31 + e * 977) % count} {{{e % 3}}}\n" for e in range(16)) for q in range(count))
+    head = (
+        'HOA: v1 Start: 0 AP: 4 "a" "b" "c" "d" controllable-AP: 2 3 Acceptance: '
+        '3 Fin(2) & (Inf(1) | Fin(0)) --BODY--\n'
+    )
+    rows = (
+        f"State: {q}\n" + "".join(f"{(q * 31 + e * 977) % count} {{{e % 3}}}\n" for e in range(16))
+        for q in range(count)
+    )
     return head + "".join(rows) + "--END--\n"
 
 
@@ -49,19 +58,27 @@ def label(count):
 
 
 def condition(count):
-    return "HOA: v1 Start: 0 controllable-AP: Acceptance: 2 Fin(0)" + "|Inf(0)" * (count // 7) + " --BODY-- State: 0 0 {0} --END--\n"
+    return (
+        "HOA: v1 Start: 0 controllable-AP: Acceptance: 2 Fin(0)"
+        + "|Inf(0)" * (count // 7)
+        + " --BODY-- State: 0 0 {0} --END--\n"
+    )
 
 
 class Bench:
     def __init__(self, program, room):
-        self.program, self.input, self.output = program, os.path.join(room, "input"), os.path.join(room, "output")
+        self.program = program
+        self.input = os.path.join(room, "input")
+        self.output = os.path.join(room, "output")
 
     def run(self, command, *texts):
         """The greatest memory use of a run, and the length of its input, in bytes."""
         with open(self.input, "w", encoding="ascii") as file:
             file.write(command + "\n" + "%%\n".join(texts))
         open(self.output, "wb").close()
-        child = subprocess.run([sys.executable, "-S", "-c", SPAWN, self.program, self.input, self.output], capture_output=True, check=True)
+        child = subprocess.run(
+            [sys.executable, "-S", "-c", SPAWN, self.program, self.input, self.output], capture_output=True, check=True
+        )
         held, status = map(int, child.stdout.split())
         if status not in (0, 10, 20):
             sys.exit(f"{command}: status {status}")
@@ -89,7 +106,13 @@ def main():
             kind = f"{degree} edges, {priorities} priorities"
             bench.tell("solve", kind, "vertex", large, lambda n: [game(n, degree, priorities)])
             for command in ("closed", "check"):
-                bench.tell(command, kind, "vertex", large, lambda n: [text := game(n, degree, priorities), bench.certificate(text)])
+                bench.tell(
+                    command,
+                    kind,
+                    "vertex",
+                    large,
+                    lambda n: [text := game(n, degree, priorities), bench.certificate(text)],
+                )
         bench.tell("sim", "a chain of gates", "gate", large, lambda n: [gates(n), "0\n1\n"])
         bench.tell("sim", "a ring of latches", "latch", large, lambda n: [latches(n), "\n\n"])
         bench.tell("sim", "letters of one digit", "letter", (10**6, 4 * 10**6), lambda n: [gates(1), "1\n" * n])

@@ -81,7 +81,11 @@ def main():
             wrong += bool(why)
             if why:
                 print(f"{why}{' (env)' * env}: {text.strip()}\n{circuit}")
-    print(", ".join(f"{times} {first}" for first, times in found.most_common()), f"; {wrong} differ; {time.monotonic() - began:.0f} s", sep="")
+    print(
+        ", ".join(f"{times} {first}" for first, times in found.most_common()),
+        f"; {wrong} differ; {time.monotonic() - began:.0f} s",
+        sep="",
+    )
     return 1 if wrong else 0
 
 

@@ -27,17 +27,15 @@ import os
 import random
 import re
 import resource
-import shutil
 import subprocess
 import sys
 import tempfile
 
 sys.dont_write_bytecode = True
 BENCH = os.path.dirname(os.path.abspath(__file__))
-TOP = os.path.dirname(BENCH)
 sys.path.insert(0, BENCH)
-from sources import copy_program  # noqa: E402
-STANDS_ON = ("ps_pgsolver", "ps_zielonka")
+from sources import made  # noqa: E402
+USES = ("anyhow", "ps_game", "ps_pgsolver", "ps_zielonka")
 SIZES = (1_000, 10_000, 100_000)
 TABLES = 4096
 
@@ -67,7 +65,14 @@ def drawn(dice):
     while True:
         count = dice.randrange(1, 13)
         most = dice.randrange(1, 9)
-        game = [(dice.randrange(most), dice.randrange(2), dice.sample(range(count), min(count, dice.choice((1, 1, 2, 2, 3))))) for _ in range(count)]
+        game = [
+            (
+                dice.randrange(most),
+                dice.randrange(2),
+                dice.sample(range(count), min(count, dice.choice((1, 1, 2, 2, 3)))),
+            )
+            for _ in range(count)
+        ]
         tables = 1
         for _, _, to in game:
             tables *= len(to)
@@ -121,27 +126,14 @@ def check(game, lines):
             assert all(found[v] == player for v in printed[player]), (game, lines)
 
 
-def made(folder):
-    """Builds the program in a folder."""
-    import lanes  # which crates another one uses
-
-    crates = os.path.join(folder, "crates")
-    below = lanes.lines_below(STANDS_ON)
-    for name in below:
-        shutil.copytree(os.path.join(TOP, "crates", name), os.path.join(crates, name))
-    copy_program("regions", crates)
-    shutil.copy(os.path.join(TOP, "HANDLES"), folder)
-    with open(os.path.join(folder, "crates.txt"), "w", encoding="utf-8") as file:
-        file.writelines([*below.values(), f"regions: anyhow ps_game {' '.join(STANDS_ON)}\n"])
-    subprocess.run(["git", "init", "-q"], cwd=folder, check=True)
-    crate = os.path.join(crates, "regions")
-    subprocess.run(["rt", "run"], cwd=crate, check=True, input=b"0 0 0 0;\n", stdout=subprocess.DEVNULL)
-    return os.path.join(crate, "out", "regions")
-
-
 def beside(solver, text):
     """The milliseconds that another solver took; None if it did not print them."""
-    run = subprocess.run([solver, "solve", "--stats", "--counts", "none", "--out", "none"], input=text.encode(), capture_output=True, check=False)
+    run = subprocess.run(
+        [solver, "solve", "--stats", "--counts", "none", "--out", "none"],
+        input=text.encode(),
+        capture_output=True,
+        check=False,
+    )
     found = re.search(r"solve_ms (\d+\.\d+)", run.stderr.decode())
     return float(found[1]) if found else None
 
@@ -162,14 +154,16 @@ def main():
     words.add_argument("--games")
     given = words.parse_args()
     with tempfile.TemporaryDirectory() as folder:
-        program = given.program or made(folder)
+        program = given.program or made("regions", folder, USES, b"0 0 0 0;\n")
         dice = random.Random(given.random)
         for _ in range(given.random):
             game = drawn(dice)
             check(game, answer(program, game_text(game))[2])
         print(f"{given.random} games: winners and moves as the enumeration has them")
         for count in SIZES[:2]:
-            chain = game_text([(v, v % 2, [max(v - 1, 0), min(v + 1, count - 1)][: 1 + (0 < v < count - 1)]) for v in range(count)])
+            chain = game_text(
+                [(v, v % 2, [max(v - 1, 0), min(v + 1, count - 1)][: 1 + (0 < v < count - 1)]) for v in range(count)]
+            )
             show(program, given.beside, f"path of {count} priorities", chain)
         for count in SIZES:
             loops = game_text([(v, v % 2, [v]) for v in range(count)])

@@ -53,7 +53,9 @@ def specification(chance, most=NODES):
 def answered(words, text):
     """What psyn answers: its first line, and the rest."""
     try:
-        told = subprocess.run([program()], input=f"{words}\n{text}".encode(), stdout=subprocess.PIPE, timeout=SECONDS, check=False).stdout.decode()
+        told = subprocess.run(
+            [program()], input=f"{words}\n{text}".encode(), stdout=subprocess.PIPE, timeout=SECONDS, check=False
+        ).stdout.decode()
     except subprocess.TimeoutExpired:
         return "no answer in time", ""
     first, _, rest = told.partition("\n")
@@ -68,7 +70,9 @@ def judged(peer, text, circuit, env):
                 file.write(what)
         words = [*shlex.split(peer), os.path.join(folder, "it.tlsf"), os.path.join(folder, "it.aag"), *["env"] * env]
         try:
-            said = subprocess.run(words, stdout=subprocess.PIPE, stderr=subprocess.STDOUT, text=True, timeout=SECONDS, check=False).stdout
+            said = subprocess.run(
+                words, stdout=subprocess.PIPE, stderr=subprocess.STDOUT, text=True, timeout=SECONDS, check=False
+            ).stdout
         except subprocess.TimeoutExpired:
             return "no answer of the peer in time"
     found = re.search(r"\b(satisfies|VIOLATES)\b", said)
@@ -98,7 +102,11 @@ def main():
         wrong += bool(why)
         if why or first not in ("REALIZABLE", "UNREALIZABLE"):
             print(f"{first}; {why}: {text.strip()}")
-    print(", ".join(f"{times} {first}" for first, times in found.most_common()), f"; {wrong} refused; {time.monotonic() - began:.0f} s", sep="")
+    print(
+        ", ".join(f"{times} {first}" for first, times in found.most_common()),
+        f"; {wrong} refused; {time.monotonic() - began:.0f} s",
+        sep="",
+    )
     return 1 if wrong else 0
 
 

@@ -56,7 +56,11 @@ def compact(psyn):
             held = resource.getrusage(resource.RUSAGE_CHILDREN).ru_maxrss
             _, said = timed([psyn], b"check\n" + text + b"%%\n" + certificate)
             wrong += said != b"valid\n"
-            print(f"{name:8} {count:6} priorities {mine:7.3f} s {len(certificate):10} bytes, at most {held // 1024} MB   {said.decode().strip()}", flush=True)
+            print(
+                f"{name:8} {count:6} priorities {mine:7.3f} s {len(certificate):10} bytes, at most {held // 1024} MB   "
+                f"{said.decode().strip()}",
+                flush=True,
+            )
     return 1 if wrong else 0
 
 
@@ -86,7 +90,10 @@ def row_of(psyn, game, solver, runs, room):
     processor([psyn], path_to["solve"], path_to["certificate"])
     with open(path_to["certificate"], "rb") as certificate, open(path_to["check"], "wb") as file:
         file.write(b"check\n" + text + b"%%\n" + certificate.read())
-    calls = [lambda: processor([psyn], path_to["solve"], os.devnull), lambda: processor([psyn], path_to["check"], path_to["said"])]
+    calls = [
+        lambda: processor([psyn], path_to["solve"], os.devnull),
+        lambda: processor([psyn], path_to["check"], path_to["said"]),
+    ]
     if solver:
         calls.append(lambda: processor([solver, "solve"], game, os.devnull))
         calls.append(lambda: processor([solver, "check", game, path_to["certificate"]], os.devnull, os.devnull))
@@ -98,7 +105,10 @@ def row_of(psyn, game, solver, runs, room):
 def shown(name, seconds):
     line = f"| {name:28} | {seconds[0]:8.3f} | {seconds[1]:8.3f} |"
     if len(seconds) == 4:
-        ratios = [f"{mine / other:5.2f}" if other else "    -" for mine, other in ((seconds[0], seconds[2]), (seconds[1], seconds[3]))]
+        ratios = [
+            f"{mine / other:5.2f}" if other else "    -"
+            for mine, other in ((seconds[0], seconds[2]), (seconds[1], seconds[3]))
+        ]
         line += f" {ratios[0]} | {ratios[1]} |"
     return line
 

@@ -93,7 +93,9 @@ def game():
 
 class Bench:
     def __init__(self, psyn, runs, room):
-        self.psyn, self.runs, self.room = psyn, runs, room
+        self.psyn = psyn
+        self.runs = runs
+        self.room = room
 
     def run(self, given):
         """The processor seconds of a run, and its output."""

@@ -68,7 +68,10 @@ def circle(n):
     """Simple arbiters that serve the clients in turn, each of which keeps its request."""
     asked, given, sections = simple(n)
     kept = [f"G (({r} && !{g}) -> X {r})" for r, g in zip(asked, given)]
-    turns = [f"G (({given[i]} && {asked[(i + 1) % n]}) -> ({given[(i + 1) % n]} || X (!{given[i]} W {given[(i + 1) % n]})))" for i in range(n)]
+    turns = [
+        f"G (({given[i]} && {asked[(i + 1) % n]}) -> ({given[(i + 1) % n]} || X (!{given[i]} W {given[(i + 1) % n]})))"
+        for i in range(n)
+    ]
     return asked, given, {**sections, "GUARANTEE": sections["GUARANTEE"] + turns, "ASSUME": kept}
 
 
@@ -124,7 +127,11 @@ def lift(n):
     asked, floors = numbered("b", n), numbered("f", n)
     moves = [f"{floors[i]} -> X ({' || '.join(floors[max(0, i - 1):i + 2])})" for i in range(n)]
     served = [f"G ({b} -> F {f})" for b, f in zip(asked, floors)]
-    return asked, floors, {"PRESET": [floors[0]], "ASSERT": exclusive(floors) + [" || ".join(floors)] + moves, "GUARANTEE": served}
+    return (
+        asked,
+        floors,
+        {"PRESET": [floors[0]], "ASSERT": exclusive(floors) + [" || ".join(floors)] + moves, "GUARANTEE": served},
+    )
 
 
 def door(n):
@@ -133,7 +140,11 @@ def door(n):
     moves = [f"{floors[i]} -> X ({' || '.join(floors[max(0, i - 1):i + 2])})" for i in range(n)]
     stays = [f"({f} && open) -> X {f}" for f in floors]
     served = [f"G ({b} -> F ({f} && open))" for b, f in zip(asked, floors)]
-    return asked, [*floors, "open"], {"PRESET": [floors[0]], "ASSERT": exclusive(floors) + moves + stays, "GUARANTEE": served + ["G F !open"]}
+    return (
+        asked,
+        [*floors, "open"],
+        {"PRESET": [floors[0]], "ASSERT": exclusive(floors) + moves + stays, "GUARANTEE": served + ["G F !open"]},
+    )
 
 
 def collector(n):
@@ -156,19 +167,31 @@ def within(n):
 def chained(n):
     """A request, and behind it so many answers, each of which stays true up to the next."""
     names = numbered("r", n + 1)
-    return names, [], {"GUARANTEE": [f"G ({names[0]} -> ({nested('true', lambda i, made: f'{names[i]} U ({names[i + 1]} && ({made}))', n)}))"]}
+    return (
+        names,
+        [],
+        {"GUARANTEE": [
+            f"G ({names[0]} -> ({nested('true', lambda i, made: f'{names[i]} U ({names[i + 1]} && ({made}))', n)}))"
+        ]},
+    )
 
 
 def orders(n):
     """Tells whether two lists of inputs are true in their order."""
     first, second = numbered("r", n), numbered("s", n)
-    steps = [nested(f"F {names[-1]}", lambda i, made, names=names: f"F ({names[i]} && {made})", n - 1) for names in (first, second)]
+    steps = [
+        nested(f"F {names[-1]}", lambda i, made, names=names: f"F ({names[i]} && {made})", n - 1)
+        for names in (first, second)
+    ]
     return told(every(steps), first + second)
 
 
 def rows(n):
     """Tells whether two inputs are true in so many steps behind one another."""
-    return told(every(f"F ({nested(name, lambda _, made, name=name: f'{name} && X ({made})', n - 1)})" for name in "rs"), ["r", "s"])
+    return told(
+        every(f"F ({nested(name, lambda _, made, name=name: f'{name} && X ({made})', n - 1)})" for name in "rs"),
+        ["r", "s"],
+    )
 
 
 def once(n):
@@ -205,8 +228,8 @@ def fair(n):
 
 
 FAMILIES = (
-    simple, full, master, circle, balancer, detector, blind, gr1, streett, lasting, mixed, lift, door, collector, delay, within, chained,
-    orders, rows, once, pairs, left, right, fair,
+    simple, full, master, circle, balancer, detector, blind, gr1, streett, lasting, mixed, lift, door, collector, delay,
+    within, chained, orders, rows, once, pairs, left, right, fair,
 )
 
 PATTERNS = (
@@ -275,6 +298,9 @@ def pattern(formula):
 
 def text(inputs, outputs, sections):
     """The text of a specification."""
-    lists = [f"INPUTS {{ {' '.join(f'{name};' for name in inputs)} }} OUTPUTS {{ {' '.join(f'{name};' for name in outputs)} }}"]
+    lists = [
+        f"INPUTS {{ {' '.join(f'{name};' for name in inputs)} }} OUTPUTS {{ "
+        f"{' '.join(f'{name};' for name in outputs)} }}"
+    ]
     lists += [f"{word} {{ {' '.join(f'{formula};' for formula in formulas)} }}" for word, formulas in sections.items()]
     return f"INFO {{ SEMANTICS: Mealy TARGET: Mealy }} MAIN {{ {' '.join(lists)} }}"

@@ -26,7 +26,10 @@ SIZES = (10, 100, 1_000, 10_000, 65_000)
 def head(inputs, outputs, acceptance):
     names = [f'"i{k}"' for k in range(inputs)] + [f'"o{k}"' for k in range(outputs)]
     owned = " ".join(str(inputs + k) for k in range(outputs))
-    return f"HOA: v1 Start: 0 AP: {len(names)} {' '.join(names)} controllable-AP: {owned} Acceptance: {acceptance} --BODY--\n"
+    return (
+        f"HOA: v1 Start: 0 AP: {len(names)} {' '.join(names)} controllable-AP: {owned} Acceptance: "
+        f"{acceptance} --BODY--\n"
+    )
 
 
 def states(count):
@@ -35,7 +38,10 @@ def states(count):
     request, state q leads to itself or, if input 1 is true, to state 7 q + 3 (modulo the number of states)."""
     lines = [head(2, 2, "1 Inf(0)")]
     for q in range(count):
-        lines.append(f"State: {q} [0&!2] {(q + 1) % count} [!0&!2&!1] {q} [!0&!2&1] {(q * 7 + 3) % count} [2&!3] {(q + 2) % count} {{0}} [2&3] {(q + 5) % count} {{0}}\n")
+        lines.append(
+            f"State: {q} [0&!2] {(q + 1) % count} [!0&!2&!1] {q} [!0&!2&1] {(q * 7 + 3) % count} [2&!3] "
+            f"{(q + 2) % count} {{0}} [2&3] {(q + 5) % count} {{0}}\n"
+        )
     return "".join(lines) + "--END--\n"
 
 
@@ -84,7 +90,9 @@ def timed(psyn, command, text):
 
 
 def measure(psyn, most):
-    families = [(states, SIZES), (inputs, (2, 4, 8, 16, 32, 62)), (priorities, (2, 4, 8, 16, 32, 64)), (unrealizable, SIZES)]
+    families = [
+        (states, SIZES), (inputs, (2, 4, 8, 16, 32, 62)), (priorities, (2, 4, 8, 16, 32, 64)), (unrealizable, SIZES)
+    ]
     for family, sizes in families:
         before = None
         for size in sizes:
@@ -97,7 +105,11 @@ def measure(psyn, most):
             lines = said.decode().split("\n")
             growth = "" if before is None else f"  growth {synth / before[1] / (size / before[0]):.2f}"
             gates = lines[1].split()[5] if len(lines) > 1 and lines[1].startswith("aag") else "-"
-            print(f"{family.__name__:13} {size:6}  game {game:7.3f}  cert {cert:7.3f}  synth {synth:7.3f} s  {lines[0]}, {gates} gates, {held} MB{growth}", flush=True)
+            print(
+                f"{family.__name__:13} {size:6}  game {game:7.3f}  cert {cert:7.3f}  synth {synth:7.3f} s  {lines[0]}, "
+                f"{gates} gates, {held} MB{growth}",
+                flush=True,
+            )
             before = (size, synth)
 
 

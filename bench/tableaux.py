@@ -24,19 +24,17 @@ import math
 import os
 import re
 import resource
-import shutil
 import subprocess
 import sys
 import tempfile
 
 sys.dont_write_bytecode = True
 BENCH = os.path.dirname(os.path.abspath(__file__))
-TOP = os.path.dirname(BENCH)
 sys.path.insert(0, BENCH)
-from sources import copy_program  # noqa: E402
-# For each formula and its negation the states and edges, as psyn counts them, and then, where they differ, as a yardstick
-# program outside this repository counts them. That program begins with both sides of a conjunction, where psyn has a
-# state for the conjunction, and it expands `<->` in another way.
+from sources import made  # noqa: E402
+# For each formula and its negation the states and edges, as psyn counts them, and then, where they differ, as a
+# yardstick program outside this repository counts them. That program begins with both sides of a conjunction, where
+# psyn has a state for the conjunction, and it expands `<->` in another way.
 FORMULAS = (
     ("G (r -> F g)", (2, 4), (2, 3), None),
     ("(G F a) -> G F b", (4, 9), (3, 10), ((4, 9), (2, 6))),
@@ -59,24 +57,7 @@ FORMULAS = (
     ("G (q <-> X X X p)", (15, 30), (8, 10), None),
     ("(!((G F a) && G F b)) <-> G F c", (13, 75), (10, 42), ((7, 40), (16, 77))),
 )
-BELOW = ("ps_diagram", "ps_formula", "ps_keys", "ps_label", "ps_tableau", "ps_text", "ps_tlsf")
-
-
-def made(folder):
-    """Builds the program in a folder."""
-    crates = os.path.join(folder, "crates")
-    for name in BELOW:
-        shutil.copytree(os.path.join(TOP, "crates", name), os.path.join(crates, name))
-    copy_program("tableaux", crates)
-    shutil.copy(os.path.join(TOP, "HANDLES"), folder)
-    with open(os.path.join(TOP, "crates.txt"), encoding="utf-8") as file:
-        lines = [line for line in file if line.split(":")[0] in BELOW]
-    with open(os.path.join(folder, "crates.txt"), "w", encoding="utf-8") as file:
-        file.writelines(lines + ["tableaux: anyhow ps_formula ps_tableau ps_tlsf\n"])
-    subprocess.run(["git", "init", "-q"], cwd=folder, check=True)
-    crate = os.path.join(crates, "tableaux")
-    subprocess.run(["rt", "run"], cwd=crate, check=True, input=b"", stdout=subprocess.DEVNULL)
-    return os.path.join(crate, "out", "tableaux")
+USES = ("anyhow", "ps_formula", "ps_tableau", "ps_tlsf")
 
 
 def answered(n):
@@ -164,7 +145,7 @@ def main():
     parser.add_argument("--program")
     words = parser.parse_args()
     with tempfile.TemporaryDirectory() as folder:
-        program = words.program or made(folder)
+        program = words.program or made("tableaux", folder, USES, b"")
         same = compare(program)
         for family in (answered, gr1, arbiter, delay, steps):
             last = None

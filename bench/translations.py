@@ -16,14 +16,13 @@ those are printed that take more than three milliseconds, or have more states th
 `failed ..`; its figures stand beside, and at the end of a family the sums of the states, and of the milliseconds, of
 what both translated; at last these sums of all families.
 
---psyn names the program psyn. Then the script also times `translate` of each pattern beside `lasso` of a small text, and
-prints those patterns that take more than FACTOR (5) times as long; and it times `synth --tlsf` of a specification of
-some families: a line has the answer, the seconds and the MiB.
+--psyn names the program psyn. Then the script also times `translate` of each pattern beside `lasso` of a small text,
+and prints those patterns that take more than FACTOR (5) times as long; and it times `synth --tlsf` of a specification
+of some families: a line has the answer, the seconds and the MiB.
 """
 import argparse
 import os
 import re
-import shutil
 import signal
 import subprocess
 import sys
@@ -34,30 +33,13 @@ sys.dont_write_bytecode = True
 BENCH = os.path.dirname(os.path.abspath(__file__))
 TOP = os.path.dirname(BENCH)
 sys.path.insert(0, BENCH)
-from sources import copy_program  # noqa: E402
+from sources import made  # noqa: E402
 import specified  # noqa: E402
-BELOW = ("ps_formula", "ps_keys", "ps_label", "ps_text", "ps_tlsf", "ps_translation")
+USES = ("anyhow", "ps_tlsf", "ps_translation")
 LARGE = ("simple:8", "full:4", "balancer:8", "lift:5", "detector:10", "gr1:9")
 NUMBERS = range(2, 17)
 FACTOR, RUNS = 5, 20
 SMALL = os.path.join(TOP, "examples", "lasso-accepted")
-
-
-def made(folder):
-    """Builds the program in a folder."""
-    crates = os.path.join(folder, "crates")
-    for name in BELOW:
-        shutil.copytree(os.path.join(TOP, "crates", name), os.path.join(crates, name))
-    copy_program("translations", crates)
-    shutil.copy(os.path.join(TOP, "HANDLES"), folder)
-    with open(os.path.join(TOP, "crates.txt"), encoding="utf-8") as file:
-        lines = [line for line in file if line.split(":")[0] in BELOW]
-    with open(os.path.join(folder, "crates.txt"), "w", encoding="utf-8") as file:
-        file.writelines(lines + ["translations: anyhow ps_tlsf ps_translation\n"])
-    subprocess.run(["git", "init", "-q"], cwd=folder, check=True)
-    crate = os.path.join(crates, "translations")
-    subprocess.run(["rt", "run"], cwd=crate, check=True, input=b"", stdout=subprocess.DEVNULL)
-    return os.path.join(crate, "out", "translations")
 
 
 def ended(process):
@@ -99,7 +81,9 @@ def told_by(peer, text, most):
     with tempfile.NamedTemporaryFile("w", suffix=".tlsf") as file:
         file.write(text)
         file.flush()
-        process = subprocess.Popen([peer, "one", file.name], stdout=subprocess.PIPE, stderr=subprocess.DEVNULL, text=True)
+        process = subprocess.Popen(
+            [peer, "one", file.name], stdout=subprocess.PIPE, stderr=subprocess.DEVNULL, text=True
+        )
         watch = threading.Timer(5 * most, os.kill, (process.pid, signal.SIGKILL))
         watch.start()
         found = None
@@ -193,14 +177,19 @@ def large(psyn, most):
 
 def main():
     parser = argparse.ArgumentParser(description=__doc__, formatter_class=argparse.RawDescriptionHelpFormatter)
-    parser.add_argument("names", nargs="*", metavar="NAME", choices=[[], "patterns", *(family.__name__ for family in specified.FAMILIES)])
+    parser.add_argument(
+        "names",
+        nargs="*",
+        metavar="NAME",
+        choices=[[], "patterns", *(family.__name__ for family in specified.FAMILIES)],
+    )
     parser.add_argument("--most", type=float, default=10)
     parser.add_argument("--program")
     parser.add_argument("--peer")
     parser.add_argument("--psyn")
     words = parser.parse_args()
     with tempfile.TemporaryDirectory() as folder:
-        program = words.program or made(folder)
+        program = words.program or made("translations", folder, USES, b"")
         sums = (0, 0, 0, 0)
         for family in specified.FAMILIES:
             if not words.names or family.__name__ in words.names:

@@ -52,7 +52,9 @@ def automata(psyn, files):
         with open(path, encoding="utf-8") as file:
             yield os.path.basename(path).removesuffix(".hoa"), file.read()
     if not files:
-        yield from automata(psyn, [os.path.join(TOP, "examples", "files", name) for name in ("arbiter.hoa", "grant.hoa")])
+        yield from automata(
+            psyn, [os.path.join(TOP, "examples", "files", name) for name in ("arbiter.hoa", "grant.hoa")]
+        )
         yield from gallery(psyn)
         yield from ((f"{family.__name__} {size}", family(size)) for family, sizes in FAMILIES.items() for size in sizes)
 
