@@ -22,7 +22,9 @@ def game_of(text):
     """The game as a dictionary from each vertex's id to its priority, its owner and the list of its distinct
     successors."""
     text = re.sub(r"\A\s*(?:parity\s+\d+\s*;)?\s*(?:start\s+\d+\s*;)?", "", text)
-    nodes = [(int(n[1]), int(n[2]), int(n[3]), list(dict.fromkeys(map(int, n[4].split(","))))) for n in NODE.finditer(text)]
+    nodes = [
+        (int(n[1]), int(n[2]), int(n[3]), list(dict.fromkeys(map(int, n[4].split(","))))) for n in NODE.finditer(text)
+    ]
     game = {node[0]: node[1:] for node in nodes}
     insist(nodes and len(game) == len(nodes) and not NODE.sub("", text).strip(), "this is no game")
     insist(all(w in game for node in nodes for w in node[3]), "the game has an unknown successor")
@@ -35,7 +37,10 @@ def counts_of(said, losing, is_compact):
     if not is_compact:
         return dict(zip(losing, map(int, said), strict=True))
     pairs = [tuple(map(int, word.split(":"))) for word in said]
-    insist(sorted(dict(pairs).items()) == pairs and all(p in losing and count for p, count in pairs), f"wrong counts: {said}")
+    insist(
+        sorted(dict(pairs).items()) == pairs and all(p in losing and count for p, count in pairs),
+        f"wrong counts: {said}",
+    )
     return {**dict.fromkeys(losing, 0), **dict(pairs)}
 
 

@@ -41,14 +41,20 @@ def label_of(words):
         return lambda letter: not inner(letter)
     if word in "&|":
         left, right = label_of(words), label_of(words)
-        return (lambda letter: left(letter) and right(letter)) if word == "&" else (lambda letter: left(letter) or right(letter))
+        return (
+            (lambda letter: left(letter) and right(letter))
+            if word == "&"
+            else (lambda letter: left(letter) or right(letter))
+        )
     number = int(word[1:])
     return lambda letter: number in letter
 
 
 def by_lbt(formula):
     """The automaton that lbt makes of a formula; without states for one that no word satisfies."""
-    said = subprocess.run(["lbt"], input=prefix_of(formula) + "\n", stdout=subprocess.PIPE, text=True, timeout=60, check=True).stdout
+    said = subprocess.run(
+        ["lbt"], input=prefix_of(formula) + "\n", stdout=subprocess.PIPE, text=True, timeout=60, check=True
+    ).stdout
     lines = said.splitlines()
     states, sets = map(int, lines[0].split()[:2])
     made, rest = Buchi(None, {None: []}, {None: set()}, sets), iter(lines[1:])
@@ -85,7 +91,9 @@ def guard_of(text):
 
 def by_spin(formula):
     """The automaton that spin makes of a formula. A state may have two labels, one below the other."""
-    said = subprocess.run(["spin", "-f", infix_of(formula)], stdout=subprocess.PIPE, text=True, timeout=60, check=True).stdout
+    said = subprocess.run(
+        ["spin", "-f", infix_of(formula)], stdout=subprocess.PIPE, text=True, timeout=60, check=True
+    ).stdout
     made, state = Buchi(None, count=1), None
     first = {other: one for one, other in re.findall(r"(?m)^(\w+):\n(\w+):$", said)}
     for line in said.splitlines():
@@ -117,7 +125,9 @@ def dual(condition):
 def have_common_word(spec, made, accepts):
     """Whether the deterministic automaton accepts (or without `accepts` rejects) a word that the other one accepts. The
     propositions of both have the same numbers."""
-    letters = [{number for number in range(len(spec.names)) if letter >> number & 1} for letter in range(1 << len(spec.names))]
+    letters = [
+        {number for number in range(len(spec.names)) if letter >> number & 1} for letter in range(1 << len(spec.names))
+    ]
     first = (spec.start, made.start)
     edges, waiting = {}, [first]
     for vertex in waiting:
@@ -139,7 +149,9 @@ def have_common_word(spec, made, accepts):
 
 
 def differ(spec, of_formula, of_negation):
-    """How the deterministic automaton differs from a formula, by automata of the formula and of its negation: it accepts
-    a word wrongly, it rejects one wrongly, both, or neither."""
-    wrong = (["accepts"] if have_common_word(spec, of_negation, True) else []) + (["rejects"] if have_common_word(spec, of_formula, False) else [])
+    """How the deterministic automaton differs from a formula, by automata of the formula and of its negation: it
+    accepts a word wrongly, it rejects one wrongly, both, or neither."""
+    wrong = (["accepts"] if have_common_word(spec, of_negation, True) else []) + (
+        ["rejects"] if have_common_word(spec, of_formula, False) else []
+    )
     return wrong

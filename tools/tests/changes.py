@@ -63,7 +63,9 @@ def answered(psyn, spec, text, env, moore):
     if first == "loses":
         # The latches need not recur with the lap: the stem and the lap that `lasso` tells may be longer.
         said, status = ask(psyn, "lasso" + " --env" * env, spec, text, counterexample)
-        refuse_unless((said.split(" ")[0], status) == ("accepted" if env else "rejected", 0), said, answer, spec, text, flags)
+        refuse_unless(
+            (said.split(" ")[0], status) == ("accepted" if env else "rejected", 0), said, answer, spec, text, flags
+        )
     return first
 
 

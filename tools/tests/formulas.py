@@ -11,11 +11,15 @@ INFIXES = ("&&", "||", "->", "<->", "U", "R", "W")
 def a_formula(chance, nodes, propositions):
     """A random formula with this number of nodes."""
     if nodes == 1:
-        return ("name", chance.randrange(propositions)) if chance.random() < 0.9 else (chance.choice(("true", "false")),)
+        return (
+            ("name", chance.randrange(propositions)) if chance.random() < 0.9 else (chance.choice(("true", "false")),)
+        )
     if nodes == 2 or chance.random() < 0.4:
         return (chance.choice(PREFIXES), a_formula(chance, nodes - 1, propositions))
     left = chance.randrange(1, nodes - 1)
-    return (chance.choice(INFIXES), a_formula(chance, left, propositions), a_formula(chance, nodes - 1 - left, propositions))
+    return (
+        chance.choice(INFIXES), a_formula(chance, left, propositions), a_formula(chance, nodes - 1 - left, propositions)
+    )
 
 
 def text_of(formula, names):
@@ -55,7 +59,9 @@ def truths(formula, word, after):
         return [known[0][after[at]] for at in places]
     if head in ("F", "G", "U", "R", "W"):
         return repeated(head, known, after)
-    return [{"!": not_, "&&": all, "||": any, "->": implied, "<->": same}[head]([one[at] for one in known]) for at in places]
+    return [
+        {"!": not_, "&&": all, "||": any, "->": implied, "<->": same}[head]([one[at] for one in known]) for at in places
+    ]
 
 
 def repeated(head, known, after):
@@ -91,7 +97,10 @@ def same(values):
 def specification_of(formula, names):
     """A specification in which each proposition is an input, and the formula is guaranteed."""
     listed = "".join(f"{name}; " for name in names)
-    return f"INFO {{ SEMANTICS: Mealy TARGET: Mealy }}\nMAIN {{ INPUTS {{ {listed}}} GUARANTEE {{ {text_of(formula, names)} }} }}\n"
+    return (
+        f"INFO {{ SEMANTICS: Mealy TARGET: Mealy }}\n"
+        f"MAIN {{ INPUTS {{ {listed}}} GUARANTEE {{ {text_of(formula, names)} }} }}\n"
+    )
 
 
 def input_of(text, names, stem, lap):

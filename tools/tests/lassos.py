@@ -1,9 +1,9 @@
 """Satisfaction of formulas by random lassos, straight from the meaning of each operator, for tests of the tool.
 
 Formulas are those of `tlsf_reader`: nested tuples, in which `("name", 3)` is proposition 3. A few more operators are
-those of sentences and of TLSF's full form: `("F", low, high, f)`, `("G", low, high, f)`, `("X", n, f)`, `("within", n, f)`,
-`("within", n, f, g)`, `("[*]", n, f)`, `("rises", f)`, `("falls", f)`, `("stable", f, ..)`, `("onehot", f, ..)` and
-`("at most one of", f, ..)`.
+those of sentences and of TLSF's full form: `("F", low, high, f)`, `("G", low, high, f)`, `("X", n, f)`,
+`("within", n, f)`, `("within", n, f, g)`, `("[*]", n, f)`, `("rises", f)`, `("falls", f)`, `("stable", f, ..)`,
+`("onehot", f, ..)` and `("at most one of", f, ..)`.
 """
 import operator
 from dataclasses import dataclass

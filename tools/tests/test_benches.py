@@ -60,7 +60,9 @@ def why_not(bench, text):
     for crate, said in RUST.findall(text):
         if crate.startswith("ps_"):
             path = os.path.join(TOP, "crates", crate, "src", "lib.rt")
-            handed_out = " ".join(re.findall(r"(?s)\bpub (?:use|mod) (.*?);", read(path))) if os.path.exists(path) else ""
+            handed_out = (
+                " ".join(re.findall(r"(?s)\bpub (?:use|mod) (.*?);", read(path))) if os.path.exists(path) else ""
+            )
             missing = [name for name in re.findall(r"\w+", said) if not re.search(rf"\b{name}\b", handed_out)]
             wrong += [f"{crate} hands out no {name}" for name in missing]
     return [why for why in wrong if why]
@@ -86,13 +88,24 @@ class Benches(unittest.TestCase):
             def seen(text):
                 return "; ".join(why_not(bench, text))
 
-            self.assertIn("Boards.antt has no board_of", seen("ghost use Rattle.ps_machine.specs.Boards.{IsGameOf, board_of};\n"))
-            self.assertIn("there is no crates/ps_game/specs/Nothing.antt", seen("use Rattle.ps_game.specs.Nothing.{length}\n"))
-            self.assertIn("has no Late", seen("ghost use Rattle.ps_machine.specs.declared.key.Order.TheVariants.{Late};\n"))
+            self.assertIn(
+                "Boards.antt has no board_of", seen("ghost use Rattle.ps_machine.specs.Boards.{IsGameOf, board_of};\n")
+            )
+            self.assertIn(
+                "there is no crates/ps_game/specs/Nothing.antt", seen("use Rattle.ps_game.specs.Nothing.{length}\n")
+            )
+            self.assertIn(
+                "has no Late", seen("ghost use Rattle.ps_machine.specs.declared.key.Order.TheVariants.{Late};\n")
+            )
             self.assertIn("there is no function walk", seen("use Rattle.speed.proofs.walk.Given as goal\n"))
             self.assertIn("ps_game hands out no Board", seen("use ps_game::{\n    Board,\n    Game,\n};\n"))
             self.assertIn("ps_gone hands out no Game", seen("use ps_gone::Game;\n"))
-            self.assertEqual("", seen("use Rattle.std.specs.Prelude.{length}\nuse Rattle.speed.proofs.run.Goals as goal\nuse std::io;\n"))
+            self.assertEqual(
+                "",
+                seen(
+                    "use Rattle.std.specs.Prelude.{length}\nuse Rattle.speed.proofs.run.Goals as goal\nuse std::io;\n"
+                ),
+            )
 
 
 if __name__ == "__main__":

@@ -39,7 +39,9 @@ class Calls(unittest.TestCase):
         self.assertGreater(len(functions), 1000)
         named = {it for it in functions if it.is_public and it.path() in stored["calls"]}
         self.assertEqual(sorted(set(stored["calls"]) - {it.path() for it in named}), [], "no such public functions")
-        self.assertEqual(paths(named & calls.called_from(functions, outside, set())), [], "called, so they need no reason")
+        self.assertEqual(
+            paths(named & calls.called_from(functions, outside, set())), [], "called, so they need no reason"
+        )
         known = calls.called_from(functions, outside, named) | calls.laws_of(functions)
         spare = [it for it in functions if it.is_public and it not in known and it.crate not in stored["begun"]]
         self.assertEqual(paths(spare), [], "called by nobody: delete them, or name them in tools/tests/surface.toml")

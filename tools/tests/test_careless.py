@@ -21,7 +21,12 @@ class Lines(unittest.TestCase):
         self.assertEqual([wrong for wrong in sweeps.at_once(self.wrong_of, lines) if wrong], [])
 
     def test_a_program_that_is_left_is_seen(self):
-        line = {"name": "left", "command": "./slow > /dev/null 2>&1 & while [ ! -s pid ]; do sleep 0.05; done", "error": "", "status": 0}
+        line = {
+            "name": "left",
+            "command": "./slow > /dev/null 2>&1 & while [ ! -s pid ]; do sleep 0.05; done",
+            "error": "",
+            "status": 0,
+        }
         with tempfile.TemporaryDirectory() as room:
             wrong = careless.wrong_of(room, line, program())
             with open(os.path.join(room, "pid"), encoding="utf-8") as file:

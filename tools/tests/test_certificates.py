@@ -37,9 +37,16 @@ class BesideCheck(unittest.TestCase):
     def made(self, given):
         """The game and psyn's certificate for it, made from an input of `solve` or `cert`; None for other inputs."""
         command, _, text = given.partition(b"\n")
-        if len(given) > LONGEST or command not in (b"solve", b"solve --compact", b"cert", b"cert --moore", b"cert --compact"):
+        if (
+            len(given) > LONGEST
+            or command not in (b"solve", b"solve --compact", b"cert", b"cert --moore", b"cert --compact")
+        ):
             return None
-        game = text if command.startswith(b"solve") else self.answer(command.replace(b"cert", b"game").replace(b" --compact", b"") + b"\n" + text)
+        game = (
+            text
+            if command.startswith(b"solve")
+            else self.answer(command.replace(b"cert", b"game").replace(b" --compact", b"") + b"\n" + text)
+        )
         certificate = self.answer(given)
         return None if certificate.startswith(b"fault") else (game.removesuffix(b"\n") + b"\n", certificate)
 
@@ -65,7 +72,9 @@ class BesideCheck(unittest.TestCase):
         pairs = [pair for text in texts for pair in (pair_of(text), self.made(text)) if pair]
         # damaged certificates: the last number of each line is decreased or increased, or the first vertex that player
         # 0 wins is given to player 1
-        pairs += [(game, re.sub(rb"(?m)(\d+)$", change, text)) for game, text in pairs[:40] for change in (lower, higher)]
+        pairs += [
+            (game, re.sub(rb"(?m)(\d+)$", change, text)) for game, text in pairs[:40] for change in (lower, higher)
+        ]
         pairs += [(game, re.sub(rb"(?m)^(\d+) 0 ", rb"\1 1 ", text, count=1)) for game, text in pairs[:40]]
         counts.ran("examples", "certificates checked by another program", len(pairs))
         self.assertEqual([wrong for wrong in sweeps.at_once(self.compared, pairs) if wrong], [])

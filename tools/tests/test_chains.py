@@ -85,7 +85,9 @@ class Chains(unittest.TestCase):
                 self.assertTrue(self.ask("solve" + flag, GAME) == (certificate, 0), "solve")
                 self.assertEqual(self.ask("check", GAME, certificate), ("valid\n", 0))
                 self.assertEqual(self.ask("closed", GAME, certificate), ("closed\n", 0))
-                raised = certificate.replace(f"\n5000 0 5001 {'1:' if flag else ''}2998\n", f"\n5000 0 5001 {'1:' if flag else ''}2997\n")
+                raised = certificate.replace(
+                    f"\n5000 0 5001 {'1:' if flag else ''}2998\n", f"\n5000 0 5001 {'1:' if flag else ''}2997\n"
+                )
                 self.assertEqual(self.ask("check", GAME, raised), ("fault 52 Rank 5000 5001 1\n", 1))
 
     def test_an_automaton(self):
@@ -112,7 +114,9 @@ class Chains(unittest.TestCase):
         self.assertEqual(self.ask("lasso", GRANTS, CIRCUIT, "1\n-\n0\n1\n"), ("accepted stem 1 lap 2\n", 0))
 
     def test_aliases_at_their_limit(self):
-        head, body = 'HOA: v1 Start: 0 AP: 1 "a" controllable-AP: ', "Acceptance: 0 t --BODY-- State: 0 [@a4095] 0 --END--"
+        head, body = (
+            'HOA: v1 Start: 0 AP: 1 "a" controllable-AP: ', "Acceptance: 0 t --BODY-- State: 0 [@a4095] 0 --END--"
+        )
         aliases = [f"Alias: @a{number} 0 " for number in range(4_097)]
         game = 'parity 4;\n0 0 1 1,2 "0/0";\n1 0 0 3 "0:0";\n2 0 0 0 "0:1";\n3 1 1 4 "sink/1";\n4 0 0 3 "sink:0";\n'
         self.assertEqual(self.ask("game", head + "".join(aliases[:-1]) + body), (game, 0))

@@ -13,7 +13,10 @@ from upkeep.sweeps import TOOLS, TOP
 # The programs that the script runs; no other program is on its PATH.
 NEEDED = ("bash", "cat", "dirname", "env", "grep", "mktemp", "rm", "sh", "tee", "timeout")
 PACKAGES = ["chromium", "nodejs", "graphviz", "yosys", "berkeley-abc", "lbt", "spin", "iverilog"]
-TESTS = "#!/bin/sh\necho 'skipped: a test: node is not installed'\necho '63 passed, 0 failed'\necho 'tools: 80 passed, 1 failed, 1 skipped'\nexit 3\n"
+TESTS = (
+    "#!/bin/sh\necho 'skipped: a test: node is not installed'\necho '63 passed, 0 failed'\necho 'tools: 80 passed, "
+    "1 failed, 1 skipped'\nexit 3\n"
+)
 # A stand-in for apt-get: it installs every package except yosys; some programs have other names than their packages.
 REGISTRY = """\
 #!/bin/sh
@@ -46,14 +49,19 @@ CODE = "import time\nend = time.process_time() + 0.8\nwhile time.process_time() 
 class Gate(OnFiles):
     def ran(self, status):
         os.chmod(self.file("rt", CHECKS.encode()), 0o755)
-        environment = {**os.environ, "PATH": f"{self.room}:{os.environ['PATH']}", "BUSY": sys.executable, "CODE": CODE, "STATUS": str(status)}
+        environment = {
+            **os.environ, "PATH": f"{self.room}:{os.environ['PATH']}", "BUSY": sys.executable, "CODE": CODE,
+            "STATUS": str(status),
+        }
         command = [sys.executable, "-W", "error", "-X", "dev", os.path.join(TOP, "tools", "gate-times")]
         done = subprocess.run(command, env=environment, cwd=self.room, capture_output=True, text=True, check=False)
         self.assertEqual(done.stderr, "")
         return done.stdout.splitlines(), done.returncode
 
     def test_only_what_rt_starts_is_counted(self):
-        other = subprocess.Popen(["bash", "-c", 'exec -a rattle "$0" -c "$1" --crate-name ps_other', sys.executable, CODE.replace("0.8", "60")])
+        other = subprocess.Popen([
+            "bash", "-c", 'exec -a rattle "$0" -c "$1" --crate-name ps_other', sys.executable, CODE.replace("0.8", "60")
+        ])
         self.addCleanup(other.wait)
         self.addCleanup(other.kill)
         lines, status = self.ran(0)
@@ -96,7 +104,10 @@ class Gate(OnFiles):
     def test_without_rt(self):
         command = [sys.executable, os.path.join(TOP, "tools", "gate-times")]
         done = subprocess.run(command, env={"PATH": self.room}, capture_output=True, text=True, check=False)
-        self.assertEqual((done.stdout, done.stderr, done.returncode), ("", "gate-times: rt can't be run: No such file or directory\n", 1))
+        self.assertEqual(
+            (done.stdout, done.stderr, done.returncode),
+            ("", "gate-times: rt can't be run: No such file or directory\n", 1),
+        )
 
 
 class Script(OnFiles):
@@ -118,7 +129,9 @@ class Script(OnFiles):
         """The lines that the script prints after those of the tests, and what apt-get was asked to do."""
         self.program(os.path.join("programs", "id"), f"#!/bin/sh\necho {user}\n")
         environment = {"PATH": self.programs, "ROOM": self.room, "UPDATE": str(update)}
-        done = subprocess.run([os.path.join(self.room, ".ci", "run")], env=environment, capture_output=True, text=True, check=False)
+        done = subprocess.run(
+            [os.path.join(self.room, ".ci", "run")], env=environment, capture_output=True, text=True, check=False
+        )
         self.assertEqual((done.returncode, done.stderr), (3, ""))
         lines = done.stdout.splitlines()
         self.assertEqual(lines[:3], [line.split("'")[1] for line in TESTS.splitlines()[1:4]])
@@ -143,5 +156,8 @@ class Script(OnFiles):
         self.program(os.path.join("tools", "test-all"), TESTS.replace("skipped: a test", "a test"))
         for name in ("chromium", "node", "dot", "yosys", "berkeley-abc", "lbt", "spin", "iverilog"):
             self.program(os.path.join("programs", name), "#!/bin/sh\n")
-        done = subprocess.run([os.path.join(self.room, ".ci", "run")], env={"PATH": self.programs}, capture_output=True, text=True, check=False)
+        done = subprocess.run(
+            [os.path.join(self.room, ".ci", "run")], env={"PATH": self.programs}, capture_output=True, text=True,
+            check=False,
+        )
         self.assertEqual((done.stdout.splitlines()[3:], done.returncode), (["no test was skipped"], 3))

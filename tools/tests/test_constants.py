@@ -12,7 +12,9 @@ def drawn(draw):
     most = sum(counts)
     any_literal = [draw.randint(0, 2 * most + 1) for _ in range(latches + 3)]
     lines = [f"aag {most} {inputs} {latches} 3 {gates}", *(str(2 * place) for place in range(1, inputs + 1))]
-    lines += [f"{2 * (inputs + place)} {any_literal[place - 1]} {draw.randint(0, 1)}" for place in range(1, latches + 1)]
+    lines += [
+        f"{2 * (inputs + place)} {any_literal[place - 1]} {draw.randint(0, 1)}" for place in range(1, latches + 1)
+    ]
     lines += map(str, any_literal[latches:])
     for place in range(inputs + latches + 1, most + 1):
         lines.append(f"{2 * place} {draw.randint(0, 2 * place - 1)} {draw.randint(0, 2 * place - 1)}")

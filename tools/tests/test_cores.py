@@ -48,20 +48,33 @@ class Commands(OnFiles):
             self.assertEqual(file.read().count("\npart: "), 3)
 
     def test_assumptions_that_are_needed(self):
-        assumed = ["--assume", "parts/again-and-again.hoa", "--as", "it=ready", "--assume", "parts/again-and-again.hoa", "--as", "it=other"]
-        guaranteed = ["--guarantee", "parts/again-and-again.hoa", "--as", "it=g", "--guarantee", "parts/at-most-one-step-after.hoa", "--as", "leader=ready", "follower=g"]
+        assumed = [
+            "--assume", "parts/again-and-again.hoa", "--as", "it=ready", "--assume", "parts/again-and-again.hoa",
+            "--as", "it=other",
+        ]
+        guaranteed = [
+            "--guarantee", "parts/again-and-again.hoa", "--as", "it=g", "--guarantee",
+            "parts/at-most-one-step-after.hoa", "--as", "leader=ready", "follower=g",
+        ]
         done = self.tool("core", *assumed, *guaranteed, "--outs", "g")
         self.assertEqual((done.stdout.decode(), done.returncode, done.stderr), (NEEDED, 10, b""))
         done = self.tool("core", *assumed, *guaranteed[:4], "--outs", "g")
-        self.assertEqual((done.stdout, done.returncode), (b"REALIZABLE\nthere is a controller without any assumption\n", 10))
-        done = self.tool("core", "--moore", *guaranteed[:4], "--guarantee", "parts/never-together.hoa", "--as", "one=g", "other=r", "--outs", "g")
+        self.assertEqual(
+            (done.stdout, done.returncode), (b"REALIZABLE\nthere is a controller without any assumption\n", 10)
+        )
+        done = self.tool(
+            "core", "--moore", *guaranteed[:4], "--guarantee", "parts/never-together.hoa", "--as", "one=g", "other=r",
+            "--outs", "g",
+        )
         said = b"UNREALIZABLE\nthese guarantees conflict, and none of them can be left out:\n"
         self.assertEqual((done.stdout[: len(said)], done.returncode), (said, 20))
 
     def test_one_guarantee_alone(self):
         guaranteed = ["--guarantee", "parts/always.hoa", "--guarantee", "parts/always.hoa", "--as", "it=r"]
         done = self.tool("core", "--assume", "parts/always.hoa", "--as", "it=e", *guaranteed, "--outs", "it")
-        said = "UNREALIZABLE\nunder all assumptions this guarantee can't be kept:\n  always(r)  r is true at each step\n"
+        said = (
+            "UNREALIZABLE\nunder all assumptions this guarantee can't be kept:\n  always(r)  r is true at each step\n"
+        )
         self.assertEqual((done.stdout.decode(), done.returncode), (said, 20))
 
 
@@ -73,7 +86,10 @@ step  state  environment  controller  priority
 step 0 breaks the assumption always
   it is true at each step
 """
-BOUND = b'HOA: v1 Start: 0 AP: 2 "open" "cmd" Acceptance: 0 t --BODY-- State: 0 "idle" [!0&!1] 0 [!0 & 1] 1 State: 1 "moving" [!0 & !1] 1 [0&!1] 0 --END--\n'
+BOUND = (
+    b'HOA: v1 Start: 0 AP: 2 "open" "cmd" Acceptance: 0 t --BODY-- State: 0 "idle" [!0&!1] 0 [!0 & 1] 1 State: '
+    b'1 "moving" [!0 & !1] 1 [0&!1] 0 --END--\n'
+)
 FAILS_LATER = """\
 a controller can make the assumption ok fail, so this one may win without keeping the guarantees
 so it can play:
@@ -100,39 +116,70 @@ class Circuits(OnFiles):
             self.assertEqual((done.stdout, done.returncode), (wanted.stdout, wanted.returncode))
         done = self.tool("synth", "--parts", "-o", "out", parts)
         self.assertEqual((done.stdout, done.returncode), (b"UNREALIZABLE\n", 20))
-        for name, wanted in (("out.hoa", self.tool("compose", parts).stdout), ("out.pg", self.tool("game", "it.hoa").stdout)):
+        for name, wanted in (
+            ("out.hoa", self.tool("compose", parts).stdout), ("out.pg", self.tool("game", "it.hoa").stdout)
+        ):
             with open(os.path.join(self.room, name), "rb") as file:
                 self.assertEqual(file.read(), wanted)
 
     def test_a_controller_that_breaks_the_assumptions(self):
         words = ["--outs", "it", "--assume", "parts/always.hoa", "--guarantee", "parts/always.hoa", "--as", "it=r"]
         for command in ("synth", "synth --strict", "synth --moore", "synth -o out", "core", "page --parts"):
-            done = self.tool(*command.split(), *([self.file("it.parts", " ".join(words).encode() + b"\n")] if "page" in command else words))
-            self.assertEqual((done.returncode % 10, done.stderr.decode().split("change: it is 0\n")[-1]), (0, FAILS), command)
+            done = self.tool(
+                *command.split(),
+                *([self.file("it.parts", " ".join(words).encode() + b"\n")] if "page" in command else words),
+            )
+            self.assertEqual(
+                (done.returncode % 10, done.stderr.decode().split("change: it is 0\n")[-1]), (0, FAILS), command
+            )
         for command in ("synth", "core"):
             self.assertEqual(self.tool(command, "--quiet", *words).stderr, b"")
         for assumed in ([], ["--assume", "parts/always.hoa", "--as", "it=other"]):
             done = self.tool("synth", "--outs", "it", *assumed, "--guarantee", "parts/always.hoa")
-            self.assertEqual((done.returncode, done.stderr), (10, b"" if assumed else b"in this controller some outputs never change: it is 1\n"))
+            self.assertEqual(
+                (done.returncode, done.stderr),
+                (10, b"" if assumed else b"in this controller some outputs never change: it is 1\n"),
+            )
 
     def test_the_assumption_that_can_fail_is_named_with_a_play(self):
         """Of three assumptions one can be made to fail: the environment is bound to what the controller says later."""
         self.file("ok.hoa", BOUND)
-        assumed = [word for name in ("tick", "tock") for word in ("--assume", "parts/again-and-again.hoa", "--as", f"it={name}")]
-        done = self.tool("core", *assumed[:4], "--assume", "ok.hoa", *assumed[4:], "--guarantee", "parts/answered.hoa", "--as", "request=tick", "answer=red", "--outs", "cmd", "red")
+        assumed = [
+            word
+            for name in ("tick", "tock") for word in ("--assume", "parts/again-and-again.hoa", "--as", f"it={name}")
+        ]
+        done = self.tool(
+            "core", *assumed[:4], "--assume", "ok.hoa", *assumed[4:], "--guarantee", "parts/answered.hoa", "--as",
+            "request=tick", "answer=red", "--outs", "cmd", "red",
+        )
         self.assertEqual((done.returncode, done.stderr.decode()), (10, FAILS_LATER))
 
     def test_a_certificate_is_for_an_automaton(self):
         done = self.tool("synth", "--cert", "--guarantee", "parts/always.hoa", "--outs", "it")
-        self.assertEqual((done.returncode, done.stderr), (2, b"psyn: --cert is for an automaton: compose makes one of parts\n"))
+        self.assertEqual(
+            (done.returncode, done.stderr), (2, b"psyn: --cert is for an automaton: compose makes one of parts\n")
+        )
 
     def test_failing_assumptions_are_the_guarantee_false(self):
         draw, names, asked = random.Random(5), ["a", "b", "c"], []
-        false = part.part_of("false", "", {}, "HOA: v1 Start: 0 AP: 0 controllable-AP: Acceptance: 0 t --BODY-- State: 0 --END--")
+        false = part.part_of(
+            "false", "", {}, "HOA: v1 Start: 0 AP: 0 controllable-AP: Acceptance: 0 t --BODY-- State: 0 --END--"
+        )
         for _ in range(40):
-            sides = [tuple(part.part_of(f"part{place}", "", {}, Table(draw, names).text()) for place in range(draw.randint(1, 3))) for _ in range(2)]
-            composer = Composer(Specification(sides[0], (*sides[1], false), tuple(names), frozenset(draw.sample(names, 2)), False))
-            texts = composer.composed(sides[0], sides[1]).text(ASSUMPTIONS_FAIL), composer.composed(sides[0], [false]).text()
+            sides = [
+                tuple(
+                    part.part_of(f"part{place}", "", {}, Table(draw, names).text())
+                    for place in range(draw.randint(1, 3))
+                )
+                for _ in range(2)
+            ]
+            composer = Composer(
+                Specification(sides[0], (*sides[1], false), tuple(names), frozenset(draw.sample(names, 2)), False)
+            )
+            texts = (
+                composer.composed(sides[0], sides[1]).text(ASSUMPTIONS_FAIL),
+                composer.composed(sides[0], [false]).text(),
+            )
             asked += [rows.Row("false", f"synth\n{text}".encode(), 0) for text in texts]
         where = program()
         said = sweeps.at_once(lambda row: rows.answered(where, row)[1], asked)
@@ -147,7 +194,10 @@ class Sets(unittest.TestCase):
     def test_drawn_specifications(self):
         draw, names, asked, wanted = random.Random(6), ["a", "b", "c"], [], []
         while len(wanted) < 60:
-            sides = [[part.part_of(f"part{place}", "", {}, Table(draw, names).text()) for place in range(draw.randint(1, 4))] for _ in range(2)]
+            sides = [
+                [part.part_of(f"part{place}", "", {}, Table(draw, names).text()) for place in range(draw.randint(1, 4))]
+                for _ in range(2)
+            ]
             whole = Specification(*map(tuple, sides), tuple(names), frozenset(["a"]), draw.random() < 0.3)
             found = cores.core_of(cores.Asking(whole))
             texts = [found.specification, *self.with_one_left_out(found)]
@@ -155,12 +205,18 @@ class Sets(unittest.TestCase):
             wanted += [found.has_controller] + [not found.has_controller] * (len(texts) - 1)
         where = program()
         said = sweeps.at_once(lambda row: rows.answered(where, row)[1], asked)
-        self.assertEqual([place for place, (status, it) in enumerate(zip(said, wanted)) if status != (10 if it else 20)], [])
+        self.assertEqual(
+            [place for place, (status, it) in enumerate(zip(said, wanted)) if status != (10 if it else 20)], []
+        )
 
     def with_one_left_out(self, found):
         for place in range(len(found.parts)):
             fewer = cores.without(found.parts, place, 1)
-            yield found.specification.having(fewer, None) if found.has_controller else found.specification.having(None, fewer)
+            yield (
+                found.specification.having(fewer, None)
+                if found.has_controller
+                else found.specification.having(None, fewer)
+            )
 
     def test_what_is_asked_falls_with_the_size_of_the_core(self):
         for needed in ({3}, {0, 31}, {5, 6, 7}, set(), set(range(32))):

@@ -52,7 +52,10 @@ class Families(unittest.TestCase):
     def test_a_ladder_has_five_vertices_a_rung_and_all_priorities(self):
         made = families.game_of(families.ladder(24))
         self.assertEqual((len(made.vertices), max(made.priorities)), (120, 3 * 23 + 5))
-        self.assertEqual(made.vertices[:3], game.read("0 1 1 1; 1 1 0 0,7; 2 4 1 1,3; 3 3 0 4; 4 5 0 3,9; 7 0 0 7; 9 0 0 9;").vertices[:3])
+        self.assertEqual(
+            made.vertices[:3],
+            game.read("0 1 1 1; 1 1 0 0,7; 2 4 1 1,3; 3 3 0 4; 4 5 0 3,9; 7 0 0 7; 9 0 0 9;").vertices[:3],
+        )
 
     def test_a_path_counts_all_its_odd_priorities(self):
         made = families.game_of(families.path(6))

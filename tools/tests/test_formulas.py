@@ -22,15 +22,18 @@ MAIN { INPUTS { a; b } OUTPUTS { c; d'@; }
 }
 """.replace(b"ASSERTIONS", b"INVARIANTS")
 PIECES = (
-    b" ", b"\n", b"//", b"/*", b"*/", b'"', b"{", b"}", b"(", b")", b";", b":", b",", b"!", b"&&", b"&", b"||", b"->", b"<->", b"<", b"U ", b"X", b"R ", b"W ",
-    b"true", b"a", b"b ", b"zz", b"INFO", b"MAIN", b"TITLE", b"TAGS:", b"SEMANTICS: Moore", b"TARGET", b"Mealy", b"Strict,", b"INPUTS", b"OUTPUTS {", b"GUARANTEE {", b"\x80", b"1",
+    b" ", b"\n", b"//", b"/*", b"*/", b'"', b"{", b"}", b"(", b")", b";", b":", b",", b"!", b"&&", b"&", b"||", b"->",
+    b"<->", b"<", b"U ", b"X", b"R ", b"W ", b"true", b"a", b"b ", b"zz", b"INFO", b"MAIN", b"TITLE", b"TAGS:",
+    b"SEMANTICS: Moore", b"TARGET", b"Mealy", b"Strict,", b"INPUTS", b"OUTPUTS {", b"GUARANTEE {", b"\x80", b"1",
 )  # fmt: skip
 
 # Parts that stand in the text, each with one that makes another fault likely.
 EXCHANGED = (
-    (b"TARGET: Mealy", b"TARGET: Moore"), (b"SEMANTICS: Mealy, Strict", b""), (b"TARGET: Mealy", b""), (b"TAGS: a, b", b'TAGS: TITLE: "x"'),
-    (b"INPUTS { a; b }", b"INPUTS { a; b; a }"), (b"OUTPUTS {", b"OUTPUTS { b; "), (b"INPUTS {", b"INPUTS { } INPUTS {"), (b"PRESET", b"OUTPUTS { e } PRESET"),
-    (b"(a U b)", b"a U b"), (b"!a", b"!" * 257 + b"a"), (b"!b", b"(" * 256 + b"!b" + b")" * 256), (b"b }", b"; ".join(b"b%d" % n for n in range(64)) + b" }"),
+    (b"TARGET: Mealy", b"TARGET: Moore"), (b"SEMANTICS: Mealy, Strict", b""), (b"TARGET: Mealy", b""),
+    (b"TAGS: a, b", b'TAGS: TITLE: "x"'), (b"INPUTS { a; b }", b"INPUTS { a; b; a }"), (b"OUTPUTS {", b"OUTPUTS { b; "),
+    (b"INPUTS {", b"INPUTS { } INPUTS {"), (b"PRESET", b"OUTPUTS { e } PRESET"), (b"(a U b)", b"a U b"),
+    (b"!a", b"!" * 257 + b"a"), (b"!b", b"(" * 256 + b"!b" + b")" * 256),
+    (b"b }", b"; ".join(b"b%d" % n for n in range(64)) + b" }"),
 )  # fmt: skip
 
 
@@ -90,7 +93,9 @@ class Formulas(unittest.TestCase):
         chance = random.Random(12)
         texts = [broken(chance) for _ in range(BROKEN)]
         counts.ran("formulas", "broken texts against a reader in Python", len(texts))
-        answers = sweeps.at_once(lambda text: answered(b"lasso --tlsf\n" + text + b"\n%%\naag 0 0 0 0 0\n%%\n-\n\n"), texts)
+        answers = sweeps.at_once(
+            lambda text: answered(b"lasso --tlsf\n" + text + b"\n%%\naag 0 0 0 0 0\n%%\n-\n\n"), texts
+        )
         wrong = [(text, answer) for text, answer in zip(texts, answers) if answer != expected(text + b"\n")]
         self.assertEqual(wrong[:3], [])
         found = {answer[:8] for answer in answers}

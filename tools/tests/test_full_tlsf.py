@@ -19,7 +19,10 @@ MARK = "§"
 BINDS = {"R": 1, "U": 2, "W": 3, "->": 4, "<->": 4, "||": 5, "&&": 6, "until": 7, "weak until": 7, "unless": 7}
 GROUPS_LEFT = ("R", "||", "&&")
 UNARY, ATOM = 8, 9
-SPELLINGS = {"->": ["->", "IMPLIES"], "<->": ["<->", "EQUIV"], "||": ["||", "OR", "|", "or"], "&&": ["&&", "AND", "&", "and"], "!": ["!", "NOT ", "not "]}
+SPELLINGS = {
+    "->": ["->", "IMPLIES"], "<->": ["<->", "EQUIV"], "||": ["||", "OR", "|", "or"], "&&": ["&&", "AND", "&", "and"],
+    "!": ["!", "NOT ", "not "],
+}
 MEANINGS = {"until": "U", "weak until": "W", "unless": "W"}
 
 
@@ -68,7 +71,10 @@ def text_of(name):
 def specification(inputs, outputs, sections, order="Mealy"):
     """A text of the basic form; each section is a list of formulas."""
     parts = [f"INFO {{ SEMANTICS: {order} TARGET: {order.split(',')[0]} }} MAIN {{"]
-    parts += [f"{word} {{ {' '.join(f'{it};' for it in those)} }}" for word, those in (("INPUTS", inputs), ("OUTPUTS", outputs), *sections)]
+    parts += [
+        f"{word} {{ {' '.join(f'{it};' for it in those)} }}"
+        for word, those in (("INPUTS", inputs), ("OUTPUTS", outputs), *sections)
+    ]
     return " ".join([*parts, "}\n"])
 
 
@@ -78,7 +84,10 @@ def conjuncts(formula):
 
 def meanings(read, word, those):
     """The truths, on each of the lassos, of the formulas in a section, without those that hold on all."""
-    found = {lassos.vector(one, those) for kind, _, _, formula in read.formulas if kind.upper() == word for one in conjuncts(formula)}
+    found = {
+        lassos.vector(one, those)
+        for kind, _, _, formula in read.formulas if kind.upper() == word for one in conjuncts(formula)
+    }
     return found - {(True,) * len(those)}
 
 
@@ -86,7 +95,10 @@ class Examples(unittest.TestCase):
     def test_each_is_what_is_written_by_hand(self):
         by_hand = stored("expansions.toml")
         self.assertGreaterEqual(len(by_hand), 30)
-        self.assertEqual(sorted(by_hand), sorted(os.path.basename(path).removesuffix(".tlsf") for path in glob.glob(os.path.join(FOLDER, "*.tlsf"))))
+        self.assertEqual(
+            sorted(by_hand),
+            sorted(os.path.basename(path).removesuffix(".tlsf") for path in glob.glob(os.path.join(FOLDER, "*.tlsf"))),
+        )
         for name, wanted in by_hand.items():
             with self.subTest(name):
                 self.compare(name, wanted)
@@ -94,7 +106,11 @@ class Examples(unittest.TestCase):
     def compare(self, name, wanted):
         made = tlsf_reader.read(expanding.expanded(text_of(name), wanted["set"]).encode())
         sections = [(word, wanted[word]) for word in expanding.WORDS if word in wanted]
-        hand = tlsf_reader.read(specification(wanted["inputs"].split(), wanted["outputs"].split(), sections, wanted.get("order", "Mealy")).encode())
+        hand = tlsf_reader.read(
+            specification(
+                wanted["inputs"].split(), wanted["outputs"].split(), sections, wanted.get("order", "Mealy")
+            ).encode()
+        )
         self.assertEqual((made.names, made.order, made.is_strict), (hand.names, hand.order, hand.is_strict))
         draw = random.Random(name)
         those = [lassos.drawn(draw, len(hand.names)) for _ in range(150)]
@@ -106,7 +122,10 @@ class Examples(unittest.TestCase):
         for name in by_hand:
             text = text_of(name)
             for more in (1, 2, 3):
-                settings = {parameter: number + more for parameter, number in by_hand[name]["set"].items() if parameter != "express"}
+                settings = {
+                    parameter: number + more
+                    for parameter, number in by_hand[name]["set"].items() if parameter != "express"
+                }
                 if name != "cache" and settings:
                     with self.subTest(name, settings=settings):
                         made = expanding.expanded(text, settings)
@@ -137,8 +156,21 @@ def drawn(draw, depth):
     if kind < 8:
         return (draw.choice("!XFG"), drawn(draw, depth - 1))
     low, part = draw.randrange(1, 3), drawn(draw, depth - 1)
-    words = [("rises", part), ("falls", part), ("stable", part), ("X", low, part), ("F", low, low + draw.randrange(-1, 3), part), ("G", low, low + draw.randrange(-1, 3), part)]
-    words += [("within", low, part), ("within", low, part, drawn(draw, 1)), ("[*]", low + 1, part), ("onehot", part, drawn(draw, 1)), ("at most one of", part, drawn(draw, 1), drawn(draw, 1))]
+    words = [
+        ("rises", part),
+        ("falls", part),
+        ("stable", part),
+        ("X", low, part),
+        ("F", low, low + draw.randrange(-1, 3), part),
+        ("G", low, low + draw.randrange(-1, 3), part),
+    ]
+    words += [
+        ("within", low, part),
+        ("within", low, part, drawn(draw, 1)),
+        ("[*]", low + 1, part),
+        ("onehot", part, drawn(draw, 1)),
+        ("at most one of", part, drawn(draw, 1), drawn(draw, 1)),
+    ]
     return draw.choice(words)
 
 
@@ -146,7 +178,11 @@ def said(draw, formula, least=0):
     """The text of a formula as an operand of an operator that binds as `least`, with parentheses where they are needed,
     and sometimes elsewhere."""
     sign = formula[0]
-    binds = BINDS["unless"] if sign == "within" and len(formula) > 3 else BINDS.get(sign, UNARY if sign in ("!", "X", "F", "G", "within") else ATOM)
+    binds = (
+        BINDS["unless"]
+        if sign == "within" and len(formula) > 3
+        else BINDS.get(sign, UNARY if sign in ("!", "X", "F", "G", "within") else ATOM)
+    )
     if sign == "name":
         text = "abcd"[formula[1]]
     elif sign in ("true", "false"):
@@ -159,7 +195,9 @@ def said(draw, formula, least=0):
         text = f"{first} {draw.choice(SPELLINGS.get(sign, [sign]))} {said(draw, formula[2], right)}"
     elif sign == "[*]":
         is_negated = formula[2][0] == "!" and formula[2][1][0] == "name"
-        text = f"{'!' if is_negated else ''}{said(draw, formula[2][1] if is_negated else formula[2], ATOM)}[*{formula[1]}]"
+        text = (
+            f"{'!' if is_negated else ''}{said(draw, formula[2][1] if is_negated else formula[2], ATOM)}[*{formula[1]}]"
+        )
     elif sign == "!" and formula[1][0] == "[*]":
         text = f"!({said(draw, formula[1])})"
     elif sign == "within":
@@ -167,7 +205,9 @@ def said(draw, formula, least=0):
         text = f"within {formula[1]} {said(draw, formula[2], UNARY)}{''.join(end)}"
     elif binds == UNARY:
         bounds = f"[{':'.join(map(str, formula[1:-1]))}] " if len(formula) > 2 else " "
-        text = f"{draw.choice(SPELLINGS.get(sign, [sign]))}{bounds if sign != '!' else ''}{said(draw, formula[-1], UNARY)}"
+        text = (
+            f"{draw.choice(SPELLINGS.get(sign, [sign]))}{bounds if sign != '!' else ''}{said(draw, formula[-1], UNARY)}"
+        )
     else:
         text = f"{sign}({', '.join(said(draw, part) for part in formula[1:])})"
     return f"({text})" if binds < least or draw.random() < 0.1 else text
@@ -175,7 +215,10 @@ def said(draw, formula, least=0):
 
 def meant(formula):
     """The formula with TLSF's operators in place of the words between operands."""
-    return tuple(MEANINGS.get(part, part) if isinstance(part, str) else meant(part) if isinstance(part, tuple) else part for part in formula)
+    return tuple(
+        MEANINGS.get(part, part) if isinstance(part, str) else meant(part) if isinstance(part, tuple) else part
+        for part in formula
+    )
 
 
 class Meanings(unittest.TestCase):
@@ -210,23 +253,43 @@ class Meanings(unittest.TestCase):
 
 
 # Operators of numbers and of sets, by how they bind: those that bind most come first; and what they do.
-OF_NUMBERS = {"*": (1, "left", lambda a, b: a * b), "/": (2, "right", lambda a, b: a // b), "%": (2, "right", lambda a, b: a % b), "+": (3, "left", lambda a, b: a + b), "-": (3, "left", lambda a, b: a - b)}
-OF_SETS = {"(\\)": (4, "right", lambda a, b: a - b), "(*)": (5, "left", lambda a, b: a & b), "(+)": (6, "left", lambda a, b: a | b)}
-OTHER_WORDS = {"*": "MUL", "/": "DIV", "%": "MOD", "+": "PLUS", "-": "MINUS", "(\\)": "SETMINUS", "(*)": "CAP", "(+)": "CUP"}
+OF_NUMBERS = {
+    "*": (1, "left", lambda a, b: a * b), "/": (2, "right", lambda a, b: a // b),
+    "%": (2, "right", lambda a, b: a % b), "+": (3, "left", lambda a, b: a + b), "-": (3, "left", lambda a, b: a - b),
+}
+OF_SETS = {
+    "(\\)": (4, "right", lambda a, b: a - b),
+    "(*)": (5, "left", lambda a, b: a & b),
+    "(+)": (6, "left", lambda a, b: a | b),
+}
+OTHER_WORDS = {
+    "*": "MUL", "/": "DIV", "%": "MOD", "+": "PLUS", "-": "MINUS", "(\\)": "SETMINUS", "(*)": "CAP", "(+)": "CUP"
+}
 
 
 def drawn_value(draw, depth, is_set):
-    """The text of a random expression of numbers or of sets, how its outermost operator binds (0 for an operand), and its
-    value."""
+    """The text of a random expression of numbers or of sets, how its outermost operator binds (0 for an operand), and
+    its value."""
     if not depth or draw.random() < 0.2:
         first, last = draw.randrange(6), draw.randrange(9)
         if not is_set:
-            return draw.choice([(str(first), 0, first), (f"SUM[i IN {{1, 2 .. {first}}}] i", 0, sum(range(first + 1))), (f"|{{{first}, {last}}}|", 0, len({first, last})), ("three", 0, 3)])
+            return draw.choice([
+                (str(first), 0, first),
+                (f"SUM[i IN {{1, 2 .. {first}}}] i", 0, sum(range(first + 1))),
+                (f"|{{{first}, {last}}}|", 0, len({first, last})),
+                ("three", 0, 3),
+            ])
         step = draw.randrange(1, 4)
-        return draw.choice([(f"{{{first}, {first + step} .. {last}}}", 0, set(range(first, last + 1, step))), (f"{{{first}, {last}}}", 0, {first, last}), ("{}", 0, set())])
+        return draw.choice([
+            (f"{{{first}, {first + step} .. {last}}}", 0, set(range(first, last + 1, step))),
+            (f"{{{first}, {last}}}", 0, {first, last}),
+            ("{}", 0, set()),
+        ])
     if not is_set and draw.random() < 0.2:
         text, _, value = drawn_value(draw, depth - 1, True)
-        word, found = draw.choice([("MIN", min(value, default=0)), ("MAX", max(value, default=0)), ("SIZE", len(value))])
+        word, found = draw.choice(
+            [("MIN", min(value, default=0)), ("MAX", max(value, default=0)), ("SIZE", len(value))]
+        )
         return (f"{word} ({text})", 0, found) if value else ("0", 0, 0)
     operators = OF_SETS if is_set else OF_NUMBERS
     sign = draw.choice(list(operators))
@@ -236,7 +299,11 @@ def drawn_value(draw, depth, is_set):
         return sides[0]
     inner = [binds - (groups == "right"), binds - (groups == "left")]
     texts = [text if own <= most and draw.random() < 0.9 else f"({text})" for (text, own, _), most in zip(sides, inner)]
-    return draw.choice([sign, OTHER_WORDS[sign]]).join(f" {text} " for text in texts), binds, does(sides[0][2], sides[1][2])
+    return (
+        draw.choice([sign, OTHER_WORDS[sign]]).join(f" {text} " for text in texts),
+        binds,
+        does(sides[0][2], sides[1][2]),
+    )
 
 
 class Values(unittest.TestCase):
@@ -249,15 +316,31 @@ class Values(unittest.TestCase):
                 continue
             wanted = f"{{{', '.join(map(str, sorted(value)))}}}" if is_set else ""
             # a negative number is written as a difference
-            same = f"|v (\\) {wanted}| + |{wanted} (\\) v| == 0" if is_set else f"v == 0 - {-value}" if value < 0 else f"v == {value}"
-            source = f"INFO {{ SEMANTICS: Mealy TARGET: Mealy }} GLOBAL {{ DEFINITIONS {{ three = 3; v = {text}; }} }} MAIN {{ INPUTS {{ a; b; }} GUARANTEE {{ {same} && a; {same} || b; }} }}"
+            same = (
+                f"|v (\\) {wanted}| + |{wanted} (\\) v| == 0"
+                if is_set
+                else f"v == 0 - {-value}"
+                if value < 0
+                else f"v == {value}"
+            )
+            source = (
+                f"INFO {{ SEMANTICS: Mealy TARGET: Mealy }} GLOBAL {{ DEFINITIONS {{ three = 3; v = {text}; "
+                f"}} }} MAIN {{ INPUTS {{ a; b; }} GUARANTEE {{ {same} && a; {same} || b; }} }}"
+            )
             with self.subTest(text):
-                self.assertEqual([line.strip() for line in without_comments(expanding.expanded(source, {})) if line.endswith(";")][-2:], ["a;", "true;"])
+                self.assertEqual(
+                    [line.strip() for line in without_comments(expanding.expanded(source, {})) if line.endswith(";")][
+                        -2:
+                    ],
+                    ["a;", "true;"],
+                )
 
 
 def built(made, formula):
     """A formula of the basic form for one that was drawn; words of sentences are left out."""
-    sign, parts = MEANINGS.get(formula[0], formula[0]), [built(made, part) for part in formula[1:] if isinstance(part, tuple)]
+    sign, parts = (
+        MEANINGS.get(formula[0], formula[0]), [built(made, part) for part in formula[1:] if isinstance(part, tuple)]
+    )
     if sign == "name":
         return made.name("abcd"[formula[1]])
     if sign in ("true", "false"):
@@ -268,7 +351,11 @@ def built(made, formula):
         return (made.implication if sign == "->" else made.equivalence)(0, *parts)
     if sign in ("U", "R", "W"):
         return made.of(0, sign, tuple(parts))
-    return made.negation(0, parts[0]) if sign == "!" else made.before(0, sign if sign in ("X", "F", "G") else "X", parts[0])
+    return (
+        made.negation(0, parts[0])
+        if sign == "!"
+        else made.before(0, sign if sign in ("X", "F", "G") else "X", parts[0])
+    )
 
 
 def nesting_of(text):
@@ -291,7 +378,12 @@ def broken():
     """The broken texts, with the offset and the message of each error."""
     for kind, texts in stored("broken_tlsf.toml").items():
         for part, message in texts.items():
-            parts = {"parameters": "", "definitions": "", "signals": "", "formula": "used(r);" if kind == "used" else "G (r -> F g);"}
+            parts = {
+                "parameters": "",
+                "definitions": "",
+                "signals": "",
+                "formula": "used(r);" if kind == "used" else "G (r -> F g);",
+            }
             parts["definitions" if kind == "used" else kind] = part
             yield (part if kind == "whole" else filled(parts)), message
 
@@ -335,7 +427,11 @@ class Broken(OnFiles):
         for _ in range(400):
             text = text_of(draw.choice(names))
             place = draw.randrange(len(text))
-            more = draw.choice(["", draw.choice("(){}[];:,!<>=+-*/%|&~_^\"019azAX \n"), text[draw.randrange(len(text)) :][: draw.randrange(9)]])
+            more = draw.choice([
+                "",
+                draw.choice("(){}[];:,!<>=+-*/%|&~_^\"019azAX \n"),
+                text[draw.randrange(len(text)) :][: draw.randrange(9)],
+            ])
             changed = text[:place] + more + text[place + draw.randrange(4) :]
             try:
                 made = expanding.expanded(changed, {})
@@ -350,7 +446,10 @@ class Broken(OnFiles):
 
 class Limits(unittest.TestCase):
     def wrong(self, formula, definitions="", inputs="a;"):
-        text = f"INFO {{ SEMANTICS: Mealy TARGET: Mealy }} GLOBAL {{ DEFINITIONS {{ {definitions} }} }} MAIN {{ INPUTS {{ {inputs} }} GUARANTEE {{ {formula}; }} }}"
+        text = (
+            f"INFO {{ SEMANTICS: Mealy TARGET: Mealy }} GLOBAL {{ DEFINITIONS {{ {definitions} }} }} MAIN {{ INPUTS {{ "
+            f"{inputs} }} GUARANTEE {{ {formula}; }} }}"
+        )
         with self.assertRaises(Wrong) as caught:
             expanding.expanded(text, {})
         return str(caught.exception)
@@ -362,7 +461,11 @@ class Limits(unittest.TestCase):
         self.assertIn("65,535 operators", self.wrong(" -> ".join(["a"] * 32_769)))
         self.assertIn("65,535 operators and operands up to here", self.wrong(f"{chain}; a"))
         deep = "!" * 255 + "a"
-        tlsf_reader.read(expanding.expanded(specification(["a"], [], [("GUARANTEE", [deep, f"X[{formulas.MOST_NESTED}] a"])]), {}).encode())
+        tlsf_reader.read(
+            expanding.expanded(
+                specification(["a"], [], [("GUARANTEE", [deep, f"X[{formulas.MOST_NESTED}] a"])]), {}
+            ).encode()
+        )
         self.assertIn("nests more than 256", self.wrong("X[257] a"))
         self.assertIn("nest more than 256", self.wrong("(" * 100_000 + "a"))
         self.assertIn("more than 64 inputs", self.wrong("a0", inputs=" ".join(f"a{number};" for number in range(65))))
@@ -400,7 +503,11 @@ class Limits(unittest.TestCase):
             ("F[0:1000000000000] a", "", "nests more than 256"),
             ("a;" * 250_000, "", "500,000 words"),
             ("|{0, 1 .. 9223372036854775807}| == 1 -> a", "", "9,223,372,036,854,775,808 elements"),
-            ("|f({}, 400)| == 2 -> a && |f({}, 400)| != 1 -> !a && |f({}, 2500)| == 2 -> a", "f(s, i) = i == 0 : s otherwise: f({s, {s}}, i - 1);", "nest more than 2,000"),
+            (
+                "|f({}, 400)| == 2 -> a && |f({}, 400)| != 1 -> !a && |f({}, 2500)| == 2 -> a",
+                "f(s, i) = i == 0 : s otherwise: f({s, {s}}, i - 1);",
+                "nest more than 2,000",
+            ),
             ("&&[" + ", ".join(f"x{number} IN {{0}}" for number in range(65)) + "] a", "", "more than 64 variables"),
             ("a", f"f({', '.join(f'x{number}' for number in range(65))}) = a;", "more than 64 arguments"),
             ("a", f"enum e = A: {'0' * 65};", "65 bits"),
@@ -426,28 +533,54 @@ class Commands(OnFiles):
     def test_what_is_refused(self):
         path, own = os.path.join(FOLDER, "lift_express.tlsf"), self.file("own.tlsf", text_of("arbiter").encode())
         for words, said in (
-            (("--set", "n=2", path), f"{path}: --set NAME=VALUE: there is no parameter n; the specification has floors, express"),
-            (("--set", "floor=2", path), f"{path}: --set NAME=VALUE: there is no parameter floor (did you mean floors?); the specification has floors, express"),
-            (("--set", "floors=-2", path), "--set NAME=VALUE: 'floors=-2' is no NAME=VALUE, where VALUE is a number of at most 18 digits"),
+            (
+                ("--set", "n=2", path),
+                f"{path}: --set NAME=VALUE: there is no parameter n; the specification has floors, express",
+            ),
+            (
+                ("--set", "floor=2", path),
+                f"{path}: --set NAME=VALUE: there is no parameter floor (did you mean floors?); "
+                "the specification has floors, express",
+            ),
+            (
+                ("--set", "floors=-2", path),
+                "--set NAME=VALUE: 'floors=-2' is no NAME=VALUE, where VALUE is a number of at most 18 digits",
+            ),
             (("--set", "floors=2", "--set", "floors=3", path), "--set NAME=VALUE: floors is set twice"),
             ((path, "--set"), "--set wants NAME=VALUE behind it"),
-            (("-o", own.removesuffix(".tlsf"), own), f"-o PREFIX: {own} is there, and psyn has not written it: --force writes over it"),
-            (("--force", "-o", own.removesuffix(".tlsf"), own), f"{own} would be written, and this command reads it: name another file"),
-            ((os.path.join(TOP, "examples", "files", "loop.pg"),), f"{os.path.join(TOP, 'examples', 'files', 'loop.pg')} is a game; tlsf wants SPECIFICATION"),
+            (
+                ("-o", own.removesuffix(".tlsf"), own),
+                f"-o PREFIX: {own} is there, and psyn has not written it: --force writes over it",
+            ),
+            (
+                ("--force", "-o", own.removesuffix(".tlsf"), own),
+                f"{own} would be written, and this command reads it: name another file",
+            ),
+            (
+                (os.path.join(TOP, "examples", "files", "loop.pg"),),
+                f"{os.path.join(TOP, 'examples', 'files', 'loop.pg')} is a game; tlsf wants SPECIFICATION",
+            ),
         ):
             with self.subTest(words):
                 done = self.tool("tlsf", *words)
                 self.assertEqual((done.returncode, done.stdout, done.stderr.decode()), (2, b"", f"psyn: {said}\n"))
 
     def test_strings_and_comments_keep_their_bytes(self):
-        text = 'INFO { TITLE: "\u00fcber \\ // no" /* \u00fc /* nested */ */ SEMANTICS: Strict, Mealy TARGET: Mealy TAGS: a, "b", "c d" } MAIN { INPUTS { r; } }'
+        text = (
+            'INFO { TITLE: "\u00fcber \\ // no" /* \u00fc /* nested */ */ SEMANTICS: Strict, Mealy TARGET: Mealy TAGS: '
+            'a, "b", "c d" } MAIN { INPUTS { r; } }'
+        )
         made = self.tool("tlsf", self.file("it", text.encode())).stdout
-        self.assertIn('TITLE:       "\u00fcber \\ // no"\n  TAGS:        a, b\n  SEMANTICS:   Mealy,Strict\n'.encode(), made)
+        self.assertIn(
+            'TITLE:       "\u00fcber \\ // no"\n  TAGS:        a, b\n  SEMANTICS:   Mealy,Strict\n'.encode(), made
+        )
         self.assertTrue(tlsf_reader.read(made).is_strict)
 
     def test_words_that_a_text_declares_are_names(self):
         sections = [("GUARANTEE", ["until -> within U stable", "not || GF", "rises || or"])]
-        made = expanding.expanded(specification(["until", "within", "GF"], ["stable", "rises", "not", "or"], sections), {})
+        made = expanding.expanded(
+            specification(["until", "within", "GF"], ["stable", "rises", "not", "or"], sections), {}
+        )
         self.assertEqual(without_comments(made)[-5:], ["    not || GF;", "    rises || or;", "  }", "}", ""])
         self.assertIn("    (until -> within) U stable;\n", made)
 

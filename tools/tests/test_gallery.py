@@ -47,7 +47,10 @@ def read(path):
 class Lists(unittest.TestCase):
     @classmethod
     def setUpClass(cls):
-        cls.lists = {os.path.basename(path).removesuffix(".parts"): read(path) for path in sorted(glob.glob(os.path.join(GALLERY, "*.parts")))}
+        cls.lists = {
+            os.path.basename(path).removesuffix(".parts"): read(path)
+            for path in sorted(glob.glob(os.path.join(GALLERY, "*.parts")))
+        }
         cls.asked = {name: cores.Asking(whole) for name, whole in cls.lists.items()}
 
     def test_each_part_has_a_sentence_and_each_file_is_used(self):
@@ -55,7 +58,11 @@ class Lists(unittest.TestCase):
         for path in glob.glob(os.path.join(GALLERY, "*.parts")):
             with open(path, encoding="utf-8") as file:
                 text = file.read()
-            self.assertEqual([it for it in re.split(r"\n\n+", text)[1:] if not re.match(r"# [A-Z].*[.]\n--(assume|guarantee) ", it)], [], path)
+            self.assertEqual(
+                [it for it in re.split(r"\n\n+", text)[1:] if not re.match(r"# [A-Z].*[.]\n--(assume|guarantee) ", it)],
+                [],
+                path,
+            )
             used |= set(re.findall(r"own/(\S+\.hoa)", text))
         self.assertEqual(sorted(used), sorted(os.listdir(os.path.join(GALLERY, "own"))))
 
@@ -65,7 +72,11 @@ class Lists(unittest.TestCase):
             found = cores.core_of(self.asked[name])
             sets = [found.parts, *(cores.without(found.parts, place, 1) for place in range(len(found.parts)))]
             for place, parts in enumerate(sets):
-                few = found.specification.having(parts, None) if found.has_controller else found.specification.having(None, parts)
+                few = (
+                    found.specification.having(parts, None)
+                    if found.has_controller
+                    else found.specification.having(None, parts)
+                )
                 asked.append(rows.Row(name, ("synth\n" + Composer(few).composed().text()).encode(), 0))
                 wanted.append((name, 10 if found.has_controller == (place == 0) else 20))
         where = program.path()
@@ -76,11 +87,13 @@ class Lists(unittest.TestCase):
 # What the sentences say of outputs that the parts have not: how many slots are full, and where the lift is.
 SLOTS = (
     "(empty)", "G onehot(empty, half, full)", "G ((offer & take <-> give & wanted) -> stable(empty, half, full))",
-    "G (offer & take & !(give & wanted) -> (empty -> X half) & (half -> X full))", "G (give & wanted & !(offer & take) -> (full -> X half) & (half -> X empty))",
+    "G (offer & take & !(give & wanted) -> (empty -> X half) & (half -> X full))",
+    "G (give & wanted & !(offer & take) -> (full -> X half) & (half -> X empty))",
 )  # fmt: skip
 FLOORS = (
     "(at0)", "G onehot(at0, at1, at2, at3)", "G (!up & !down -> stable(at0, at1, at2, at3))",
-    "G (up -> (at0 -> X at1) & (at1 -> X at2) & (at2 -> X at3))", "G (down -> (at3 -> X at2) & (at2 -> X at1) & (at1 -> X at0))",
+    "G (up -> (at0 -> X at1) & (at1 -> X at2) & (at2 -> X at3))",
+    "G (down -> (at3 -> X at2) & (at2 -> X at1) & (at1 -> X at0))",
 )  # fmt: skip
 # Those of whose rows the answer alone is compared, since the rest takes long.
 LARGE = {"lift", "lift-deadline", "cache"}
@@ -109,13 +122,19 @@ class Sentences(OnFiles):
     """The sentences of each specification of the gallery, beside its parts."""
 
     def test_they_mean_what_the_parts_do(self):
-        names = [name for name in sorted(it.removesuffix(".parts") for it in os.listdir(GALLERY) if it.endswith(".parts")) if name != "lift-deadline"]
+        names = [
+            name
+            for name in sorted(it.removesuffix(".parts") for it in os.listdir(GALLERY) if it.endswith(".parts"))
+            if name != "lift-deadline"
+        ]
         self.assertEqual(len(names), 7)
         self.assertEqual(sweeps.at_once(self.agreed, names), [b"agrees\n"] * len(names))
 
     def agreed(self, name):
         outputs, more = BESIDE.get(name, ("", ()))
-        text = text_of(f"{name}.parts").replace("../", f"{os.path.dirname(GALLERY)}/").replace("own/", f"{GALLERY}/own/")
+        text = text_of(f"{name}.parts").replace("../", f"{os.path.dirname(GALLERY)}/").replace(
+            "own/", f"{GALLERY}/own/"
+        )
         text = re.sub("(--outs .*)", rf"\1 {outputs}", text) + "".join(f"--guarantee '{it}'\n" for it in more)
         self.file(f"{name}.hoa", self.tool("--quiet", "compose", self.file(f"{name}.parts", text.encode())).stdout)
         return self.tool("agree", os.path.join(GALLERY, f"{name}.tlsf"), f"{name}.hoa").stdout
@@ -126,13 +145,15 @@ class Sentences(OnFiles):
             name = re.match(r"\| \[(\S+)\]\(\.\./examples/gallery/\1\.tlsf\) \|", line)
             if name:
                 told[name[1]] = tuple(cell.strip() for cell in line.split("|")[3:6])
-        self.assertEqual(sorted(told), sorted(it.removesuffix(".tlsf") for it in os.listdir(GALLERY) if it.endswith(".tlsf")))
+        self.assertEqual(
+            sorted(told), sorted(it.removesuffix(".tlsf") for it in os.listdir(GALLERY) if it.endswith(".tlsf"))
+        )
         for name, *cells in sweeps.at_once(self.comes, sorted(told)):
             self.assertEqual(told[name][: len(cells)], tuple(cells), name)
 
     def comes(self, name):
-        """The answer, the states, and the latches and gates, as the row of a specification has them; of a large one the answer
-        alone."""
+        """The answer, the states, and the latches and gates, as the row of a specification has them; of a large one the
+        answer alone."""
         path, is_large = os.path.join(GALLERY, f"{name}.tlsf"), name in LARGE
         made = self.tool("--quiet", "synth", *["--small"] * (not is_large), path).stdout.decode()
         answer = {"R": "yes", "U": "no"}[made[0]]
@@ -152,10 +173,15 @@ class Sentences(OnFiles):
             inputs, outputs = (re.findall(rf"{side} wire (\w+)", module) for side in ("input", "output"))
             inputs = [it for it in inputs if it not in ("clk", "reset")]
             letters = ["".join(chance.choice("01") for _ in inputs) for _ in range(100)]
-            said = self.tool("sim", f"{name}.aag", "-", given="".join(f"{it}\n" for it in letters).encode()).stdout.decode()
+            said = self.tool(
+                "sim", f"{name}.aag", "-", given="".join(f"{it}\n" for it in letters).encode()
+            ).stdout.decode()
             ports = ", ".join(f".{it}({it})" for it in (*inputs, *outputs))
             steps = " ".join(f"step({len(inputs)}'b{it});" for it in letters)
-            words = {"name": name, "inputs": ", ".join(inputs), "outputs": ", ".join(outputs), "ports": ports, "last": len(inputs) - 1, "letters": steps}
+            words = {
+                "name": name, "inputs": ", ".join(inputs), "outputs": ", ".join(outputs), "ports": ports,
+                "last": len(inputs) - 1, "letters": steps,
+            }
             self.file("both.v", (module + BENCH % words).encode())
             subprocess.run(["iverilog", "-o", "both", "both.v"], cwd=self.room, check=True)
             done = subprocess.run(["vvp", "-n", "both"], cwd=self.room, capture_output=True, text=True, check=True)

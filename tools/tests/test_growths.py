@@ -41,7 +41,9 @@ class Sweeps(unittest.TestCase):
         folder, path = os.path.join(sweeps.TOP, "examples"), program()
         inputs = sweeps.inputs_of(folder)
         with sweeps.library("refuse_growth.c") as shim:
-            swept = sweeps.at_once(lambda name: growths.sweep(path, shim, os.path.join(folder, name), inputs[name]), inputs)
+            swept = sweeps.at_once(
+                lambda name: growths.sweep(path, shim, os.path.join(folder, name), inputs[name]), inputs
+            )
         counts.ran("sweeps", "examples with each growth refused", len(swept))
         self.assertEqual([(name, wrong) for name, (_, _, wrong) in zip(inputs, swept) if wrong], [])
         self.assertEqual([name for name, (asked, _, _) in zip(inputs, swept) if not asked], [])

@@ -26,14 +26,17 @@ class Installed(unittest.TestCase):
         cls.prefix = tempfile.mkdtemp()
         cls.addClassCleanup(shutil.rmtree, cls.prefix)
         done = subprocess.run(
-            [sys.executable, os.path.join(TOP, "tools", "install"), cls.prefix], env={**os.environ, "PSYN": program()}, capture_output=True, check=False
+            [sys.executable, os.path.join(TOP, "tools", "install"), cls.prefix], env={**os.environ, "PSYN": program()},
+            capture_output=True, check=False
         )
         assert done.returncode == 0, done.stderr
 
     def psyn(self, *words):
         without = {name: value for name, value in os.environ.items() if name != "PSYN"}
         command = [os.path.join(self.prefix, "bin", "psyn"), *words]
-        return subprocess.run(command, capture_output=True, check=False, env=without, cwd=os.path.join(TOP, "examples", "files"))
+        return subprocess.run(
+            command, capture_output=True, check=False, env=without, cwd=os.path.join(TOP, "examples", "files")
+        )
 
     def test_the_tool_answers_and_explains(self):
         self.assertEqual(self.psyn("check", "loop.pg", "loop.cert").stdout, b"valid\n")
@@ -45,7 +48,9 @@ class Installed(unittest.TestCase):
     def test_a_page_has_its_parts(self):
         done = self.psyn("page", "--parts", os.path.join("..", "gallery", "traffic.parts"))
         self.assertEqual((done.returncode, done.stderr), (0, b""))
-        self.assertTrue(b"<title>traffic: REALIZABLE</title>" in done.stdout and b"function begun(board)" in done.stdout)
+        self.assertTrue(
+            b"<title>traffic: REALIZABLE</title>" in done.stdout and b"function begun(board)" in done.stdout
+        )
 
     def test_the_manual_is_there(self):
         with open(os.path.join(self.prefix, "share", "man", "man1", "psyn.1"), encoding="utf-8") as file:
@@ -59,7 +64,10 @@ class Installed(unittest.TestCase):
             self.assertNotIn(b"tools/psyn", done.stdout + done.stderr)
         os.rename(os.path.join(behind, "psyn"), os.path.join(behind, "away"))
         self.addCleanup(os.rename, os.path.join(behind, "away"), os.path.join(behind, "psyn"))
-        self.assertEqual(self.psyn("solve", "loop.pg").stderr, b"psyn: the program is not there: unpack or install psyn once more, or name it by PSYN=FILE\n")
+        self.assertEqual(
+            self.psyn("solve", "loop.pg").stderr,
+            b"psyn: the program is not there: unpack or install psyn once more, or name it by PSYN=FILE\n",
+        )
 
     def completed(self, *words, folder=os.path.join(TOP, "examples", "files")):
         path = os.path.join(self.prefix, "share", "bash-completion", "completions", "psyn")
@@ -93,7 +101,9 @@ class Installed(unittest.TestCase):
 
     def test_bash_completes_parts_behind_their_flags(self):
         self.assertEqual(self.completed("psyn", "compose", "--assume", "a"), ["arbiter.hoa"])
-        self.assertEqual(self.completed("psyn", "compose", "--assume", "arbiter.hoa", "--guarantee", "grant.hoa", "d"), ["delay.hoa"])
+        self.assertEqual(
+            self.completed("psyn", "compose", "--assume", "arbiter.hoa", "--guarantee", "grant.hoa", "d"), ["delay.hoa"]
+        )
         self.assertEqual(self.completed("psyn", "compose", "--outs", "g"), [""])
         with tempfile.TemporaryDirectory() as room:
             for name in ("it.hoa", "it.parts", "it.pg"):
@@ -117,7 +127,9 @@ class Installed(unittest.TestCase):
                 with open(os.path.join(room, name), "wb"):
                     pass
             os.mkdir(os.path.join(room, "my folder"))
-            self.assertEqual(self.completed("psyn", "synth", "my", folder=room), ["my folder", "my other.hoa", "my spec.hoa"])
+            self.assertEqual(
+                self.completed("psyn", "synth", "my", folder=room), ["my folder", "my other.hoa", "my spec.hoa"]
+            )
             self.assertEqual(self.completed("psyn", "synth", "my\\ s", folder=room), ["my spec.hoa"])
             self.assertEqual(self.completed("psyn", "synth", '"my s', folder=room), ["my spec.hoa"])
             self.assertEqual(self.completed("psyn", "-o", "my f", folder=room), ["my folder"])
@@ -131,22 +143,34 @@ class Tables(unittest.TestCase):
     def test_the_stored_commands_are_those_of_the_program(self):
         with open(usages.STORED, encoding="utf-8") as file:
             self.assertEqual(file.read(), usages.written(), "tools/command-files")
-        self.assertEqual([name for name, it in COMMANDS.items() if it.is_of_the_program], [name for name in USAGES if name != "help"])
+        self.assertEqual(
+            [name for name, it in COMMANDS.items() if it.is_of_the_program], [name for name in USAGES if name != "help"]
+        )
 
     def test_a_table_that_cannot_be_read_is_one_line(self):
-        row = 'Usage { name: "x", flags: &[%s], texts: &[TextKind::Game], added: &[(A_FLAG, TextKind::Circuit)], replaced: &[(A_FLAG, TextKind::Stimulus)], line: Line::X }'
+        row = (
+            'Usage { name: "x", flags: &[%s], texts: &[TextKind::Game], added: &[(A_FLAG, TextKind::Circuit)], '
+            'replaced: &[(A_FLAG, TextKind::Stimulus)], line: Line::X }'
+        )
         flag = 'pub const A_FLAG: &str = "a";'
-        self.assertIn('[x]\nflags = ["a"]\ntexts = ["game"]\nadded = { a = "circuit" }\nreplaced = { a = "stimulus" }\n', usages.written(flag + row % "A_FLAG"))
+        self.assertIn(
+            '[x]\nflags = ["a"]\ntexts = ["game"]\nadded = { a = "circuit" }\nreplaced = { a = "stimulus" }\n',
+            usages.written(flag + row % "A_FLAG"),
+        )
         for code in (flag, row % "", flag + row % "B_FLAG", flag + row % "" + 'Usage { name: "y", line: Line::Y }'):
             with self.assertRaisesRegex(usages.Unreadable, "^crates/ps_program/src/commands.rt: "):
                 usages.written(code)
 
     def test_what_follows_from_the_tables_is_stored(self):
-        self.assertEqual(subprocess.run([os.path.join(TOP, "tools", "command-files"), "--check"], check=False).returncode, 0)
+        self.assertEqual(
+            subprocess.run([os.path.join(TOP, "tools", "command-files"), "--check"], check=False).returncode, 0
+        )
 
     def test_a_flag_takes_the_same_in_each_command(self):
         flags = [flag for command in COMMANDS.values() for flag in command.all_flags] + list(EVERYWHERE)
-        self.assertEqual(len({(flag.name, flag.value, flag.many) for flag in flags}), len({flag.name for flag in flags}))
+        self.assertEqual(
+            len({(flag.name, flag.value, flag.many) for flag in flags}), len({flag.name for flag in flags})
+        )
 
     def test_each_command_is_a_file_of_its_own(self):
         folder = os.path.join(TOP, "tools", "psyntool", "commands")
@@ -174,7 +198,12 @@ class OnATerminal(unittest.TestCase):
             with open(slow, "w", encoding="utf-8") as file:
                 file.write(SLOW)
             os.chmod(slow, 0o755)
-            words = [sys.executable, os.path.join(TOP, "tools", "psyn"), "check", *(os.path.join(files, name) for name in ("loop.pg", "loop.cert"))]
+            words = [
+                sys.executable,
+                os.path.join(TOP, "tools", "psyn"),
+                "check",
+                *(os.path.join(files, name) for name in ("loop.pg", "loop.cert")),
+            ]
             ours, theirs = pty.openpty()
             running = subprocess.Popen(words, stdout=subprocess.PIPE, stderr=theirs, env={**os.environ, "PSYN": slow})
             answer = running.communicate()[0]

@@ -1,5 +1,5 @@
-"""The tool's own judgement of sentences by lassos, against a second evaluator (`lassos`) and against `lasso --tlsf`; and the
-sentences that `verify` and `lasso --trace` name."""
+"""The tool's own judgement of sentences by lassos, against a second evaluator (`lassos`) and against `lasso --tlsf`;
+and the sentences that `verify` and `lasso --trace` name."""
 import random
 import unittest
 
@@ -30,7 +30,8 @@ def meaning_of(formula):
 
 class Obligations(unittest.TestCase):
     def setUp(self):
-        self.draw, self.made = random.Random("obligations"), formulas.Formulas()
+        self.draw = random.Random("obligations")
+        self.made = formulas.Formulas()
         self.obligations = obligations.Obligations()
         self.remains = obligations.Remains(self.obligations)
 
@@ -42,7 +43,11 @@ class Obligations(unittest.TestCase):
             formula, lasso = self.formula(), lassos.drawn(self.draw, len(NAMES))
             for holds in (True, False):
                 found = obligations.truths(self.obligations.of(formula, holds), letters_of(lasso), lasso.stem, {})
-                self.assertEqual(found, [truth == holds for truth in lasso.truths(meaning_of(formula))], (formulas.text_of(formula), lasso))
+                self.assertEqual(
+                    found,
+                    [truth == holds for truth in lasso.truths(meaning_of(formula))],
+                    (formulas.text_of(formula), lasso),
+                )
 
     def test_behind_a_broken_step_nothing_keeps_a_formula(self):
         broken = 0
@@ -50,10 +55,18 @@ class Obligations(unittest.TestCase):
             formula, lasso = self.formula(), lassos.drawn(self.draw, len(NAMES))
             letters, one = letters_of(lasso), self.obligations.of(formula)
             step = self.remains.breaks(one, letters, lasso.stem)
-            begin = [letters[place if place < len(letters) else lasso.stem + (place - lasso.stem) % (len(letters) - lasso.stem)] for place in range(0 if step is None else step + 1)]
+            begin = [
+                letters[
+                    place if place < len(letters) else lasso.stem + (place - lasso.stem) % (len(letters) - lasso.stem)
+                ]
+                for place in range(0 if step is None else step + 1)
+            ]
             for _ in range(5 if begin else 0):
                 other = lassos.drawn(self.draw, len(NAMES))
-                self.assertFalse(obligations.truths(one, [*begin, *letters_of(other)], len(begin) + other.stem, {})[0], formulas.text_of(formula))
+                self.assertFalse(
+                    obligations.truths(one, [*begin, *letters_of(other)], len(begin) + other.stem, {})[0],
+                    formulas.text_of(formula),
+                )
             broken += step is not None
         self.assertGreater(broken, 20)
 
@@ -70,25 +83,43 @@ class Obligations(unittest.TestCase):
 
     def test_the_broken_step_of_worked_formulas(self):
         for text, word, step in (
-            ("G (a -> X b)", ["a", "b", "a", ""], 3), ("a U b", ["a", "a", "", "b"], 2), ("F a", [""], None), ("X X a", ["", "", "b"], 2),
-            ("G (a -> X b) && G (a -> X !b)", ["", "a", ""], 1), ("G F a", ["", "a"], None), ("a W b && !b", ["b"], 0), ("G !(a && b)", ["ab"], 0),
+            ("G (a -> X b)", ["a", "b", "a", ""], 3), ("a U b", ["a", "a", "", "b"], 2), ("F a", [""], None),
+            ("X X a", ["", "", "b"], 2), ("G (a -> X b) && G (a -> X !b)", ["", "a", ""], 1),
+            ("G F a", ["", "a"], None), ("a W b && !b", ["b"], 0), ("G !(a && b)", ["ab"], 0),
         ):  # fmt: skip
-            formula = expanding.basic(f"INFO {{ SEMANTICS: Mealy TARGET: Mealy }} MAIN {{ INPUTS {{ a; b; }} GUARANTEE {{ ({text}) || false; }} }}", {}).sentences
+            formula = expanding.basic(
+                f"INFO {{ SEMANTICS: Mealy TARGET: Mealy }} MAIN {{ INPUTS {{ a; b; "
+                f"}} GUARANTEE {{ ({text}) || false; }} }}",
+                {},
+            ).sentences
             both = self.obligations.both([self.obligations.of(one.formula) for one in formula])
-            self.assertEqual(self.remains.breaks(both, [frozenset(letter) for letter in word], len(word) - 1), step, text)
+            self.assertEqual(
+                self.remains.breaks(both, [frozenset(letter) for letter in word], len(word) - 1), step, text
+            )
 
     def test_texts(self):
-        for text, said in (("G (a -> F b)", "G (!a || F b)"), ("a W b", "a W b"), ("!(a U b)", "!a R !b"), ("X (a R b)", "X (a R b)")):
-            [one] = expanding.basic(f"INFO {{ SEMANTICS: Mealy TARGET: Mealy }} MAIN {{ INPUTS {{ a; b; }} GUARANTEE {{ {text}; }} }}", {}).sentences
+        for text, said in (
+            ("G (a -> F b)", "G (!a || F b)"), ("a W b", "a W b"), ("!(a U b)", "!a R !b"), ("X (a R b)", "X (a R b)")
+        ):
+            [one] = expanding.basic(
+                f"INFO {{ SEMANTICS: Mealy TARGET: Mealy }} MAIN {{ INPUTS {{ a; b; }} GUARANTEE {{ {text}; }} }}", {}
+            ).sentences
             self.assertEqual(obligations.text_of(self.obligations.of(one.formula)), said)
 
 
 class Shown(unittest.TestCase):
     def test_a_sentence_is_shown_as_the_text_has_it(self):
-        for text, said in (("G (a\n   -> X b)", "G (a -> X b)"), ("G (a // one\n -> b)", "G (a -> b)"), ("G (a /* ä */ -> b)", "G (a -> b)"), ("G (a || " + "b || " * 60 + "b)", None)):
-            [one] = expanding.basic(f"INFO {{ SEMANTICS: Mealy TARGET: Mealy }} MAIN {{ INPUTS {{ a; b; }} GUARANTEE {{ {text}; }} }}", {}).sentences
+        for text, said in (
+            ("G (a\n   -> X b)", "G (a -> X b)"), ("G (a // one\n -> b)", "G (a -> b)"),
+            ("G (a /* ä */ -> b)", "G (a -> b)"), ("G (a || " + "b || " * 60 + "b)", None),
+        ):
+            [one] = expanding.basic(
+                f"INFO {{ SEMANTICS: Mealy TARGET: Mealy }} MAIN {{ INPUTS {{ a; b; }} GUARANTEE {{ {text}; }} }}", {}
+            ).sentences
             self.assertEqual(one.said, said or formulas.text_of(one.formula))
-        both = expanding.basic("INFO { SEMANTICS: Mealy TARGET: Mealy }\nMAIN { INPUTS { a; b; }\nASSERT { a & !b; } }", {}).sentences
+        both = expanding.basic(
+            "INFO { SEMANTICS: Mealy TARGET: Mealy }\nMAIN { INPUTS { a; b; }\nASSERT { a & !b; } }", {}
+        ).sentences
         self.assertEqual([(one.said, one.row, one.names) for one in both], [("a", 3, ["a"]), ("!b", 3, ["b"])])
 
 
@@ -103,15 +134,29 @@ class AgainstTheProgram(unittest.TestCase):
         PROGRAM[:] = [program()]
         draw, made, asked = random.Random("sections"), formulas.Formulas(), []
         for _ in range(ASKED):
-            sections = {word: [formulas.text_of(built(made, drawn(draw, 2))) for _ in range(draw.randrange(3))] for word in SECTIONS}
+            sections = {
+                word: [formulas.text_of(built(made, drawn(draw, 2))) for _ in range(draw.randrange(3))]
+                for word in SECTIONS
+            }
             strict = ", Strict" * draw.randrange(2)
-            inside = " ".join(f"{word} {{ {''.join(f'{text}; ' for text in texts)}}}" for word, texts in sections.items())
-            text = f"INFO {{ SEMANTICS: Mealy{strict} TARGET: Mealy }}\nMAIN {{ INPUTS {{ {'; '.join(NAMES)} }} {inside} }}\n"
+            inside = " ".join(
+                f"{word} {{ {''.join(f'{text}; ' for text in texts)}}}" for word, texts in sections.items()
+            )
+            text = (
+                f"INFO {{ SEMANTICS: Mealy{strict} TARGET: Mealy }}\n"
+                f"MAIN {{ INPUTS {{ {'; '.join(NAMES)} }} {inside} }}\n"
+            )
             asked.append((text, lassos.drawn(draw, len(NAMES), 4)))
         counts.ran("formulas", "specifications on lassos against the tool's own judgement", len(asked))
         answers = sweeps.at_once(lambda one: answered(given(*one)), asked)
-        found = [bool(keeping.violated(expanding.basic(text, {}), letters_of(lasso), lasso.stem)) for text, lasso in asked]
-        wrong = [one for one, answer, violated in zip(asked, answers, found) if not answer.startswith(b"violated" if violated else b"satisfied")]
+        found = [
+            bool(keeping.violated(expanding.basic(text, {}), letters_of(lasso), lasso.stem)) for text, lasso in asked
+        ]
+        wrong = [
+            one
+            for one, answer, violated in zip(asked, answers, found)
+            if not answer.startswith(b"violated" if violated else b"satisfied")
+        ]
         self.assertEqual(wrong[:3], [])
         self.assertGreater(min(found.count(True), found.count(False)), ASKED // 10)
 
@@ -120,7 +165,9 @@ def given(text, lasso):
     """The input of `lasso --tlsf` for a lasso whose letters are all inputs."""
     circuit = "aag 4 4 0 0 0\n2\n4\n6\n8\n" + "".join(f"i{place} {name}\n" for place, name in enumerate(NAMES))
     rows = ["".join("01"[bit] for bit in letter) + "\n" for letter in lasso.letters]
-    return f"lasso --tlsf\n{text}%%\n{circuit}%%\n{''.join(rows[: lasso.stem])}-\n{''.join(rows[lasso.stem :])}".encode()
+    return (
+        f"lasso --tlsf\n{text}%%\n{circuit}%%\n{''.join(rows[: lasso.stem])}-\n{''.join(rows[lasso.stem :])}".encode()
+    )
 
 
 SPEC = b"""INFO { SEMANTICS: Mealy TARGET: Mealy }
@@ -179,10 +226,14 @@ class OfTheTool(OnFiles):
         self.file("env.aag", b"aag 2 2 0 2 0\n2\n4\n1\n1\ni0 g\ni1 busy\no0 r\no1 reset\n")
         done = self.tool("verify", "--env", "e.tlsf", "env.aag")
         self.assertEqual(done.stdout.split(b"\n")[0], b"loses")
-        self.assertEqual(done.stderr.decode().splitlines()[-2:], ["step 0 breaks the assumption of line 5", "  !(r && reset)"])
+        self.assertEqual(
+            done.stderr.decode().splitlines()[-2:], ["step 0 breaks the assumption of line 5", "  !(r && reset)"]
+        )
 
     def test_a_line_is_that_of_the_full_form(self):
-        full = SPEC.replace(b"MAIN", b"GLOBAL { PARAMETERS {\n n = 1; } }\nMAIN").replace(b"X !g", b"X[n] !g").replace(b"!busy", b"busy")
+        full = SPEC.replace(b"MAIN", b"GLOBAL { PARAMETERS {\n n = 1; } }\nMAIN").replace(b"X !g", b"X[n] !g").replace(
+            b"!busy", b"busy"
+        )
         self.file("full.tlsf", full)
         for words in ([], ["--set", "n=2"]):
             told = self.tool("verify", *words, "full.tlsf", "hasty.aag").stderr.decode().splitlines()

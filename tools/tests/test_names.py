@@ -9,28 +9,37 @@ import unittest
 
 from upkeep.sweeps import TOP
 
-PUBLIC = re.compile(r"^(?:abbrev pub|unfoldable pub|pub record|pub data|pub)\s+([A-Za-z_][\w'-]*)\s*(?:[:({]|where|$)", re.MULTILINE)
+PUBLIC = re.compile(
+    r"^(?:abbrev pub|unfoldable pub|pub record|pub data|pub)\s+([A-Za-z_][\w'-]*)\s*(?:[:({]|where|$)", re.MULTILINE
+)
 FAMILIES = {
     "the numbers and names of faults, for each type of fault": "cause_name cause_number fault_name fault_number",
-    "the parts of a grammar, for each format": "body choice constant_in entries entry Field grammar header HeaderData keyword lex number operand "
-    "operands_in semicolon Sign successor together value_line winner IsToken IsUnknown AreTokens text_limit next_of stream_of state_name",
+    "the parts of a grammar, for each format": "body choice constant_in entries entry Field grammar header HeaderData "
+    "keyword lex number operand operands_in semicolon Sign successor together value_line winner IsToken IsUnknown "
+    "AreTokens text_limit next_of stream_of state_name",
     "one line of a format, as it is read and as it is written": "fields head_text latch_line symbol_line",
     "a text has an answer, and only one": "HasOneAnswer HasSomeAnswer",
-    "the same property of bytes and numbers": "AreRising BeginsWithZero IsByteRun IsDigit IsWord StopsBefore bytes_of is_among is_digit place_in",
+    "the same property of bytes and numbers": "AreRising BeginsWithZero IsByteRun IsDigit IsWord StopsBefore bytes_of "
+    "is_among is_digit place_in",
     "the same property of two types of faults": "IsOutOfMemory IsRefusal NamesVertices",
     "the same view of two types": "draft_of moves_of name_bytes names_of with_move",
-    "bytes, tokens and steps of the lexer of HOA texts, and of that of specifications": "class_of class_step comment_by goes_on "
-    "lex_behind nesting_limit scan_step text_step with_name word_sign",
-    "the steps of the parser of specifications, and steps of another kind elsewhere": "counted ended fresh is_end joined moved number_of "
-    "parts_of run tail_of value_of with_formula",
-    "what formulas, tableaux and fair cycles have of their own, as games and automata do": "AreDistinct Fits IsAnswer IsRun Keeps Leads",
+    "bytes, tokens and steps of the lexer of HOA texts, and of that of specifications": "class_of class_step "
+    "comment_by goes_on lex_behind nesting_limit scan_step text_step with_name word_sign",
+    "the steps of the parser of specifications, and steps of another kind elsewhere": "counted ended fresh is_end "
+    "joined moved number_of parts_of run tail_of value_of with_formula",
+    "what formulas, tableaux and fair cycles have of their own, as games and automata do": "AreDistinct Fits IsAnswer "
+    "IsRun Keeps Leads",
     "what products have of words of latches, and of groups of letters": "AreDifferent AreOnce IsRead IsWhole",
-    "letters over a mask, and formulas over propositions; what stands behind a letter, and in a text": "IsBehind IsOver",
+    "letters over a mask, and formulas over propositions; what stands behind a letter, and in a text": "IsBehind "
+    "IsOver",
     "classes of letters that are known, and covers of sets that are known": "AreKnown",
     "bits of a letter, of a state of latches, and of a machine's letter, which diagrams give": "bits_at bits_of",
 }
 # Acceptance marks are those of HOA texts; a fair cycle has marks of any kind on its edges.
-WITH_MARKS = ("ps_hoa", "ps_automaton", "ps_automaton_tests", "ps_fairness", "ps_game_tests", "ps_mixing", "ps_models", "ps_tableau_product", "ps_translation")
+WITH_MARKS = (
+    "ps_hoa", "ps_automaton", "ps_automaton_tests", "ps_fairness", "ps_game_tests", "ps_mixing", "ps_models",
+    "ps_tableau_product", "ps_translation",
+)
 PLAYER = re.compile(r"\b(?:player|owner|winner)s?: u8\b|\((?:player|owner|winner)\b[^)]*\): \(u8\b")
 NUMBERS_OF_PLAYERS = {
     "ps_game/src/builder.rt": "`GameBuilder::vertex` takes the number of an owner",
@@ -106,8 +115,12 @@ class Names(unittest.TestCase):
         numbers = collections.Counter()
         for path in glob.glob(os.path.join(TOP, "crates", "*", "src", "**", "*.rt"), recursive=True):
             with open(path, encoding="utf-8") as file:
-                numbers[os.path.relpath(path, os.path.join(TOP, "crates"))] += sum(bool(PLAYER.search(line)) for line in file)
-        self.assertEqual({path: count for path, count in numbers.items() if count}, dict.fromkeys(NUMBERS_OF_PLAYERS, 1))
+                numbers[os.path.relpath(path, os.path.join(TOP, "crates"))] += sum(
+                    bool(PLAYER.search(line)) for line in file
+                )
+        self.assertEqual(
+            {path: count for path, count in numbers.items() if count}, dict.fromkeys(NUMBERS_OF_PLAYERS, 1)
+        )
 
     def test_lemma_files_of_two_crates_differ_in_their_names(self):
         crates = collections.defaultdict(set)

@@ -24,11 +24,19 @@ class Files(OnFiles):
         self.file("lift.hoa", PART)
         self.file("lift.parts", LIST)
         for words in (("synth", "--parts", "-o", "lift", "lift.parts"), ("core", "-o", "lift", "lift.parts")):
-            self.assertEqual(self.refused(*words), "-o PREFIX: lift.hoa is there, and psyn has not written it: --force writes over it")
-            self.assertEqual(self.refused(*words, "--force"), "lift.hoa would be written, and this command reads it: name another file")
+            self.assertEqual(
+                self.refused(*words),
+                "-o PREFIX: lift.hoa is there, and psyn has not written it: --force writes over it",
+            )
+            self.assertEqual(
+                self.refused(*words, "--force"),
+                "lift.hoa would be written, and this command reads it: name another file",
+            )
         os.symlink("lift.hoa", os.path.join(self.room, "linked.hoa"))
         self.assertIn("linked.hoa would be written", self.refused("core", "--force", "-o", "linked", "lift.parts"))
-        self.assertEqual((self.read("lift.hoa"), sorted(os.listdir(self.room))), (PART, ["lift.hoa", "lift.parts", "linked.hoa"]))
+        self.assertEqual(
+            (self.read("lift.hoa"), sorted(os.listdir(self.room))), (PART, ["lift.hoa", "lift.parts", "linked.hoa"])
+        )
 
     def test_files_of_psyn_are_written_again_and_others_by_force(self):
         self.file("lift.hoa", PART)
@@ -40,7 +48,10 @@ class Files(OnFiles):
         for ending in (".aag", ".pg", ".cert", ".hoa"):
             written = self.read(f"out{ending}")
             self.file(f"out{ending}", b"mine\n")
-            self.assertIn(f"out{ending} is there, and psyn has not written it", self.refused("synth", "--parts", "-o", "out", "lift.parts"))
+            self.assertIn(
+                f"out{ending} is there, and psyn has not written it",
+                self.refused("synth", "--parts", "-o", "out", "lift.parts"),
+            )
             self.assertEqual(self.read(f"out{ending}"), b"mine\n")
             self.assertEqual(self.tool("synth", "--force", "--parts", "-o", "out", "lift.parts").returncode, 10)
             self.assertEqual(self.read(f"out{ending}"), written)
@@ -50,16 +61,25 @@ class Files(OnFiles):
         self.assertEqual(self.tool("synth", "-o", "out", spec).returncode, 10)
         self.assertIn("out.cert would be written", self.refused("synth", "--cert", "-o", "out", spec, "out.cert"))
         self.file("out.stim", b"1\n0\n")
-        self.assertEqual(self.refused("play", "--auto", "out", spec), "play: out.stim is there, and psyn has not written it: --force writes over it")
+        self.assertEqual(
+            self.refused("play", "--auto", "out", spec),
+            "play: out.stim is there, and psyn has not written it: --force writes over it",
+        )
         self.assertEqual(self.read("out.stim"), b"1\n0\n")
-        self.assertEqual([self.tool("play", "--auto", *more, "out", spec).returncode for more in (["--force"], [])], [0, 0])
+        self.assertEqual(
+            [self.tool("play", "--auto", *more, "out", spec).returncode for more in (["--force"], [])], [0, 0]
+        )
         self.assertEqual(self.tool("lasso", spec, "out.aag", "out.stim").stdout, b"accepted stem 0 lap 1\n")
 
     def test_files_that_are_named(self):
         spec = self.file("it.hoa", AUTOMATON)
         for flag in ("--wave", "--stimulus"):
-            self.assertIn("it.hoa would be written", self.refused("verify", flag, "it.hoa", spec, self.file("circuit", CIRCUIT)))
-        game, wrong = self.file("it.pg", b"0 1 0 0,1; 1 2 0 0;\n"), self.file("it.sol", b"paritysol 1;\n0 0 0;\n1 0 0;\n")
+            self.assertIn(
+                "it.hoa would be written", self.refused("verify", flag, "it.hoa", spec, self.file("circuit", CIRCUIT))
+            )
+        game, wrong = (
+            self.file("it.pg", b"0 1 0 0,1; 1 2 0 0;\n"), self.file("it.sol", b"paritysol 1;\n0 0 0;\n1 0 0;\n")
+        )
         self.assertIn("it.sol would be written", self.refused("judge", "--picture", "it.sol", game, wrong))
 
 
@@ -71,13 +91,20 @@ class Letters(OnFiles):
             (b"# by hand\n100\n# again\n!push clk\n", b"|100|1\n|100|1\n"),
         ):
             self.assertEqual(self.tool("sim", "c", "-", given=stimulus).stdout, said)
-        for stimulus, said in ((b"000\npsh\n", b":2: the circuit has no input psh (did you mean push?)"), (b"push x1\n", b":1: the circuit has no input x1")):
+        for stimulus, said in (
+            (b"000\npsh\n", b":2: the circuit has no input psh (did you mean push?)"),
+            (b"push x1\n", b":1: the circuit has no input x1"),
+        ):
             done = self.tool("sim", "c", "-", given=stimulus)
-            self.assertEqual((done.returncode, done.stdout, done.stderr), (2, b"", b"psyn: standard input" + said + b"\n"))
+            self.assertEqual(
+                (done.returncode, done.stdout, done.stderr), (2, b"", b"psyn: standard input" + said + b"\n")
+            )
 
     def test_places_behind_letters_by_names(self):
         self.file("c", b"aag 1 1 0 1 0\n2\n2\ni0 push\no0 o\n")
-        for stimulus, fault, said in ((b"# x\npush\n11\n", b"fault 70 Width at 2", b":3:1: Width\n  11\n"), (b"push\n?\n", b"fault 7", b":2:1: ")):
+        for stimulus, fault, said in (
+            (b"# x\npush\n11\n", b"fault 70 Width at 2", b":3:1: Width\n  11\n"), (b"push\n?\n", b"fault 7", b":2:1: ")
+        ):
             done = self.tool("sim", "c", "-", given=stimulus)
             self.assertEqual(done.returncode, 1)
             self.assertIn(fault, done.stdout)

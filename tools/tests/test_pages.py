@@ -35,13 +35,17 @@ NODE, CHROMIUM = ("node", "nodejs"), ("chromium", "chromium-browser", "google-ch
 SEED, BOARDS, PLAYS, LETTERS = 69, 40, 5, 12
 # An automaton that alternates between two states at every letter; the two circuits are written by hand.
 TURNS = (
-    'HOA: v1 Start: 0 AP: 2 "r" "g" controllable-AP: 1 Acceptance: 1 Inf(0) --BODY-- State: 0 "tick" [t] 1 State: 1 "tock" [t] 0 {0} --END--\n'
+    'HOA: v1 Start: 0 AP: 2 "r" "g" controllable-AP: 1 Acceptance: 1 Inf(0) --BODY-- State: 0 "tick" [t] 1 State: '
+    '1 "tock" [t] 0 {0} --END--\n'
 )
 NO_LATCH, FROM_ONE = "aag 1 1 0 1 0\n2\n0\ni0 r\no0 g\n", "aag 2 1 1 1 0\n2\n4 3 1\n4\ni0 r\no0 g\n"
-NO_INPUT = 'HOA: v1 Start: 0 AP: 1 "g" controllable-AP: 0 Acceptance: 1 Inf(0) --BODY-- State: 0 [0] 0 {0} [!0] 0 --END--\n'
+NO_INPUT = (
+    'HOA: v1 Start: 0 AP: 1 "g" controllable-AP: 0 Acceptance: 1 Inf(0) --BODY-- State: 0 [0] 0 {0} [!0] 0 --END--\n'
+)
 # Names that would be HTML or JavaScript if the page did not escape them.
 ODD = """\
-HOA: v1 Start: 0 AP: 2 "r</script><script>document.title='bad'</script>" "<img src=x onerror=\\"document.title='bad'\\">&amp;'g"
+HOA: v1 Start: 0 AP: 2 "r</script><script>document.title='bad'</script>" "<img src=x \
+onerror=\\"document.title='bad'\\">&amp;'g"
 controllable-AP: 1 Acceptance: 1 Inf(0) --BODY--
 State: 0 "</td><b>off</b> & \\"x\\" --> ]]> \\\\N id=\\"a\\"" [!0|1] 0 {0} [0&!1] 1
 State: 1 [1] 0 {0} [!1] 1 --END--
@@ -53,7 +57,9 @@ document.getElementById("back").focus(); document.activeElement.click(); documen
 document.title += document.activeElement.textContent;
 """
 NEVER = b"aag 1 1 0 1 0\n2\n0\ni0 r\no0 g\n"
-NOT_DRAWN = rb"the automaton has [0-9]+ states, too many for a picture: the page draws what is around the present state\n"
+NOT_DRAWN = (
+    rb"the automaton has [0-9]+ states, too many for a picture: the page draws what is around the present state\n"
+)
 RUNS = []
 
 
@@ -91,7 +97,10 @@ class Rules(unittest.TestCase):
     def test_drawn_plays(self):
         draw = random.Random(SEED)
         drawn = list(boards(draw, BOARDS))
-        letters = [["".join(draw.choices("01", k=len(board.mine))) for _ in range(LETTERS)] for *_, board in drawn for _ in range(PLAYS)]
+        letters = [
+            ["".join(draw.choices("01", k=len(board.mine))) for _ in range(LETTERS)]
+            for *_, board in drawn for _ in range(PLAYS)
+        ]
         # for each specification, the first play is given no letters, and the other plays are given random letters;
         # after the given letters, a play takes the choices that should delay the loss longest (`Board.longest`)
         plays = [[[], *letters[at + 1 : at + PLAYS]] for at in range(0, len(letters), PLAYS)]
@@ -117,7 +126,9 @@ class Rules(unittest.TestCase):
             ends = (None, 1) if edge is None else (edge.target, board.automaton.chain.priority(edge.marks))
             self.assertEqual((step["state"], step["target"], step["priority"]), (state, *ends))
             state = ends[0]
-        lines, lap = [step["digits"] for step in play["steps"]], len(play["steps"]) - 1 if play["loop"] is None else play["loop"]
+        lines, lap = (
+            [step["digits"] for step in play["steps"]], len(play["steps"]) - 1 if play["loop"] is None else play["loop"]
+        )
         self.assertEqual(play["stimulus"].split("\n"), [*lines[:lap], "-", *lines[lap:], ""])
 
     def simulated(self, board, printed, play):
@@ -132,18 +143,26 @@ class Rules(unittest.TestCase):
         steps = []
         for step, (latches, inputs, outputs) in zip(play["steps"], rows):
             letter = dict(zip(order, map(int, inputs + outputs)))
-            steps.append({**step, "latches": list(map(int, latches)), "letter": [letter[number] for number in range(len(numbers))]})
+            steps.append({
+                **step, "latches": list(map(int, latches)), "letter": [letter[number] for number in range(len(numbers))]
+            })
         return steps
 
     def test_circuits_that_psyn_did_not_print(self):
-        """If the user moves first, the rules try where a letter leads. The gates of a circuit may stand in any order, and
-        it may be a smaller one."""
+        """If the user moves first, the rules try where a letter leads. The gates of a circuit may stand in any order,
+        and it may be a smaller one."""
         cases, kinds = [], set()
         for text, printed, board in boards(random.Random(SEED + 1), 12):
             made = dataclasses.replace(board.circuit, gates=board.circuit.gates[::-1])
-            small = program.ask(" ".join(["shrink", *opponents.flags_of(board)]).encode() + f"\n{text}%%\n{printed}".encode()).text
+            small = program.ask(
+                " ".join(["shrink", *opponents.flags_of(board)]).encode() + f"\n{text}%%\n{printed}".encode()
+            ).text
             for said, read, known_by in ((printed, made, "verify"), (small, circuit.read(small), "shrink")):
-                cases.append((text, said, Board(board.automaton, board.game, board.certificate, read, board.specification, known_by)))
+                cases.append((
+                    text,
+                    said,
+                    Board(board.automaton, board.game, board.certificate, read, board.specification, known_by),
+                ))
         said = self.played([(contents.of(board), [[], ["1" * len(board.mine)] * 3]) for *_, board in cases])
         for (text, printed, board), these in zip(cases, said):
             for play in these:
@@ -160,7 +179,9 @@ class Rules(unittest.TestCase):
     def test_a_play_beyond_the_places_that_are_known(self):
         """Where nothing is known before the play, the rules try where letters lead, and find the same choices."""
         board = next(board for *_, board in boards(random.Random(SEED + 2), 40) if not board.am_first and board.winner)
-        whole = Board(board.automaton, board.game, board.certificate, board.circuit, board.specification, known_by="shrink")
+        whole = Board(
+            board.automaton, board.game, board.certificate, board.circuit, board.specification, known_by="shrink"
+        )
         with unittest.mock.patch("psyntool.pages.contents.MOST_PLACES", 1):
             few = contents.of(whole)
         self.assertEqual(len(few["choices"]), 1)
@@ -173,9 +194,14 @@ class Rules(unittest.TestCase):
         made = [report.read(program.ask(f"synth --full\n{text}".encode()).text).parts[1:] for text in (TURNS, NO_INPUT)]
         own = report.read(program.ask(f"synth --full\n{NO_INPUT}".encode()).text).parts[0]
         given = [(TURNS, NO_LATCH, *made[0]), (TURNS, FROM_ONE, *made[0]), (NO_INPUT, own, *made[1])]
-        said = [plays[0] for plays in self.played([(contents.of(reading.board_of(*texts)), [["1", "0"]]) for texts in given[:2]])]
+        said = [
+            plays[0]
+            for plays in self.played([(contents.of(reading.board_of(*texts)), [["1", "0"]]) for texts in given[:2]])
+        ]
         self.assertEqual([[step["digits"] for step in play["steps"]] for play in said], [["1", "0"]] * 2)
-        self.assertEqual([[bits(step["letter"]) for step in play["steps"]] for play in said], [["10", "00"], ["11", "00"]])
+        self.assertEqual(
+            [[bits(step["letter"]) for step in play["steps"]] for play in said], [["10", "00"], ["11", "00"]]
+        )
         (nothing,) = self.played([(contents.of(reading.board_of(*given[2])), [[]])])
         self.assertEqual((nothing[0]["wrong"], nothing[0]["stimulus"]), (0, "-\n\n"))
 
@@ -197,8 +223,15 @@ class Rules(unittest.TestCase):
         names = [f"at floor 0; no call waits; {end}" for end in ends]
         lines = [[end] for end in ends]
         program = "const r = require(process.argv[1]); const n = JSON.parse(process.argv[2]);"
-        program += "console.log(JSON.stringify([r.tellingNames(n), r.tellingNames(n).map((it) => r.linesOf(it, 36, 3)), r.linesOf('aa bb cccccc d', 3, 3)]))"
-        said = subprocess.run([self.node, "-e", program, os.path.join(PAGES, "rules.js"), json.dumps(names)], capture_output=True, check=True).stdout
+        program += (
+            "console.log(JSON.stringify([r.tellingNames(n), r.tellingNames(n).map((it) => r.linesOf(it, 36, 3)), "
+            "r.linesOf('aa bb cccccc d', 3, 3)]))"
+        )
+        said = subprocess.run(
+            [self.node, "-e", program, os.path.join(PAGES, "rules.js"), json.dumps(names)],
+            capture_output=True,
+            check=True,
+        ).stdout
         self.assertEqual(json.loads(said), [ends, lines, ["aa", "bb", "cc\u2026"]])
 
 
@@ -225,7 +258,9 @@ class Pages(OnFiles):
         self.assertEqual(len(lists), 8)
 
     def test_a_list_can_be_strict_and_of_a_controller_that_moves_first(self):
-        same = self.file("same.hoa", b'HOA: v1 Start: 0 AP: 2 "r" "g" Acceptance: 0 t --BODY-- State: 0 [0&1 | !0&!1] 0 --END--\n')
+        same = self.file(
+            "same.hoa", b'HOA: v1 Start: 0 AP: 2 "r" "g" Acceptance: 0 t --BODY-- State: 0 [0&1 | !0&!1] 0 --END--\n'
+        )
         self.file("it.parts", f"--outs g --assume {same} --as r=x --guarantee {same}\n".encode())
         for flags, said in (([], "REALIZABLE"), (["--moore"], "UNREALIZABLE"), (["--strict"], "REALIZABLE")):
             page = self.tool("page", "--parts", *flags, "it.parts").stdout.decode()
@@ -252,7 +287,14 @@ class Pages(OnFiles):
         page = self.page("out", self.solved("out", AUTOMATON, "--moore"))
         self.assertTrue("the controller moves first" in page)
         self.assertTrue("default-src 'none'" in page)
-        self.assertEqual([it for it in re.findall(r'(?:href|src|action)="([^"]*)"', page) if not it.startswith(("#", "data:text/plain;base64,"))], [])
+        self.assertEqual(
+            [
+                it
+                for it in re.findall(r'(?:href|src|action)="([^"]*)"', page)
+                if not it.startswith(("#", "data:text/plain;base64,"))
+            ],
+            [],
+        )
         self.assertEqual(re.findall(r"https?://|@import|url\((?!#)", page), [])
 
     def test_a_circuit_that_psyn_did_not_print(self):
@@ -271,7 +313,10 @@ class Pages(OnFiles):
         for words in (("--parts", path), ("handshake", path)):
             page = self.page(*words)
             self.assertRegex(page, '<p class="words">Whatever the controller does, this defeats it: .* always 1')
-            self.assertTrue("<code>shrink</code> made this circuit of a larger one; it is proved of <code>shrink</code> that" in page)
+            self.assertTrue(
+                "<code>shrink</code> made this circuit of a larger one; it is proved of <code>shrink</code> that"
+                in page
+            )
             data = re.search(r'<a download="handshake.aag" href="data:text/plain;base64,([^"]*)">', page)[1]
             self.assertRegex(base64.b64decode(data), rb"\Aaag \d+ \d+ 0 \d+ 0\n")
             self.file("small.aag", base64.b64decode(data))
@@ -309,16 +354,27 @@ class Pages(OnFiles):
         self.file("out.aag", NEVER)
         for words, name in ((("out", path), b"out.aag"), (("--circuit", "never", path), b"never")):
             done = self.tool("page", *words)
-            self.assertEqual((done.returncode, done.stderr), (2, b"psyn: " + name + b" loses, so there is no page of it: `verify` tells a counterexample\n"))
-        self.assertIn(b"don't have the names of its propositions", self.tool("page", "--circuit", self.file("other", NEVER.replace(b"o0 g", b"o0 x")), path).stderr)
+            self.assertEqual(
+                (done.returncode, done.stderr),
+                (2, b"psyn: " + name + b" loses, so there is no page of it: `verify` tells a counterexample\n"),
+            )
+        self.assertIn(
+            b"don't have the names of its propositions",
+            self.tool("page", "--circuit", self.file("other", NEVER.replace(b"o0 g", b"o0 x")), path).stderr,
+        )
         self.assertEqual(self.tool("page", "none", path).stderr, b"psyn: none.aag: No such file or directory\n")
-        self.assertEqual(self.tool("page", "out", "out.pg").stderr, b"psyn: out.pg is a game; page wants PREFIX and a specification\n")
+        self.assertEqual(
+            self.tool("page", "out", "out.pg").stderr,
+            b"psyn: out.pg is a game; page wants PREFIX and a specification\n",
+        )
         self.assertEqual(self.tool("page", "--parts").stderr.count(b"\n"), 1)
 
     def test_a_page_that_is_too_large_is_refused(self):
         path = self.solved("out", AUTOMATON)
         given = reading.given(Request(COMMANDS["page"], {}, [os.path.join(self.room, "out"), path], COMMANDS))
-        with unittest.mock.patch("psyntool.pages.writing.MOST_BYTES", 10_000), self.assertRaisesRegex(Refused, "more than 10,000 bytes"):
+        with unittest.mock.patch("psyntool.pages.writing.MOST_BYTES", 10_000), self.assertRaisesRegex(
+            Refused, "more than 10,000 bytes"
+        ):
             writing.page("out", given.board, [])
 
     def test_a_picture_wants_graphviz_and_no_more_than_it_can_show(self):
@@ -328,7 +384,12 @@ class Pages(OnFiles):
         self.assertEqual(drawing.drawn(graph, None), drawing.Picture("", graph))
         few = {0: {"lines": ("", ""), "to": [0]}}
         self.assertEqual(drawing.drawn(few, lambda: "no dot"), drawing.Picture("", few))
-        loops = ["HOA: v1 Start: 0 AP: 0 Acceptance: 0 t --BODY-- " + "".join(f"State: {state} [t] {(state + 1) % count} " for state in range(count)) + "--END--" for count in (2, 13, 3)]
+        loops = [
+            "HOA: v1 Start: 0 AP: 0 Acceptance: 0 t --BODY-- " + "".join(
+                f"State: {state} [t] {(state + 1) % count} " for state in range(count)
+            ) + "--END--"
+            for count in (2, 13, 3)
+        ]
         parts = [part.part_of("it", "", {}, text) for text in loops]
         if not shutil.which("dot"):
             self.assertEqual(drawing.of_parts(parts), ["", "", ""])
@@ -365,7 +426,10 @@ class InChromium(OnFiles):
 
     def document(self, page, address):
         """The HTML document after the browser has loaded the page at this address."""
-        command = [self.chromium, "--headless", "--no-sandbox", "--disable-gpu", "--disable-dev-shm-usage", f"--user-data-dir={self.room}/profile", "--dump-dom"]
+        command = [
+            self.chromium, "--headless", "--no-sandbox", "--disable-gpu", "--disable-dev-shm-usage",
+            f"--user-data-dir={self.room}/profile", "--dump-dom",
+        ]
         done = subprocess.run([*command, f"file://{page}{address}"], capture_output=True, check=False, timeout=120)
         self.assertEqual(done.returncode, 0, done.stderr)
         RUNS.append(page)
@@ -375,7 +439,9 @@ class InChromium(OnFiles):
     def page(self, name, path):
         """The path of the page that `page` makes for a specification; the letters that `play --auto` chooses; and what
         `play --auto` prints, without the last line."""
-        self.assertIn(self.tool("synth", "-o", name, *(["--parts"] if path.endswith(".parts") else []), path).returncode, (10, 20))
+        self.assertIn(
+            self.tool("synth", "-o", name, *(["--parts"] if path.endswith(".parts") else []), path).returncode, (10, 20)
+        )
         specification = path if path.endswith(".hoa") else f"{name}.hoa"
         said = self.tool("play", "--auto", name, specification).stdout.decode()
         with open(os.path.join(self.room, f"{name}.stim"), encoding="utf-8") as file:
@@ -395,7 +461,10 @@ class InChromium(OnFiles):
             width = int(re.search(r'<svg id="wave"[^>]* width="([0-9]+)"', document)[1])
             loop = re.search(r'<text x="([0-9]+)"[^>]*>the loop begins</text>', document)
             self.assertGreaterEqual(width, int(loop[1]) + 8 * len("the loop begins"))
-            self.assertEqual(re.findall(r"<span>(now|broken)", document), ["now"] * 5 if name == "lift" else ["now", "broken", "now", "now"])
+            self.assertEqual(
+                re.findall(r"<span>(now|broken)", document),
+                ["now"] * 5 if name == "lift" else ["now", "broken", "now", "now"],
+            )
             if shutil.which("dot"):
                 self.assertEqual(len(re.findall(r'<g class="(?:node )?here">', document)), places)
 
@@ -431,7 +500,10 @@ class InChromium(OnFiles):
         self.assertIn("step 7 breaks the guarantee register", re.search(r'<p class="end">(.*?)</p>', document, re.S)[1])
         # the page's address restores a play; the page has the keys of `tools/psyn play`; a letter can also be chosen by
         # its propositions
-        keys = "".join(f'document.getElementById("play").dispatchEvent(new KeyboardEvent("keydown", {{ key: "{key}" }}));' for key in "aab2")
+        keys = "".join(
+            f'document.getElementById("play").dispatchEvent(new KeyboardEvent("keydown", {{ key: "{key}" }}));'
+            for key in "aab2"
+        )
         document = self.pressed(page, "#moves=0,0", keys)
         self.assertEqual(self.address(document), "0,0,0,1")
         letter = 'document.querySelector("#boxes input").click(); document.querySelector("#letter button").click();'

@@ -30,7 +30,10 @@ class Table:
         count, letters = draw.randint(1, 3), 2 ** len(self.names)
         # the states in the acceptance set; each edge that leaves such a state is in the set too
         self.marked = {state for state in range(count) if draw.random() < 0.2}
-        self.moves = [[None if draw.random() < 0.12 else (draw.randrange(count), draw.random() < 0.3) for _ in range(letters)] for _ in range(count)]
+        self.moves = [
+            [None if draw.random() < 0.12 else (draw.randrange(count), draw.random() < 0.3) for _ in range(letters)]
+            for _ in range(count)
+        ]
         self.hopeless = {state for state in range(count) if self.is_buchi and not self.sees_mark(state)}
 
     def sees_mark(self, state):
@@ -46,14 +49,21 @@ class Table:
         return False
 
     def text(self):
-        head = [f"AP: {len(self.names)} " + " ".join(f'"{name}"' for name in self.names), f"Acceptance: {'1 Inf(0)' if self.is_buchi else '0 t'}"]
-        lines = ["HOA: v1", "Start: 0", *head, "controllable-AP: " + " ".join(map(str, range(len(self.names)))), "--BODY--"]
+        head = [
+            f"AP: {len(self.names)} " + " ".join(f'"{name}"' for name in self.names),
+            f"Acceptance: {'1 Inf(0)' if self.is_buchi else '0 t'}",
+        ]
+        lines = [
+            "HOA: v1", "Start: 0", *head, "controllable-AP: " + " ".join(map(str, range(len(self.names)))), "--BODY--"
+        ]
         for state, moves in enumerate(self.moves):
             lines.append(f"State: {state}" + (" {0}" if self.is_buchi and state in self.marked else ""))
             for letter, move in enumerate(moves):
                 said = [("" if letter >> place & 1 else "!") + str(place) for place in range(len(self.names))]
                 if move:
-                    lines.append(f"[{' & '.join(said) or 't'}] {move[0]}" + (" {0}" if self.is_buchi and move[1] else ""))
+                    lines.append(
+                        f"[{' & '.join(said) or 't'}] {move[0]}" + (" {0}" if self.is_buchi and move[1] else "")
+                    )
         return "\n".join([*lines, "--END--", ""])
 
     def run(self, stem, lap):
@@ -111,16 +121,27 @@ class Meaning(unittest.TestCase):
         for number in range(SPECIFICATIONS):
             sides = [[Table(draw, names) for _ in range(draw.randint(0, 3))] for _ in range(2)]
             is_strict = number % 3 == 2
-            parts = [tuple(part.part_of(f"part{place}", "", {}, table.text()) for place, table in enumerate(side)) for side in sides]
+            parts = [
+                tuple(part.part_of(f"part{place}", "", {}, table.text()) for place, table in enumerate(side))
+                for side in sides
+            ]
             whole = Composer(Specification(*parts, tuple(names), frozenset(names), is_strict)).composed().text()
             for _ in range(LASSOS // SPECIFICATIONS):
-                stem, lap = ([{name for name in names if draw.random() < 0.5} for _ in range(draw.randint(least, 4))] for least in (0, 1))
+                stem, lap = (
+                    [{name for name in names if draw.random() < 0.5} for _ in range(draw.randint(least, 4))]
+                    for least in (0, 1)
+                )
                 stimulus = "\n" * len(stem) + "-\n" + "\n" * len(lap)
-                asked.append(rows.Row("a lasso", f"lasso\n{whole}%%\n{player(names, stem, lap)}%%\n{stimulus}".encode(), 0))
+                asked.append(
+                    rows.Row("a lasso", f"lasso\n{whole}%%\n{player(names, stem, lap)}%%\n{stimulus}".encode(), 0)
+                )
                 wanted.append(is_in(*sides, is_strict, stem, lap))
         where = program()
         said = sweeps.at_once(lambda row: rows.answered(where, row)[0].split(b" ")[0], asked)
-        wrong = [row.given.decode() for row, word, it in zip(asked, said, wanted) if word != (b"accepted" if it else b"rejected")]
+        wrong = [
+            row.given.decode()
+            for row, word, it in zip(asked, said, wanted) if word != (b"accepted" if it else b"rejected")
+        ]
         self.assertFalse(wrong, f"{len(wrong)} of {len(asked)} wrong, the first one:\n{''.join(wrong[:1])}")
         self.assertGreater(min(wanted.count(True), wanted.count(False)), LASSOS // 5)
 
@@ -132,10 +153,16 @@ WORDS = {
     "never-together": {"(10 01 00)": True, "00 11 (00)": False},
     "answered": {"10 10 (01)": True, "10 (00)": False, "(11)": True, "(10 01)": True, "01 (10)": False},
     "again-and-again": {"(0 0 1)": True, "1 1 (0)": False},
-    "stays-until": {"(00)": True, "10 10 11 (00)": True, "10 (00)": False, "(10)": True, "11 (00)": True, "10 01 (00)": False},
+    "stays-until": {
+        "(00)": True, "10 10 11 (00)": True, "10 (00)": False, "(10)": True, "11 (00)": True, "10 01 (00)": False
+    },
     "takes-turns": {"10 01 (00)": True, "01 (00)": False, "10 10 (00)": False, "11 (00)": False, "(10 00 01)": True},
-    "at-most-one-step-after": {"10 01 (00)": True, "10 00 01 (00)": False, "(11)": True, "01 (00)": False, "(10)": True},
-    "answered-within-3": {"10 00 00 (01)": True, "10 00 00 00 (01)": False, "10 00 10 01 (00)": True, "(00)": True, "(11)": True},
+    "at-most-one-step-after": {
+        "10 01 (00)": True, "10 00 01 (00)": False, "(11)": True, "01 (00)": False, "(10)": True
+    },
+    "answered-within-3": {
+        "10 00 00 (01)": True, "10 00 00 00 (01)": False, "10 00 10 01 (00)": True, "(00)": True, "(11)": True
+    },
     "answered-within-8": {"10 00 00 00 00 00 00 00 01 (00)": True, "10 00 00 00 00 00 00 00 00 (01)": False},
 }
 
@@ -159,9 +186,14 @@ class Stored(OnFiles):
             whole = self.whole("--guarantee", os.path.join(PARTS, f"{name}.hoa"), "--outs", *names)
             for word, is_accepted in words.items():
                 stem, _, lap = word.rstrip(")").partition("(")
-                letters = [[{names[at] for at, digit in enumerate(letter) if digit == "1"} for letter in some.split()] for some in (stem, lap)]
+                letters = [
+                    [{names[at] for at, digit in enumerate(letter) if digit == "1"} for letter in some.split()]
+                    for some in (stem, lap)
+                ]
                 stimulus = "\n" * len(letters[0]) + "-\n" + "\n" * len(letters[1])
-                done = self.tool("lasso", whole, self.file("player", player(names, *letters).encode()), "-", given=stimulus.encode())
+                done = self.tool(
+                    "lasso", whole, self.file("player", player(names, *letters).encode()), "-", given=stimulus.encode()
+                )
                 self.assertEqual(done.stdout.split()[0], b"accepted" if is_accepted else b"rejected", f"{name} {word}")
 
     def whole(self, *words):
@@ -180,7 +212,10 @@ class Composed(OnFiles):
         return os.path.join(PARTS, f"{name}.hoa")
 
     def test_states_bear_names_and_labels_are_exact(self):
-        text = self.composed("--guarantee", self.stored("answered"), "--as", "request=r", "answer=g", "--guarantee", self.stored("always"), "--outs", "g", "it")
+        text = self.composed(
+            "--guarantee", self.stored("answered"), "--as", "request=r", "answer=g", "--guarantee",
+            self.stored("always"), "--outs", "g", "it",
+        )
         read = automaton.read(text)
         self.assertEqual(read.names, ("r", "g", "it"))
         self.assertEqual(read.controllable, {1, 2})
@@ -188,16 +223,25 @@ class Composed(OnFiles):
         self.assertIn("\n[0 & 1 & 2 | !0 & 2] 0 {0 1}\n[0 & !1 & 2] 1 {0}\n", text)
 
     def test_the_same_by_a_list_and_by_a_command_line(self):
-        words = ["--outs", "g0", "g1", "--guarantee", self.stored("never-together"), "--as", "one=g0", "other=g1", "--guarantee", self.stored("answered"), "--as", "answer=g0"]
+        words = [
+            "--outs", "g0", "g1", "--guarantee", self.stored("never-together"), "--as", "one=g0", "other=g1",
+            "--guarantee", self.stored("answered"), "--as", "answer=g0",
+        ]
         wanted = self.composed(*words)
-        lines = [f"# Two grants at once are none.\n--guarantee '{words[4]}' --as one=g0 other=g1\n\n", f"--guarantee '{words[9]}'\n--as answer=g0\n--outs g0 g1\n"]
+        lines = [
+            f"# Two grants at once are none.\n--guarantee '{words[4]}' --as one=g0 other=g1\n\n",
+            f"--guarantee '{words[9]}'\n--as answer=g0\n--outs g0 g1\n",
+        ]
         made = self.composed(self.file("it.parts", "".join(lines).encode()))
         self.assertEqual(made.replace("Two grants at once are none.", "g0 and g1 are never true together"), wanted)
         self.assertEqual(self.composed("-", given="".join(lines).encode()), made)
 
     def test_two_files_of_a_name_and_files_beside_a_list(self):
         os.mkdir(os.path.join(self.room, "below"))
-        self.file("below/always.hoa", b'HOA: v1 Start: 0 AP: 1 "a" controllable-AP: 0 Acceptance: 0 t --BODY-- State: 0 [0] 0 --END--\n')
+        self.file(
+            "below/always.hoa",
+            b'HOA: v1 Start: 0 AP: 1 "a" controllable-AP: 0 Acceptance: 0 t --BODY-- State: 0 [0] 0 --END--\n',
+        )
         self.file("below/it.parts", b"--guarantee always.hoa # beside it\n")
         text = self.composed(os.path.join("below", "it.parts"))
         self.assertIn('\npart: "guarantee" "always" "" "HOA: v1 ', text)
@@ -205,7 +249,11 @@ class Composed(OnFiles):
 
     def test_names_with_signs_of_their_own(self):
         name = 'a \\"b\\" \\\\'
-        self.file("odd.hoa", f'HOA: v1 Start: 0 AP: 1 "{name}" controllable-AP: 0 Acceptance: 0 t --BODY-- State: 0 "{name}" [0] 0 --END--\n'.encode())
+        self.file(
+            "odd.hoa",
+            f'HOA: v1 Start: 0 AP: 1 "{name}" controllable-AP: 0 Acceptance: 0 t\n'
+            f'--BODY-- State: 0 "{name}" [0] 0 --END--\n'.encode(),
+        )
         read = automaton.read(self.composed("--guarantee", "odd.hoa"))
         self.assertEqual((read.names, read.state_names), (('a "b" \\',), {0: 'a "b" \\'}))
 
@@ -214,18 +262,26 @@ class Composed(OnFiles):
         kept = specification.kept(automaton.read(text)).assumptions[0]
         self.assertEqual((kept.title, kept.names), ("stays-until(my request,g)", ("my request", "g")))
         self.assertEqual(kept.sentence, "my request, once true, stays true until g is")
-        self.assertEqual([kept.state_name(state) for state in (0, 1)], ["my request may change", "my request must stay"])
+        self.assertEqual(
+            [kept.state_name(state) for state in (0, 1)], ["my request may change", "my request must stay"]
+        )
 
     def test_items_that_compose_did_not_write(self):
         text = self.composed("--guarantee", self.stored("always"), "--outs", "it")
-        for old, new in (('"guarantee"', '"guarante"'), ('"guarantee" ', ""), ("0 t --BODY", "1 Fin(0) --BODY"), ('\\"it\\" acc', '\\"x\\" acc'), ("--END--\"", '"')):
+        for old, new in (
+            ('"guarantee"', '"guarante"'), ('"guarantee" ', ""), ("0 t --BODY", "1 Fin(0) --BODY"),
+            ('\\"it\\" acc', '\\"x\\" acc'), ("--END--\"", '"'),
+        ):
             self.assertIn(old, text)
             with self.assertRaisesRegex(Unreadable, "not written by compose"):
                 specification.kept(automaton.read(text.replace(old, new, 1)))
         self.assertIsNone(specification.kept(automaton.read(AUTOMATON.decode())))
 
     def test_the_readings_differ_behind_a_broken_guarantee(self):
-        words = ["--assume", self.stored("always"), "--as", "it=ok", "--guarantee", self.stored("always"), "--as", "it=g", "--outs", "g"]
+        words = [
+            "--assume", self.stored("always"), "--as", "it=ok", "--guarantee", self.stored("always"), "--as", "it=g",
+            "--outs", "g",
+        ]
         implied, strict = self.composed(*words), self.composed(*words, "--strict")
         self.assertIn('"a guarantee has broken"', implied)
         self.assertNotIn("a guarantee has broken", strict)
@@ -234,7 +290,9 @@ class Composed(OnFiles):
     def test_a_guarantee_that_no_word_meets_is_broken_before_the_first_step(self):
         self.file("none.hoa", b"HOA: v1 Start: 0 AP: 0 Acceptance: 1 Inf(0) --BODY-- State: 0 [t] 0 --END--\n")
         words = ["--assume", self.stored("always"), "--guarantee", "none.hoa", "--outs", "it"]
-        self.assertTrue(self.composed(*words, "--strict").endswith('--BODY--\nState: 0 "a guarantee has broken"\n--END--\n'))
+        self.assertTrue(
+            self.composed(*words, "--strict").endswith('--BODY--\nState: 0 "a guarantee has broken"\n--END--\n')
+        )
         self.assertIn('[0] 0 {0}\nState: 1 "an assumption has broken"\n', self.composed(*words))
 
     def test_more_states_than_the_program_reads(self):
@@ -243,7 +301,10 @@ class Composed(OnFiles):
             ring = "".join(f"State: {state} [t] {(state + 1) % count}\n" for state in range(count))
             self.file(f"ring{count}.hoa", f"HOA: v1 Start: 0 AP: 0 Acceptance: 0 t --BODY-- {ring} --END--\n".encode())
         done = self.tool("compose", "--guarantee", *(f"ring{count}.hoa" for count in (41, 43, 47)))
-        said = b"psyn: the parts make more than 65,535 states, and psyn reads no more; leave parts out, or write smaller ones\n"
+        said = (
+            b"psyn: the parts make more than 65,535 states, and psyn reads no more; leave parts out, "
+            b"or write smaller ones\n"
+        )
         self.assertEqual((done.returncode, done.stdout, done.stderr), (2, b"", said))
 
 
@@ -264,10 +325,14 @@ class Sets(unittest.TestCase):
                 for place in range(16):
                     letter = {number: bool(place >> number & 1) for number in range(4)}
                     self.assertEqual(labels.value(label, letter, {}), values[place] == value, text)
-                    self.assertEqual(diagrams.at(whole, {number for number in range(4) if letter[number]}), (values[place],))
+                    self.assertEqual(
+                        diagrams.at(whole, {number for number in range(4) if letter[number]}), (values[place],)
+                    )
 
     def test_too_many_sets_are_refused(self):
-        with unittest.mock.patch("psyntool.parts.diagrams.MOST_NODES", 10), self.assertRaisesRegex(Refused, "more than 10 sets of letters"):
+        with unittest.mock.patch("psyntool.parts.diagrams.MOST_NODES", 10), self.assertRaisesRegex(
+            Refused, "more than 10 sets of letters"
+        ):
             [Diagrams.leaf(one, value) for one in [Diagrams()] for value in range(20)]
 
 

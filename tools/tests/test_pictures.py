@@ -20,9 +20,13 @@ def made_of(dot):
 
 class Automata(unittest.TestCase):
     def test_more_edges_than_a_picture_can_show_are_refused(self):
-        states = "".join(f"State: {state} " + " ".join(f"[t] {target}" for target in range(26)) + " " for state in range(26))
+        states = "".join(
+            f"State: {state} " + " ".join(f"[t] {target}" for target in range(26)) + " " for state in range(26)
+        )
         read = automaton.read(f"HOA: v1 Start: 0 AP: 0 Acceptance: 0 t --BODY-- {states} --END--")
-        with self.assertRaisesRegex(Refused, "26 vertices and 676 edges, and a picture of more than 600 edges can't be read: --reach 0 draws"):
+        with self.assertRaisesRegex(
+            Refused, "26 vertices and 676 edges, and a picture of more than 600 edges can't be read: --reach 0 draws"
+        ):
             automata.picture(read)
         self.assertEqual(made_of(automata.picture(read, 0)).count("  s"), 1)
 
@@ -41,7 +45,10 @@ class Games(unittest.TestCase):
 
     def test_names_of_the_automaton(self):
         spec = automaton.read(AUTOMATON.decode().replace("[1] 0 {0}", "[1 & 0] 0 {0}"))
-        text = b'0 0 1 1,2 "0/0";1 0 0 3 "0:0";2 0 0 4,3 "0:1";3 2 1 1,2 "0/2";4 1 1 5,6 "1/1";5 0 0 4,7 "1:0";6 0 0 3,4 "1:1";7 1 1 8 "sink/1";8 0 0 7 "sink:0";'
+        text = (
+            b'0 0 1 1,2 "0/0";1 0 0 3 "0:0";2 0 0 4,3 "0:1";3 2 1 1,2 "0/2";4 1 1 5,6 "1/1";5 0 0 4,7 "1:0";6 0 0 3,4 '
+            b'"1:1";7 1 1 8 "sink/1";8 0 0 7 "sink:0";'
+        )
         dot = self.drawn(text, None, spec)
         self.assertIn('v0 [shape=box, label="0 off\\n0"];', dot)
         self.assertIn('v1 [shape=diamond, label="0"];', dot)
@@ -55,7 +62,9 @@ class Games(unittest.TestCase):
 
     def test_letters_of_a_large_game_stand_in_tables(self):
         states = "".join(f'State: {n} "s{n}" [0&1] {(n + 1) % 20} {{0}} [!0] {n} ' for n in range(20))
-        spec = automaton.read(f'HOA: v1 Start: 0 AP: 2 "r" "g" controllable-AP: 1 Acceptance: 1 Inf(0) --BODY-- {states} --END--')
+        spec = automaton.read(
+            f'HOA: v1 Start: 0 AP: 2 "r" "g" controllable-AP: 1 Acceptance: 1 Inf(0) --BODY-- {states} --END--'
+        )
         rows = []
         for n in range(20):
             at, after = 4 * n, 4 * ((n + 1) % 20)
@@ -66,14 +75,19 @@ class Games(unittest.TestCase):
         moves = {v: to[-1] if o == 0 else None for v, _, o, to, _ in rows}
         made = certificate.Certificate((1,), (0, 2), {v: certificate.Entry(0, move, {}) for v, move in moves.items()})
         dot = self.drawn(text.encode(), made, spec)
-        self.assertIn('<tr><td bgcolor="palegreen">0: r</td></tr><tr><td port="t80" align="left">!g   to no edge</td></tr>', dot)
+        self.assertIn(
+            '<tr><td bgcolor="palegreen">0: r</td></tr><tr><td port="t80" align="left">!g   to no edge</td></tr>', dot
+        )
         self.assertIn('<tr><td port="t4" align="left"><b>g   to 1</b></td></tr>', dot)
         self.assertIn("v3:t4 -> v4 [style=bold", dot)
         self.assertNotIn("-> v80 [", dot.replace("v81 -> v80", ""))
         self.assertIn("the controller moves there, a row for each choice", dot)
 
     def test_names_where_the_controller_moves_first(self):
-        text = b'0 0 0 1,2 "0/0";1 0 1 3,4 "0:0";2 0 1 3 "0:1";3 2 0 1,2 "0/2";4 1 0 5,6 "1/1";5 0 1 4 "1:0";6 0 1 3 "1:1";'
+        text = (
+            b'0 0 0 1,2 "0/0";1 0 1 3,4 "0:0";2 0 1 3 "0:1";3 2 0 1,2 "0/2";4 1 0 5,6 "1/1";5 0 1 4 "1:0";6 '
+            b'0 1 3 "1:1";'
+        )
         dot = self.drawn(text, None, automaton.read(AUTOMATON.decode()))
         self.assertIn('v0 -> v1 [label=" !g "];', dot)
         self.assertIn('v1 -> v4 [label=" r "];', dot)
@@ -89,9 +103,14 @@ class Games(unittest.TestCase):
 
     def test_a_large_game_is_drawn_in_part(self):
         large = families.game_of(families.path(1_000))
-        with self.assertRaisesRegex(Refused, "has 1000 vertices, and .* more than 400 can't be read: --reach 399 draws"):
+        with self.assertRaisesRegex(
+            Refused, "has 1000 vertices, and .* more than 400 can't be read: --reach 399 draws"
+        ):
             games.picture(large)
-        self.assertEqual(games.picture(large, reach=399).count("shape=box") + games.picture(large, reach=399).count("shape=diamond"), 400)
+        self.assertEqual(
+            games.picture(large, reach=399).count("shape=box") + games.picture(large, reach=399).count("shape=diamond"),
+            400,
+        )
         with self.assertRaisesRegex(Refused, "--reach 400 draws 401 vertices"):
             games.picture(large, reach=400)
         self.assertIn("v2 -> more2", made_of(games.picture(large, reach=2)))
@@ -113,7 +132,9 @@ class Automata(unittest.TestCase):
         self.assertIn('s0 [label="0 off"];', dot)
 
     def test_long_names_and_labels_are_wrapped_and_aliases_written_out(self):
-        named = AUTOMATON.replace(b'"off"', b'"waits until the client is granted"').replace(b"[!0|1]", b"[@a0 & (0 | !1) & (0 | !1) & 0]")
+        named = AUTOMATON.replace(b'"off"', b'"waits until the client is granted"').replace(
+            b"[!0|1]", b"[@a0 & (0 | !1) & (0 | !1) & 0]"
+        )
         dot = self.drawn(named.replace(b"--BODY--", b"Alias: @a0 !0&1 --BODY--"))
         self.assertIn('s0 [shape=box, style=rounded, label="0\\nwaits until the client is\\ngranted"];', dot)
         self.assertIn('label="!r & g & (r | !g) & (r |\\n!g) & r {0}"', dot)

@@ -14,7 +14,10 @@ def ending(words, room):
     os.close(read)
     try:
         command = [sys.executable, os.path.join(TOOLS, words[0]), *words[1:]]
-        ran = subprocess.run(command, cwd=TOP, env=environment, stdin=subprocess.DEVNULL, stdout=write, stderr=subprocess.PIPE, text=True, check=False)
+        ran = subprocess.run(
+            command, cwd=TOP, env=environment, stdin=subprocess.DEVNULL, stdout=write, stderr=subprocess.PIPE,
+            text=True, check=False,
+        )
     finally:
         os.close(write)
     return ran.stderr

@@ -35,7 +35,8 @@ few.stim has these letters of the controller; lasso: rejected stem 3 lap 1
 BEGIN = """\
 You are the controller, and the environment has a circuit that wins.
 Type the number of a choice, or the names of your propositions that are to be true, `-` for none;
-a for the choice with `*`, which holds out longest; b for one step back; e to end where a state has come again; q to leave.
+a for the choice with `*`, which holds out longest; b for one step back; e to end where a state has come again; q to \
+leave.
 
 step 0: no r1 waits; g0 is next; no r0 before
 the environment says r1
@@ -56,7 +57,8 @@ few.stim has these letters of the controller; lasso: rejected stem 0 lap 1
 ENVIRONMENT = """\
 You are the environment, and the controller has a circuit that wins.
 Type the number of a choice, or the names of your propositions that are to be true, `-` for none;
-a for the choice with `*`, which holds out longest; b for one step back; e to end where a state has come again; q to leave.
+a for the choice with `*`, which holds out longest; b for one step back; e to end where a state has come again; q to \
+leave.
 
 step 0: off
 *  1  -  -> off (priority 2)
@@ -73,7 +75,10 @@ the loop begins
 step 0 comes again and again; the greatest priority there is 2, even: the automaton accepts
 out.stim has these letters of the environment; lasso: accepted stem 0 lap 1
 """
-LAMP = b'HOA: v1 Start: 0 AP: 2 "r" "g" controllable-AP: 1 Acceptance: 0 t --BODY-- State: 0 "dark" [!1] 0 [1] 1 State: 1 "light" [!1] 0 [1] 1 --END--\n'
+LAMP = (
+    b'HOA: v1 Start: 0 AP: 2 "r" "g" controllable-AP: 1 Acceptance: 0 t --BODY-- State: 0 "dark" [!1] 0 [1] 1 State: '
+    b'1 "light" [!1] 0 [1] 1 --END--\n'
+)
 # What an environment does, in words.
 DEFEATED = r"\Awhatever the controller does, this defeats it: .* always 1.*\n"
 LEFT = "the play is left; no stimulus is written\n"
@@ -98,7 +103,9 @@ class Commands(OnFiles):
         self.assertEqual(self.played("--auto", "few", "few.hoa"), AUTO)
         with open(os.path.join(self.room, "few.stim"), encoding="utf-8") as file:
             self.assertEqual(file.read(), "# written by psyn\n00\n00\n00\n-\n00\n")
-        self.assertEqual(self.tool("lasso", "--env", "few.hoa", "few.aag", "few.stim").stdout, b"rejected stem 4 lap 1\n")
+        self.assertEqual(
+            self.tool("lasso", "--env", "few.hoa", "few.aag", "few.stim").stdout, b"rejected stem 4 lap 1\n"
+        )
 
     def test_what_is_typed(self):
         self.conflict()
@@ -111,7 +118,9 @@ class Commands(OnFiles):
             self.assertTrue(self.played("few", "few.hoa", given=given).endswith(LEFT))
             self.assertFalse(os.path.exists(os.path.join(self.room, "few.stim")))
         for wrong in ("", "0", "5", "g2", "r0", "g0 x", "1 2", "²"):
-            self.assertIn(f"> {wrong!r} is no choice. Type the number", self.played("few", "few.hoa", given=f"{wrong}\nq\n"))
+            self.assertIn(
+                f"> {wrong!r} is no choice. Type the number", self.played("few", "few.hoa", given=f"{wrong}\nq\n")
+            )
 
     def test_the_environment_against_a_controller(self):
         self.tool("synth", "-o", "out", self.file("it.hoa", AUTOMATON))
@@ -122,7 +131,9 @@ class Commands(OnFiles):
         self.tool("synth", "-o", "out", self.file("it.hoa", AUTOMATON))
         said = self.played("out", "it.hoa", given="e\n2\n1\n2\n2\ne\n1\n")
         self.assertIn("> no state has come again with the same latches, so the play has no end yet\n", said)
-        self.assertIn("\nsteps 0 to 3 come again and again; the greatest priority there is 2, even: the automaton accepts\n", said)
+        self.assertIn(
+            "\nsteps 0 to 3 come again and again; the greatest priority there is 2, even: the automaton accepts\n", said
+        )
         with open(os.path.join(self.room, "out.stim"), encoding="utf-8") as file:
             self.assertEqual(file.read(), "# written by psyn\n-\n1\n0\n1\n1\n")
         self.assertTrue(self.played("out", "it.hoa", given="2\n2\nq\n").endswith(LEFT))
@@ -130,7 +141,9 @@ class Commands(OnFiles):
     def test_among_equal_moves_the_one_that_keeps_most_guarantees(self):
         """Two guarantees conflict. The third can be kept, though that does not delay the loss."""
         lines = ["--outs g x", "--assume parts/always.hoa --as it=r", "--guarantee parts/again-and-again.hoa --as it=x"]
-        lines += ["--guarantee parts/always.hoa --as it=!x", "--guarantee parts/answered.hoa --as request=r answer=g", ""]
+        lines += [
+            "--guarantee parts/always.hoa --as it=!x", "--guarantee parts/answered.hoa --as request=r answer=g", ""
+        ]
         self.tool("synth", "--parts", "-o", "it", self.file("it.parts", "\n".join(lines).encode()))
         said = self.played("--auto", "it", "it.hoa")
         self.assertIn("\n0     no r waits; owed: again-and-again(x)  r            g           1\n", said)
@@ -149,9 +162,14 @@ class Commands(OnFiles):
 
     def test_a_small_circuit_and_one_that_loses(self):
         """A controller that moves first need not be the one that was printed with the game."""
-        turns = b'HOA: v1 Start: 0 AP: 2 "r" "g" controllable-AP: 1 Acceptance: 1 Inf(0) --BODY-- State: 0 [!1] 0 {0} [1] 1 {0} State: 1 [!1] 0 {0} --END--\n'
+        turns = (
+            b'HOA: v1 Start: 0 AP: 2 "r" "g" controllable-AP: 1 Acceptance: 1 Inf(0) --BODY-- State: '
+            b'0 [!1] 0 {0} [1] 1 {0} State: 1 [!1] 0 {0} --END--\n'
+        )
         self.tool("synth", "--moore", "-o", "out", self.file("it.hoa", turns))
-        for literal, latch, lasso in (("0", "0", "accepted stem 0 lap 1"), ("4", "5", "accepted stem 1 lap 2"), ("1", "0", "")):
+        for literal, latch, lasso in (
+            ("0", "0", "accepted stem 0 lap 1"), ("4", "5", "accepted stem 1 lap 2"), ("1", "0", "")
+        ):
             self.file("out.aag", f"aag 2 1 1 1 0\n2\n4 {latch}\n{literal}\ni0 r\no0 g\n".encode())
             done = self.tool("play", "--auto", "--force", "out", "it.hoa")
             if lasso:
@@ -181,7 +199,9 @@ class Commands(OnFiles):
     def test_on_a_terminal(self):
         self.conflict()
         ours, theirs = pty.openpty()
-        running = subprocess.Popen([sys.executable, TOOL, "play", "few", "few.hoa"], stdin=theirs, stdout=theirs, stderr=theirs, cwd=self.room)
+        running = subprocess.Popen(
+            [sys.executable, TOOL, "play", "few", "few.hoa"], stdin=theirs, stdout=theirs, stderr=theirs, cwd=self.room
+        )
         os.close(theirs)
         os.write(ours, b"3\n")
         said = b""
@@ -200,7 +220,12 @@ def boards(draw, count):
     of the circuit, and the `Board` for plays."""
     names = ["a", "b", "c"]
     for number in range(count):
-        sides = [tuple(part.part_of(f"part{place}", "", {}, Table(draw, names).text()) for place in range(draw.randint(1, 3))) for _ in range(2)]
+        sides = [
+            tuple(
+                part.part_of(f"part{place}", "", {}, Table(draw, names).text()) for place in range(draw.randint(1, 3))
+            )
+            for _ in range(2)
+        ]
         whole = Specification(*sides, tuple(names), frozenset(draw.sample(names, 1)), number % 4 == 0)
         text = Composer(whole).composed().text()
         flags = " --moore" if number % 3 == 0 else ""
@@ -231,8 +256,13 @@ class Drawn(unittest.TestCase):
         """The same against what `shrink` makes of the circuit."""
         draw, ends = random.Random(8), {}
         for text, printed, board in boards(draw, 40):
-            answer = program.ask(" ".join(["shrink", *opponents.flags_of(board)]).encode() + f"\n{text}%%\n{printed}".encode())
-            small = Board(board.automaton, board.game, board.certificate, circuit.read(answer.text), board.specification, known_by="shrink")
+            answer = program.ask(
+                " ".join(["shrink", *opponents.flags_of(board)]).encode() + f"\n{text}%%\n{printed}".encode()
+            )
+            small = Board(
+                board.automaton, board.game, board.certificate, circuit.read(answer.text), board.specification,
+                known_by="shrink",
+            )
             for is_longest in (True, False):
                 play = Play(small, answer.bytes)
                 while not play.is_over and play.loop is None:

@@ -1,5 +1,5 @@
-"""Tests the page of the promise: docs/PROMISE.md is as `tools/promise-page` writes it, has no more lines than a reader can
-read in an hour, and has or explains each name that its definitions cite."""
+"""Tests the page of the promise: docs/PROMISE.md is as `tools/promise-page` writes it, has no more lines than a reader
+can read in an hour, and has or explains each name that its definitions cite."""
 import re
 import subprocess
 import unittest
@@ -62,7 +62,10 @@ class Page(unittest.TestCase):
         said = set(re.findall(r"[A-Z]\w+", text[text.index("## Types of the code") :]))
         found = promise.Gathered([promise.root_of(*root) for root in promise.ROOTS], promise.ENDS)
         for item in (item for item in found.items if item.module.path.endswith(".antt")):
-            cited = {token.split(".")[0] for _, _, token in promise.antt.tokens_of(item.text()) if re.match(r"[A-Z]\w", token)}
+            cited = {
+                token.split(".")[0]
+                for _, _, token in promise.antt.tokens_of(item.text()) if re.match(r"[A-Z]\w", token)
+            }
             with self.subTest(item.names[0]):
                 self.assertEqual(cited - said - promise.bound_in(item) - {"Type", "Unit"}, set())
 

@@ -26,17 +26,22 @@ both a b e =
 """
 
 COMMENT = """\
--- A paragraph whose first line is too long for the width, so that what is left over of it begins the next line of the same
+-- A paragraph whose first line is too long for the width, so that what is left over of it begins the next line of \
+the same
 -- paragraph. It ends here.
 -- ## A heading
---     Name a b      what the name says, which goes on in one line more since there are so many words, behind this entry alone
---     Other      what it says goes on in a line that is there, which stands further in than the names of the entries of the list
+--     Name a b      what the name says, which goes on in one line more since there are so many words, behind this \
+entry alone
+--     Other      what it says goes on in a line that is there, which stands further in than the names of the entries \
+of the list
 --               above and below it; so for two calls:
---                   first c = answered_by_a_lemma_of_a_long_name (with_arguments a b c) (and_with_more_arguments d e f g h i j)
+--                   first c = answered_by_a_lemma_of_a_long_name (with_arguments a b c) (and_with_more_arguments d e \
+f g h i j)
 --                   second c = answered
 --     Last      short
 -- So a list is
---     number = one number_of_a_long_name (with_arguments a b c) (and_with_more_arguments d e f g h i j k l m n o p) (and_of r)
+--     number = one number_of_a_long_name (with_arguments a b c) (and_with_more_arguments d e f g h i j k l m n o p) \
+(and_of r)
 --     more ns = then_by comma
 length_of : ℕ
 """
@@ -61,9 +66,12 @@ length_of : ℕ
 # A clause, an import and a line with a comment at its end, which the tool breaks; and a line of code, which it leaves
 # alone.
 CODE = """\
-    ghost use Rattle.crate.specs.Module.{first_name, second_name, third_name, fourth_name, fifth_name, sixth_name, seventh};
-    ensures { IfOk result (λ found. (vertex : ℕ) → vertex < length found.items → slice_index found.items vertex ≡ vertex) } // each
-    let a_very_long_line_of_code = call_of_a_function_with_a_long_name(argument_of_it, another_argument, one_more_argument, last);
+    ghost use Rattle.crate.specs.Module.{first_name, second_name, third_name, fourth_name, fifth_name, sixth_name, \
+seventh};
+    ensures { IfOk result (λ found. (vertex : ℕ) → vertex < length found.items → slice_index found.items vertex ≡ \
+vertex) } // each
+    let a_very_long_line_of_code = call_of_a_function_with_a_long_name(argument_of_it, another_argument, \
+one_more_argument, last);
 """
 WRAPPED = """\
     ghost use Rattle.crate.specs.Module.{first_name, second_name, third_name, fourth_name, fifth_name, sixth_name};
@@ -71,7 +79,8 @@ WRAPPED = """\
     // each
     ensures { IfOk result
         (λ found. (vertex : ℕ) → vertex < length found.items → slice_index found.items vertex ≡ vertex) }
-    let a_very_long_line_of_code = call_of_a_function_with_a_long_name(argument_of_it, another_argument, one_more_argument, last);
+    let a_very_long_line_of_code = call_of_a_function_with_a_long_name(argument_of_it, another_argument, \
+one_more_argument, last);
 """
 
 
@@ -109,7 +118,9 @@ class Reading(unittest.TestCase):
 
     def test_sets_are_taken(self):
         shorten = tool("shorten-proofs")
-        text = "-- Of a and b.\nuse Rattle.std.proofs.Common.{◌≡◌, arith}\n\na = search (rules, b)\nc = grind (arith, b)"
+        text = (
+            "-- Of a and b.\nuse Rattle.std.proofs.Common.{◌≡◌, arith}\n\na = search (rules, b)\nc = grind (arith, b)"
+        )
         lines = shorten.with_sets(text).split("\n")
         self.assertEqual(lines[1], "use Rattle.std.proofs.Common.{rules}")
         self.assertEqual(shorten.with_sets("\n".join(lines)), "\n".join(lines))
@@ -138,9 +149,14 @@ class Layout(unittest.TestCase):
 
     def test_paragraphs_of_a_document_are_filled(self):
         words = " ".join(["word"] * 30)
-        text = f"# {words}\n\n- One.\n- {words}\n  end.\n\n{words}\n```text\n{words}\n```\n| {words} |\n    {words}\n> {words}\n"
+        text = (
+            f"# {words}\n\n- One.\n- {words}\n  end.\n\n{words}\n```text\n{words}\n```\n| {words} |\n    {words}\n"
+            f"> {words}\n"
+        )
         first, rest = " ".join(["word"] * 23), " ".join(["word"] * 7)
-        filled = text.replace(f"- {words}\n  end.", f"- {first}\n  {rest} end.").replace(f"\n\n{words}\n", f"\n\n{first} word\n{rest[5:]}\n")
+        filled = text.replace(f"- {words}\n  end.", f"- {first}\n  {rest} end.").replace(
+            f"\n\n{words}\n", f"\n\n{first} word\n{rest[5:]}\n"
+        )
         self.assertEqual(layout.document_within_width(text), filled)
         self.assertEqual(layout.document_within_width(filled), filled)
 
@@ -151,7 +167,10 @@ class Layout(unittest.TestCase):
     def test_no_entry_of_a_list_is_cut(self):
         """In a list, a line that is indented further than an entry's text is an example, and must follow a colon."""
         cut, found = [], 0
-        folders = [glob.glob(os.path.join(TOP, "crates", "*", it, "**", "*.antt"), recursive=True) for it in ("specs", "proofs")]
+        folders = [
+            glob.glob(os.path.join(TOP, "crates", "*", it, "**", "*.antt"), recursive=True)
+            for it in ("specs", "proofs")
+        ]
         for path in sorted(sum(folders, [])):
             for at, comment in layout.comments_of(layout.read(path).split("\n")):
                 found += 1
@@ -159,12 +178,16 @@ class Layout(unittest.TestCase):
         self.assertEqual(cut, [])
         self.assertGreater(found, 0)
         self.assertEqual(layout.cut_entries(FILLED.split("\n")[:15]), [])
-        self.assertEqual(layout.cut_entries(["--     Name      the first, at", "--          once", "--                 more"]), [1])
+        self.assertEqual(
+            layout.cut_entries(["--     Name      the first, at", "--          once", "--                 more"]), [1]
+        )
 
 
 class Wrapping(unittest.TestCase):
     def run_on(self, *words):
-        return subprocess.run([sys.executable, os.path.join(TOOLS, "wrap-lines"), *words], capture_output=True, text=True, check=False)
+        return subprocess.run(
+            [sys.executable, os.path.join(TOOLS, "wrap-lines"), *words], capture_output=True, text=True, check=False
+        )
 
     def test_a_file_is_rewritten(self):
         with tempfile.TemporaryDirectory() as folder:
@@ -176,7 +199,9 @@ class Wrapping(unittest.TestCase):
             self.assertEqual(layout.read(path), FILLED)
 
     def test_what_cannot_be_read_is_one_line(self):
-        for words, status in (([], 2), (["--other"], 2), ([os.path.join(TOP, "nothing.antt")], 1), ([os.path.join(TOP, "docs")], 1)):
+        for words, status in (
+            ([], 2), (["--other"], 2), ([os.path.join(TOP, "nothing.antt")], 1), ([os.path.join(TOP, "docs")], 1)
+        ):
             done = self.run_on(*words)
             self.assertEqual(done.returncode, status, done)
             self.assertEqual(len(done.stderr.splitlines()), 1 if status == 1 else 0, done.stderr)

@@ -17,7 +17,10 @@ from upkeep import documents, packing
 from upkeep.sweeps import TOP
 
 RELEASE = releases.Release("0.0.1", "c" * 40, "rattle-kit-0 logic 0")
-LOG = "1 passed, 2 failed\nx: 9 passed\n63 passed, 0 failed (in 10 s)\nrows: 3 of 3 a\ntools: 80 passed, 0 failed, 2 skipped\n"
+LOG = (
+    "1 passed, 2 failed\nx: 9 passed\n63 passed, 0 failed (in 10 s)\nrows: 3 of 3 a\ntools: 80 passed, "
+    "0 failed, 2 skipped\n"
+)
 FOLDER = "psyn-0.0.1-here"
 
 
@@ -42,20 +45,37 @@ class Archive(unittest.TestCase):
         return os.path.join(self.room, FOLDER)
 
     def ran(self, *words):
-        return subprocess.run([sys.executable, *words], capture_output=True, text=True, check=False, env=self.environment, cwd=self.room)
+        return subprocess.run(
+            [sys.executable, *words], capture_output=True, text=True, check=False, env=self.environment, cwd=self.room
+        )
 
     def test_what_is_in_it(self):
-        self.assertLessEqual({"psyn", "tools/psyn", "tools/psyntool/pages/rules.js", "docs/psyn.1", "docs/PROVED.md", "tools/check_certificate.py", "README.md"}, set(self.files))
-        self.assertEqual([name for name in self.files if name.startswith(("tools/upkeep", "tools/tests", "crates", "bench"))], [])
-        self.assertEqual(self.files["GATE"][0].decode().splitlines(), [f"commit {'c' * 40}", "63 passed, 0 failed (in 10 s)", "tools: 80 passed, 0 failed, 2 skipped"])
+        self.assertLessEqual(
+            {
+                "psyn", "tools/psyn", "tools/psyntool/pages/rules.js", "docs/psyn.1", "docs/PROVED.md",
+                "tools/check_certificate.py", "README.md",
+            },
+            set(self.files),
+        )
+        self.assertEqual(
+            [name for name in self.files if name.startswith(("tools/upkeep", "tools/tests", "crates", "bench"))], []
+        )
+        self.assertEqual(
+            self.files["GATE"][0].decode().splitlines(),
+            [f"commit {'c' * 40}", "63 passed, 0 failed (in 10 s)", "tools: 80 passed, 0 failed, 2 skipped"],
+        )
         self.assertEqual(archive_of(self.files), archive_of(self.files))
 
     def test_the_commands_of_the_readme_run_where_it_is_unpacked(self):
         place = self.unpacked()
-        fences = [fence for fence in documents.fences_of(documents.read("README.md")) if fence.is_run() and not fence.marks]
+        fences = [
+            fence for fence in documents.fences_of(documents.read("README.md")) if fence.is_run() and not fence.marks
+        ]
         self.assertTrue(sum(len(fence.commands()) for fence in fences))
         self.assertEqual(documents.wrong_answers("README.md", fences, place, self.environment), [])
-        sums = subprocess.run(["sha256sum", "--check", "--quiet", packing.SUMS], cwd=place, capture_output=True, text=True, check=False)
+        sums = subprocess.run(
+            ["sha256sum", "--check", "--quiet", packing.SUMS], cwd=place, capture_output=True, text=True, check=False
+        )
         self.assertEqual((sums.stdout, sums.stderr, sums.returncode), ("", "", 0))
 
     def test_it_is_installed_from_where_it_is_unpacked(self):
@@ -70,7 +90,10 @@ class Archive(unittest.TestCase):
 
     def installed_is_right(self):
         psyn, examples = os.path.join(self.room, "prefix", "bin", "psyn"), os.path.join(TOP, "examples", "files")
-        self.assertEqual(self.ran(psyn, "check", *(os.path.join(examples, name) for name in ("loop.pg", "loop.cert"))).stdout, "valid\n")
+        self.assertEqual(
+            self.ran(psyn, "check", *(os.path.join(examples, name) for name in ("loop.pg", "loop.cert"))).stdout,
+            "valid\n",
+        )
         self.version_tells_the_program(psyn)
         self.assertTrue(os.path.getsize(os.path.join(self.room, "prefix", "share", "zsh", "site-functions", "_psyn")))
 
@@ -98,22 +121,38 @@ class Archive(unittest.TestCase):
 
     def test_another_archive_is_refused(self):
         changed = {**self.files, "docs/PROVED.md": (b"all\n", False)}
-        self.assertEqual(self.refused(archive_of(changed)), ("", "tools/install: archive: the sum of docs/PROVED.md is another one than SHA256SUMS says\n", 1))
+        self.assertEqual(
+            self.refused(archive_of(changed)),
+            ("", "tools/install: archive: the sum of docs/PROVED.md is another one than SHA256SUMS says\n", 1),
+        )
         added = {**self.files, "docs/more": (b"more\n", False)}
-        self.assertEqual(self.refused(archive_of(added)), ("", "tools/install: archive: the sum of docs/more is another one than SHA256SUMS says\n", 1))
+        self.assertEqual(
+            self.refused(archive_of(added)),
+            ("", "tools/install: archive: the sum of docs/more is another one than SHA256SUMS says\n", 1),
+        )
         self.assertIn("has no SHA256SUMS", self.refused(archive_of({"psyn": (b"", True)}))[1])
-        self.assertRegex(self.refused(b"no archive")[1], r"\Atools/install: archive is no archive that can be unpacked: .*\n\Z")
+        self.assertRegex(
+            self.refused(b"no archive")[1], r"\Atools/install: archive is no archive that can be unpacked: .*\n\Z"
+        )
         self.assertRegex(self.refused(archive_of(self.files)[:-100])[1], r"\Atools/install: archive.*\n\Z")
 
 
 class Gate(unittest.TestCase):
     def test_a_gate_that_did_not_pass_is_refused(self):
-        for log in ("", "63 passed, 0 failed\n", LOG.replace("63 passed, 0", "63 passed, 1"), LOG.replace("80 passed, 0", "79 passed, 1"), LOG.replace("63", "0")):
+        for log in (
+            "", "63 passed, 0 failed\n", LOG.replace("63 passed, 0", "63 passed, 1"),
+            LOG.replace("80 passed, 0", "79 passed, 1"), LOG.replace("63", "0"),
+        ):
             with self.subTest(log), self.assertRaises(packing.NotPassed):
                 packing.gate_lines(log)
 
     def test_a_release_of_a_changed_tree_or_of_another_log_is_refused(self):
-        done = subprocess.run([sys.executable, os.path.join(TOP, "tools", "release"), os.devnull], capture_output=True, text=True, check=False)
+        done = subprocess.run(
+            [sys.executable, os.path.join(TOP, "tools", "release"), os.devnull],
+            capture_output=True,
+            text=True,
+            check=False,
+        )
         self.assertEqual((done.stdout, done.returncode), ("", 1))
         self.assertRegex(done.stderr, r"\Atools/release: .*\n\Z")
 

@@ -48,7 +48,9 @@ class Reading(unittest.TestCase):
             return rows.read(file.name)
 
     def test_parts_are_repeated_and_characters_are_bytes(self):
-        (row,) = self.read('[[row]]\nname = "a"\nparts = ["x", { text = "é\\n", times = 2 }]\nanswer = "b"\nstatus = 1\n')
+        (row,) = self.read(
+            '[[row]]\nname = "a"\nparts = ["x", { text = "é\\n", times = 2 }]\nanswer = "b"\nstatus = 1\n'
+        )
         self.assertEqual(row.given, b"x\xe9\n\xe9\n")
         self.assertIsNone(row.fault_of(b"b", 1))
         self.assertIsNotNone(row.fault_of(b"b", 0))
@@ -61,15 +63,24 @@ class Reading(unittest.TestCase):
         self.assertIsNotNone(row.fault_of(b"yes\n1 2 4\n", 0))
 
     def test_a_cut_is_a_row_behind_each_byte(self):
-        cut = '[[cut]]\nname = "a"\nbefore = "<"\ntext = "abc"\nbehind = ">"\nended = 1\nearly = "4 Syntax"\nwhole_from = 3\nwhole = "all"\nstatus = 0\n'
+        cut = (
+            '[[cut]]\nname = "a"\nbefore = "<"\ntext = "abc"\nbehind = ">"\nended = 1\nearly = "4 Syntax"\n'
+            'whole_from = 3\nwhole = "all"\nstatus = 0\n'
+        )
         other = '[[cut.other]]\nfrom = 1\nto = 1\nanswer = "one"\nstatus = 2\n'
         found = [(row.given, row.one_of, row.status) for row in self.read(cut + other)]
-        wanted = [(b"<>", [b"fault 4 Syntax at 1\n"], 1), (b"<a>", [b"one"], 2), (b"<ab>", [b"fault 4 Syntax at 3\n"], 1), (b"<abc>", [b"all"], 0)]
+        wanted = [
+            (b"<>", [b"fault 4 Syntax at 1\n"], 1), (b"<a>", [b"one"], 2), (b"<ab>", [b"fault 4 Syntax at 3\n"], 1),
+            (b"<abc>", [b"all"], 0),
+        ]
         self.assertEqual(found, wanted)
 
     def test_what_is_no_row_is_refused(self):
         row = '[[row]]\nname = "a"\ninput = "x"\nanswer = "b"\nstatus = 1\n'
-        for text in ("", row.replace("answer", "anwser"), row.replace("status = 1\n", ""), row + 'begins = ["b"]\n', row + row, row.replace("x", "→")):
+        for text in (
+            "", row.replace("answer", "anwser"), row.replace("status = 1\n", ""), row + 'begins = ["b"]\n', row + row,
+            row.replace("x", "→"),
+        ):
             with self.subTest(text), self.assertRaises(rows.Malformed):
                 self.read(text)
 

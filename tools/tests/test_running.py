@@ -1,5 +1,5 @@
-"""Tests of how a run ends: exit statuses with --check, lines of JSON, several files in one run, limits of time and memory,
-and wrong solutions that are kept."""
+"""Tests of how a run ends: exit statuses with --check, lines of JSON, several files in one run, limits of time and
+memory, and wrong solutions that are kept."""
 import json
 import os
 import shlex
@@ -25,7 +25,10 @@ class Running(OnFiles):
 
     def setUp(self):
         super().setUp()
-        for name, text in (("spec", AUTOMATON), ("grant", GRANT), ("never", NEVER), ("game", GAME), ("lasso", b"1\n-\n0\n"), ("hanging", HANGING)):
+        for name, text in (
+            ("spec", AUTOMATON), ("grant", GRANT), ("never", NEVER), ("game", GAME), ("lasso", b"1\n-\n0\n"),
+            ("hanging", HANGING),
+        ):
             self.file(name, text)
         self.file("right", b"0 1 1;\n1 1 1;\n")
         self.file("wrong", b"0 0 0;\n1 0 1;\n")
@@ -57,10 +60,15 @@ class Statuses(Running):
         ):
             with self.subTest(words):
                 self.assertEqual(self.tool(*words, "--check").returncode, status)
-        self.assertEqual([self.tool("verify", "spec", "never").returncode, self.tool("judge", "game", "wrong").returncode], [0, 1])
+        self.assertEqual(
+            [self.tool("verify", "spec", "never").returncode, self.tool("judge", "game", "wrong").returncode], [0, 1]
+        )
 
     def test_other_commands_have_no_such_flag(self):
-        self.assertEqual(self.said("synth", "--check", "spec")[1:], (["psyn: synth has no flag --check: it is for judge, lasso, verify, shrink, agree"], 2))
+        self.assertEqual(
+            self.said("synth", "--check", "spec")[1:],
+            (["psyn: synth has no flag --check: it is for judge, lasso, verify, shrink, agree"], 2),
+        )
 
 
 class Json(Running):
@@ -76,22 +84,37 @@ class Json(Running):
     def test_each_answer_is_a_line(self):
         loses = self.told("verify", "--check", "spec", "never")
         answer = loses.pop("answer")
-        self.assertEqual(loses, {"command": "verify", "files": ["spec", "never"], "status": 3, "verdict": "loses", "stem": 1, "lap": 1})
+        self.assertEqual(
+            loses,
+            {"command": "verify", "files": ["spec", "never"], "status": 3, "verdict": "loses", "stem": 1, "lap": 1},
+        )
         self.assertEqual(answer, "loses\n1\n-\n0\n")
         accepted = self.told("lasso", "--trace", "spec", "grant", "lasso")
         self.assertEqual([accepted[name] for name in ("verdict", "stem", "lap")], ["accepted", 1, 1])
         self.assertEqual(accepted["answer"].splitlines()[:2], ["accepted stem 1 lap 1", "step  state  letter  sets"])
         made = self.told("synth", "spec")
         self.assertEqual((made["verdict"], made["answer"]), ("REALIZABLE", f"REALIZABLE\n{GRANT.decode()}"))
-        self.assertEqual([self.told("judge", "game", name).get("verdict") for name in ("right", "wrong", "other")], ["right", "wrong", None])
+        self.assertEqual(
+            [self.told("judge", "game", name).get("verdict") for name in ("right", "wrong", "other")],
+            ["right", "wrong", None],
+        )
         solved = self.told("solve", "game")
         self.assertEqual((solved["answer"][:10], "verdict" in solved), ("psyncert 1", False))
 
     def test_a_fault_and_a_refusal_are_told(self):
         fault = self.told("judge", "game", "other", "--quiet")
-        self.assertEqual([fault[name] for name in ("fault", "name", "offset", "answer")], [54, "OtherGame", 7, "fault 54 OtherGame at 7\n"])
+        self.assertEqual(
+            [fault[name] for name in ("fault", "name", "offset", "answer")],
+            [54, "OtherGame", 7, "fault 54 OtherGame at 7\n"],
+        )
         refused = self.told("synth", "none")
-        self.assertEqual(refused, {"command": "synth", "files": ["none"], "status": 2, "error": "none: No such file or directory", "answer": ""})
+        self.assertEqual(
+            refused,
+            {
+                "command": "synth", "files": ["none"], "status": 2, "error": "none: No such file or directory",
+                "answer": "",
+            },
+        )
 
     def test_commands_of_the_tool_have_it_too(self):
         self.assertEqual(self.told("convert", "grant", "--quiet")["answer"].splitlines()[0], "aig 1 1 0 1 0")
@@ -102,13 +125,24 @@ class Json(Running):
 
 class Each(Running):
     def test_a_line_for_each_file_or_so_many_as_the_command_reads(self):
-        self.assertEqual(self.said("each", "synth", "spec", "game", "--moore", "--quiet")[0], ["spec: REALIZABLE", "game: fault 1 NotHoa at 0"])
+        self.assertEqual(
+            self.said("each", "synth", "spec", "game", "--moore", "--quiet")[0],
+            ["spec: REALIZABLE", "game: fault 1 NotHoa at 0"],
+        )
         done = self.said("each", "--check", "--quiet", "verify", "spec", "grant", "spec", "never", "none", "grant")
-        self.assertEqual(done, (["spec grant: wins", "spec never: loses", "none grant: none: No such file or directory"], [], 3))
-        self.assertEqual(self.said("each", "check", "game", "-", given=self.tool("solve", "game").stdout), (["game -: valid"], [], 0))
-        self.assertEqual(self.said("each", "core", "game", "--outs", "g")[0], ["game: game is a game; core reads a list of parts"])
+        self.assertEqual(
+            done, (["spec grant: wins", "spec never: loses", "none grant: none: No such file or directory"], [], 3)
+        )
+        self.assertEqual(
+            self.said("each", "check", "game", "-", given=self.tool("solve", "game").stdout), (["game -: valid"], [], 0)
+        )
+        self.assertEqual(
+            self.said("each", "core", "game", "--outs", "g")[0], ["game: game is a game; core reads a list of parts"]
+        )
         lines = [json.loads(line) for line in self.said("each", "--json", "--quiet", "synth", "spec", "game")[0]]
-        self.assertEqual([(line["files"], line["status"], line["fault"]) for line in lines], [(["spec"], 10, None), (["game"], 1, 1)])
+        self.assertEqual(
+            [(line["files"], line["status"], line["fault"]) for line in lines], [(["spec"], 10, None), (["game"], 1, 1)]
+        )
 
     def test_what_can_not_be_run_so(self):
         for words, why in (
@@ -129,10 +163,14 @@ class Limits(Running):
     def test_a_program_or_a_solver_that_hangs_is_ended(self):
         hanging = {"PSYN": os.path.join(self.room, "hanging")}
         for flags in ((), ("--quiet",)):
-            self.assertEqual(self.said("solve", "--time", "1", *flags, "game", environment=hanging), ([], [f"psyn: {SECONDS}"], 1))
+            self.assertEqual(
+                self.said("solve", "--time", "1", *flags, "game", environment=hanging), ([], [f"psyn: {SECONDS}"], 1)
+            )
         for words in (("solve", "game"), ("synth", "spec")):
             self.assertEqual(self.said("--time=1", *words, "--by", "./hanging {game}"), ([], [f"psyn: {SECONDS}"], 1))
-        self.assertEqual(self.said("each", "--time", "1", "solve", "game", "game", environment=hanging)[0], [f"game: {SECONDS}"] * 2)
+        self.assertEqual(
+            self.said("each", "--time", "1", "solve", "game", "game", environment=hanging)[0], [f"game: {SECONDS}"] * 2
+        )
 
     def test_who_is_in_time_is_not_ended(self):
         self.assertEqual(self.said("--time", "60", "--memory", "4000", "verify", "spec", "grant"), (["wins"], [], 0))
@@ -141,10 +179,28 @@ class Limits(Running):
         path = self.file("large", families.game_of(families.clique(500)).text().encode())
         lines, told, status = self.said("solve", "--memory", "8", path)
         self.assertEqual((lines, status), (["fault 24 OutOfMemory"], 1))
-        self.assertTrue(any(it.startswith("mend: give the process more memory (`ulimit -v`), or give it a smaller input.") for it in told), told)
+        self.assertTrue(
+            any(
+                it.startswith("mend: give the process more memory (`ulimit -v`), or give it a smaller input.")
+                for it in told
+            ),
+            told,
+        )
         self.assertEqual(self.said("solve", "--memory", "8", "--quiet", path)[::2], (["fault 24 OutOfMemory"], 1))
-        lines, told, status = self.said("solve", "--memory", "30", "--by", f"{shlex.quote(sys.executable)} -c 'bytes(1 << 28)'", "game")
-        self.assertEqual((lines, told[-2:], status), ([], ["MemoryError", f"psyn: {os.path.basename(sys.executable)} ended with status 1, so there is no solution to judge"], 1))
+        lines, told, status = self.said(
+            "solve", "--memory", "30", "--by", f"{shlex.quote(sys.executable)} -c 'bytes(1 << 28)'", "game"
+        )
+        self.assertEqual(
+            (lines, told[-2:], status),
+            (
+                [],
+                [
+                    "MemoryError",
+                    f"psyn: {os.path.basename(sys.executable)} ended with status 1, so there is no solution to judge",
+                ],
+                1,
+            ),
+        )
 
     def test_wrong_numbers(self):
         for flag, unit in (("--time", "SECONDS"), ("--memory", "MIB")):
@@ -165,13 +221,26 @@ class Kept(Running):
 
     def test_a_right_one_is_not(self):
         improving = os.path.join(os.path.dirname(ERRING), "improving.py")
-        done = self.tool("solve", "game", "--keep", "kept.sol", "--by", f"{shlex.quote(sys.executable)} -B {shlex.quote(improving)} {{game}} {{solution}}")
+        done = self.tool(
+            "solve",
+            "game",
+            "--keep",
+            "kept.sol",
+            "--by",
+            f"{shlex.quote(sys.executable)} -B {shlex.quote(improving)} {{game}} {{solution}}",
+        )
         self.assertEqual((done.returncode, os.path.exists(os.path.join(self.room, "kept.sol"))), (0, False))
 
     def test_it_wants_a_solver_and_a_path(self):
         self.assertEqual(self.said("solve", "--keep", "x", "game")[1], ["psyn: solve --keep wants --by COMMAND"])
-        self.assertEqual(self.said("solve", "--keep", "game", "--by", "./hanging", "game")[1], ["psyn: game would be written, and this command reads it: name another file"])
-        self.assertEqual(self.said("solve", "--keep", "no/x", "--by", "./hanging", "game")[1], ["psyn: --keep FILE: there is no folder no"])
+        self.assertEqual(
+            self.said("solve", "--keep", "game", "--by", "./hanging", "game")[1],
+            ["psyn: game would be written, and this command reads it: name another file"],
+        )
+        self.assertEqual(
+            self.said("solve", "--keep", "no/x", "--by", "./hanging", "game")[1],
+            ["psyn: --keep FILE: there is no folder no"],
+        )
 
 
 if __name__ == "__main__":

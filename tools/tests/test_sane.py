@@ -41,7 +41,9 @@ class Cores(OnFiles):
     def test_assumptions_that_are_needed(self):
         self.file("s.tlsf", ASSUMING)
         done = self.tool("core", "s.tlsf")
-        self.assertEqual(done.stdout.decode(), "REALIZABLE\nthis assumption suffices, and can't be left out:\n  line 5  G F ready\n")
+        self.assertEqual(
+            done.stdout.decode(), "REALIZABLE\nthis assumption suffices, and can't be left out:\n  line 5  G F ready\n"
+        )
         self.assertEqual((done.stderr, done.returncode), (b"", 10))
 
     def test_of_the_command_line(self):
@@ -57,9 +59,15 @@ class Cores(OnFiles):
     def test_what_is_refused(self):
         self.file("s.tlsf", ASSUMING)
         for words, told in (
-            (["--moore", "s.tlsf"], "core --tlsf can't have --moore: a specification says that itself, by SEMANTICS: Moore"),
+            (
+                ["--moore", "s.tlsf"],
+                "core --tlsf can't have --moore: a specification says that itself, by SEMANTICS: Moore",
+            ),
             (["--tlsf"], "core --tlsf reads SPECIFICATION, and got 0 files"),
-            (["--strict", "s.tlsf"], "core --tlsf can't have --strict: a specification says that itself, by SEMANTICS: Mealy,Strict"),
+            (
+                ["--strict", "s.tlsf"],
+                "core --tlsf can't have --strict: a specification says that itself, by SEMANTICS: Mealy,Strict",
+            ),
         ):
             done = self.tool("core", *words)
             self.assertEqual((done.stdout, done.stderr.decode(), done.returncode), (b"", f"psyn: {told}\n", 2))
@@ -72,18 +80,33 @@ class Sanity(OnFiles):
         return done.stdout.decode().splitlines(), done.returncode
 
     def test_nothing_is_found(self):
-        self.assertEqual(self.asked("--formula", "G (r <-> X g)", "--outs", "g"), (["REALIZABLE", "nothing was found that looks like a mistake"], 10))
+        self.assertEqual(
+            self.asked("--formula", "G (r <-> X g)", "--outs", "g"),
+            (["REALIZABLE", "nothing was found that looks like a mistake"], 10),
+        )
 
     def test_assumptions_that_nothing_keeps(self):
         told, _ = self.asked("--guarantee", "G (r -> X g)", "--assume", "G r", "G F !r", "G F (r | g)", "--outs", "g")
-        self.assertEqual(told[1:4], ["nothing keeps these 2 assumptions together, so each circuit wins:", "  G r", "  G F !r"])
+        self.assertEqual(
+            told[1:4], ["nothing keeps these 2 assumptions together, so each circuit wins:", "  G r", "  G F !r"]
+        )
 
     def test_an_assumption_that_a_controller_breaks(self):
-        told, status = self.asked("--guarantee", "G (r -> X g)", "--assume", "G (g -> X !r)", "G F (r & !g)", "--outs", "g")
+        told, status = self.asked(
+            "--guarantee", "G (r -> X g)", "--assume", "G (g -> X !r)", "G F (r & !g)", "--outs", "g"
+        )
         self.assertEqual((told[0], status), ("REALIZABLE", 10))
-        self.assertEqual(told[1:3], ["a controller can break the assumption, so the one that psyn finds may do that and no more:", "  G F (r & !g)"])
+        self.assertEqual(
+            told[1:3],
+            [
+                "a controller can break the assumption, so the one that psyn finds may do that and no more:",
+                "  G F (r & !g)",
+            ],
+        )
         self.assertEqual(told[3], "so it can play:")
-        self.assertTrue([line for line in told if line.endswith("again and again, which does not keep the assumption")], told)
+        self.assertTrue(
+            [line for line in told if line.endswith("again and again, which does not keep the assumption")], told
+        )
 
     def test_an_assumption_that_breaks_at_a_step(self):
         told, _ = self.asked("--guarantee", "G F g", "--assume", "G (r <-> g)", "--outs", "g", "--moore")
@@ -92,15 +115,26 @@ class Sanity(OnFiles):
         self.assertTrue([line for line in told if "breaks the assumption" in line], told)
 
     def test_guarantees_that_follow_and_names(self):
-        told, _ = self.asked("--guarantee", "G (open -> !closed)", "G !(open & closed)", "G F open", "G F (r & open -> closd)", "--outs", "open", "closed", "closd", "--ins", "r", "spare")
-        self.assertEqual(told[1:5], ["the guarantee follows from the others:", "  G (open -> !closed)", "the guarantee follows from the others:", "  G !(open & closed)"])
+        told, _ = self.asked(
+            "--guarantee", "G (open -> !closed)", "G !(open & closed)", "G F open", "G F (r & open -> closd)",
+            "--outs", "open", "closed", "closd", "--ins", "r", "spare",
+        )
+        self.assertEqual(
+            told[1:5],
+            [
+                "the guarantee follows from the others:", "  G (open -> !closed)",
+                "the guarantee follows from the others:", "  G !(open & closed)",
+            ],
+        )
         self.assertIn("no sentence mentions spare", told)
         self.assertIn("only the guarantee mentions closd (closed?)", told)
 
     def test_of_a_file_lines_are_told(self):
         self.file("s.tlsf", ASSUMING.replace(b"G (g -> ready)", b"G (g -> ready); G (g && r -> ready)"))
         told, _ = self.asked("s.tlsf")
-        self.assertEqual(told, ["REALIZABLE", "the guarantee of line 6 follows from the others:", "  G (g && r -> ready)"])
+        self.assertEqual(
+            told, ["REALIZABLE", "the guarantee of line 6 follows from the others:", "  G (g && r -> ready)"]
+        )
 
 
 
@@ -127,7 +161,10 @@ class Plays(OnFiles):
         self.assertIn("'x' is no choice. ", told)
         self.assertEqual(told.splitlines()[-1].split(" lasso: ")[0], "s.stim has these letters of the controller;")
         self.assertTrue(os.path.exists(os.path.join(self.room, "s.stim")))
-        self.assertEqual(self.tool("play", "s", "s.tlsf", given=b"q\n").stdout.splitlines()[-1], b"> the play is left; no stimulus is written")
+        self.assertEqual(
+            self.tool("play", "s", "s.tlsf", given=b"q\n").stdout.splitlines()[-1],
+            b"> the play is left; no stimulus is written",
+        )
 
     def test_against_a_controller(self):
         self.file("a.tlsf", ASSUMING)

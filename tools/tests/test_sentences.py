@@ -1,5 +1,5 @@
-"""Tests of `synth --tlsf` on the specifications of examples/specifications: the answer is the one that the first line of
-the text states, and `verify --tlsf` passes the circuit that is printed."""
+"""Tests of `synth --tlsf` on the specifications of examples/specifications: the answer is the one that the first line
+of the text states, and `verify --tlsf` passes the circuit that is printed."""
 import glob
 import os
 import re
@@ -16,7 +16,9 @@ STATUSES = {"REALIZABLE": 10, "UNREALIZABLE": 20}
 
 def answered(words, text):
     """The answer to a command: its first line, the rest, and the exit status."""
-    done = subprocess.run([program()], input=f"{words}\n{text}".encode(), stdout=subprocess.PIPE, timeout=60, check=False)
+    done = subprocess.run(
+        [program()], input=f"{words}\n{text}".encode(), stdout=subprocess.PIPE, timeout=60, check=False
+    )
     first, _, rest = done.stdout.decode().partition("\n")
     return first, rest, done.returncode
 

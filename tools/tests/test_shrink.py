@@ -1,5 +1,5 @@
-"""Tests of `shrink` on the gallery: `verify` passes each circuit that it prints, which has few gates and latches, and is
-the same each time."""
+"""Tests of `shrink` on the gallery: `verify` passes each circuit that it prints, which has few gates and latches, and
+is the same each time."""
 import os
 import unittest
 

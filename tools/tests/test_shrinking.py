@@ -1,4 +1,5 @@
-"""Tests `shrink`, `synth --small`, and the words for small environments: what is printed wins by `verify`, and is smaller."""
+"""Tests `shrink`, `synth --small`, and the words for small environments: what is printed wins by `verify`, and is
+smaller."""
 import os
 import shutil
 import time
@@ -45,8 +46,13 @@ class Shrink(OnCircuits):
     def test_what_is_smaller_and_still_wins(self):
         spec = self.file("spec", AUTOMATON)
         more = {
-            "gates": (b"aag 3 1 0 1 2\n2\n6\n4 2 2\n6 4 2\ni0 r\no0 g\n", b"gates: 2 before, 0 after; latches: 0 before, 0 after\n"),
-            "latches": (b"aag 2 1 1 1 0\n2\n4 4\n2\ni0 r\no0 g\n", b"gates: 0 before, 0 after; latches: 1 before, 0 after\n"),
+            "gates": (
+                b"aag 3 1 0 1 2\n2\n6\n4 2 2\n6 4 2\ni0 r\no0 g\n",
+                b"gates: 2 before, 0 after; latches: 0 before, 0 after\n",
+            ),
+            "latches": (
+                b"aag 2 1 1 1 0\n2\n4 4\n2\ni0 r\no0 g\n", b"gates: 0 before, 0 after; latches: 1 before, 0 after\n"
+            ),
             "both": (LATE, b"gates: 3 before, 0 after; latches: 2 before, 0 after\n"),
             "binary": (b"aig 3 1 0 1 2\n6\n\x02\x00\x02\x02i0 r\no0 g\n", None),
         }
@@ -63,7 +69,10 @@ class Shrink(OnCircuits):
         spec, never = self.file("spec", AUTOMATON), self.file("never", NEVER)
         for flags in ([], ["--check"], ["--quiet"], ["--stimulus", "lost.stim", "--wave", "lost.vcd"]):
             done, wanted = (self.tool(command, *flags, spec, never) for command in ("shrink", "verify"))
-            self.assertEqual((done.stdout[:6], done.stdout, done.stderr, done.returncode), (b"loses\n", wanted.stdout, wanted.stderr, wanted.returncode))
+            self.assertEqual(
+                (done.stdout[:6], done.stdout, done.stderr, done.returncode),
+                (b"loses\n", wanted.stdout, wanted.stderr, wanted.returncode),
+            )
         self.assertEqual(self.tool("lasso", spec, never, "lost.stim").stdout[:9], b"rejected ")
         self.assertIn(b'"verdict": "loses", "stem": ', self.tool("shrink", "--json", spec, never).stdout)
 
@@ -92,14 +101,22 @@ class Shrink(OnCircuits):
     def test_abc_first(self):
         spec, late = self.file("spec", AUTOMATON), self.file("late", LATE)
         done = self.tool("shrink", "--abc", spec, late)
-        self.assertEqual((self.size(done.stdout), done.stderr), ((0, 0), b"gates: 3 before, 0 after; latches: 2 before, 0 after\n"))
+        self.assertEqual(
+            (self.size(done.stdout), done.stderr), ((0, 0), b"gates: 3 before, 0 after; latches: 2 before, 0 after\n")
+        )
         lost = self.tool("shrink", "--abc", "--quiet", spec, self.file("never", NEVER))
         self.assertEqual((lost.stdout[:6], lost.stderr, lost.returncode), (b"loses\n", b"", 0))
-        empty = self.file("all", b"HOA: v1 Start: 0 AP: 0 controllable-AP: Acceptance: 0 t --BODY-- State: 0 [t] 0 --END--\n")
-        self.assertEqual(self.tool("shrink", "--abc", empty, self.file("empty", b"aag 0 0 0 0 0\n")).stdout, b"aag 0 0 0 0 0\n")
+        empty = self.file(
+            "all", b"HOA: v1 Start: 0 AP: 0 controllable-AP: Acceptance: 0 t --BODY-- State: 0 [t] 0 --END--\n"
+        )
+        self.assertEqual(
+            self.tool("shrink", "--abc", empty, self.file("empty", b"aag 0 0 0 0 0\n")).stdout, b"aag 0 0 0 0 0\n"
+        )
 
     def test_without_abc(self):
-        done = self.tool("shrink", "--abc", self.file("spec", AUTOMATON), "-", environment={"PATH": os.path.join(self.room, "none")})
+        done = self.tool(
+            "shrink", "--abc", self.file("spec", AUTOMATON), "-", environment={"PATH": os.path.join(self.room, "none")}
+        )
         self.assertEqual((done.stdout, done.returncode, done.stderr.count(b"\n")), (b"", 2, 1))
         self.assertIn(b"shrink --abc needs abc", done.stderr)
 
@@ -111,7 +128,10 @@ class Small(OnCircuits):
         for name in ("arbiter", "buffer", "handshake"):
             parts = os.path.join(GALLERY, f"{name}.parts")
             spec = self.file(f"{name}.hoa", self.tool("compose", parts).stdout)
-            whole, small = (report.read(self.tool("synth", "--full", "--quiet", *flags, spec).stdout.decode()) for flags in ([], ["--small"]))
+            whole, small = (
+                report.read(self.tool("synth", "--full", "--quiet", *flags, spec).stdout.decode())
+                for flags in ([], ["--small"])
+            )
             self.assertEqual((small.word, small.parts[1:]), (whole.word, whole.parts[1:]))
             self.assertLess(sum(self.size(small.parts[0].encode())), sum(self.size(whole.parts[0].encode())))
             env = ["--env"] if small.word == "UNREALIZABLE" else []
@@ -120,19 +140,28 @@ class Small(OnCircuits):
             self.assertEqual((stored.stdout.decode(), stored.returncode), (f"{small.word}\n", 20 if env else 10))
             with open(os.path.join(self.room, f"{name}.aag"), encoding="utf-8") as file:
                 self.assertEqual(file.read(), f"{small.parts[0]}c\nwritten by psyn\n")
-            self.assertRegex(stored.stderr.decode(), r"\Agates: \d+ before, \d+ after; latches: \d+ before, \d+ after\n")
+            self.assertRegex(
+                stored.stderr.decode(), r"\Agates: \d+ before, \d+ after; latches: \d+ before, \d+ after\n"
+            )
 
     def test_where_the_program_gives_none_the_circuit_stays(self):
         spec = self.file("it.hoa", AUTOMATON)
         wanted = self.tool("synth", spec)
-        for said, status, told in (("fault 24 Memory\\n", 1, "fault 24 Memory"), ("loses\\n-\\n0\\n", 0, "loses"), ("?", 3, "the program ended with status 3 and no answer of psyn")):
+        for said, status, told in (
+            ("fault 24 Memory\\n", 1, "fault 24 Memory"),
+            ("loses\\n-\\n0\\n", 0, "loses"),
+            ("?", 3, "the program ended with status 3 and no answer of psyn"),
+        ):
             done = self.tool("synth", "--small", spec, environment=self.another(said, status))
             self.assertEqual((done.stdout, done.returncode), (wanted.stdout, 10), done.stderr)
             self.assertIn(f"psyn: the circuit stays as it is: shrink: {told}", done.stderr.decode())
 
     def test_inputs_that_it_does_not_need_are_named(self):
         spec = self.file("it.hoa", AUTOMATON)
-        for literal, said in ((1, "in this controller some outputs never change: g is 1\nno output of this controller depends on r\n"), (2, "")):
+        for literal, said in (
+            (1, "in this controller some outputs never change: g is 1\nno output of this controller depends on r\n"),
+            (2, ""),
+        ):
             small = f"aag 1 1 0 1 0\n2\n{literal}\ni0 r\no0 g\n"
             done = self.tool("synth", "--small", spec, environment=self.another(small.replace("\n", "\\n")))
             sizes = "gates: 0 before, 0 after; latches: 0 before, 0 after\n"
@@ -152,7 +181,9 @@ class Told(OnCircuits):
         self.parts = self.file("it.parts", CONFLICT.encode())
 
     def test_synth_of_parts_and_core_end_with_them(self):
-        for command in (["synth", "--parts"], ["synth", "--parts", "-o", "out"], ["synth", "--parts", "--small"], ["core"]):
+        for command in (
+            ["synth", "--parts"], ["synth", "--parts", "-o", "out"], ["synth", "--parts", "--small"], ["core"]
+        ):
             said = self.tool(*command, self.parts).stderr.decode()
             self.assertTrue(said.endswith(CONFLICT_TOLD), said)
             self.assertEqual(self.tool(*command, "--quiet", self.parts).stderr, b"")
@@ -190,23 +221,44 @@ class Told(OnCircuits):
             ("aag 1 1 0 3 0\n2\n1\n0\n1\no0 a\no1 b\no2 c\n", ["it: a and c are always 1, b is always 0"]),
             ("aag 1 1 0 3 0\n2\n1\n1\n1\no0 a\no1 b\no2 c\n", ["it: a, b and c are always 1"]),
             ("aag 2 1 1 2 0\n2\n4 5\n5\n0\ni0 g\no0 a\no1 b\n", ["it: a is 1 and 0 in turn, 1 first, b is always 0"]),
-            ("aag 2 1 1 2 0\n2\n4 2 1\n4\n3\ni0 g\no0 a\no1 b\n", ["it: a is what g was one step before (1 in the first step), b is the opposite of g of the same step"]),
+            (
+                "aag 2 1 1 2 0\n2\n4 2 1\n4\n3\ni0 g\no0 a\no1 b\n",
+                ["it: a is what g was one step before (1 in the first step), b is the opposite of g of the same step"],
+            ),
             ("aag 0 0 0 0 0\n", ["it: nothing, since it has nothing to say"]),
             (
                 "aag 4 2 1 2 1\n2\n4\n6 9\n9\n1\n8 3 7\ni0 g\ni1 h\no0 a\no1 l0\n",
-                ["it:", "  a = g | l0_2", "  l0 is always 1", "  l0_2 is what a was one step before (0 in the first step)"],
+                [
+                    "it:",
+                    "  a = g | l0_2",
+                    "  l0 is always 1",
+                    "  l0_2 is what a was one step before (0 in the first step)",
+                ],
             ),
             (
                 "aag 5 2 1 1 2\n2\n4\n6 11\n8\n8 3 6\n10 2 7\ni0 g\ni1 h\no0 a\n",
-                ["it:", "  a = !g & l0", "  l0 is 0 in the first step, and then what this was one step before: !g | l0"],
+                [
+                    "it:",
+                    "  a = !g & l0",
+                    "  l0 is 0 in the first step, and then what this was one step before: !g | l0",
+                ],
             ),
             (
                 "aag 4 1 1 3 1\n2\n4 9\n4\n9\n4\n8 3 5\ni0 g\no0 a\no1 b\no2 c\n",
-                ["it:", "  a is what b was one step before (0 in the first step)", "  b = g | a", "  c is what b was one step before (0 in the first step)"],
+                [
+                    "it:",
+                    "  a is what b was one step before (0 in the first step)",
+                    "  b = g | a",
+                    "  c is what b was one step before (0 in the first step)",
+                ],
             ),
             (
                 "aag 5 1 2 1 1\n2\n4 7\n6 10\n4\n10 2 7\ni0 g\no0 a\n",
-                ["it:", "  a is 0 in the first step, and then what this was one step before: !l1", "  l1 is 0 in the first step, and then what this was one step before: g & !l1"],
+                [
+                    "it:",
+                    "  a is 0 in the first step, and then what this was one step before: !l1",
+                    "  l1 is 0 in the first step, and then what this was one step before: g & !l1",
+                ],
             ),
         ):
             self.assertEqual(telling.lines(circuit.read(text), "it:"), lines)

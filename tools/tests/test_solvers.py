@@ -11,7 +11,9 @@ from psyntool.texts import game
 from tests import improving
 from tests.tool import AUTOMATON, OnFiles
 
-SOLVER, ERRING = (os.path.join(os.path.dirname(os.path.abspath(__file__)), name) for name in ("improving.py", "erring.py"))
+SOLVER, ERRING = (
+    os.path.join(os.path.dirname(os.path.abspath(__file__)), name) for name in ("improving.py", "erring.py")
+)
 # The number of random games whose solutions `judge` is asked about. Of every five solutions, four are changed.
 COUNT = 1000
 # Player 0 can cycle through vertices 0 and 1, or move on to 2, whose self-loop it wins; player 0 loses at vertex 3.
@@ -20,14 +22,18 @@ GAME = b'0 1 0 1,0 "a";\n1 2 1 0,2;\n2 4 0 2;\n3 1 1 3,0 "d";\n'
 
 def by(word=""):
     """The command line of the solver or, if `word` is given, of the solver that makes the named mistake."""
-    return f"{shlex.quote(sys.executable)} -B {shlex.quote(ERRING if word else SOLVER)} {{game}} {{solution}} {word}".strip()
+    run = shlex.join([sys.executable, "-B", ERRING if word else SOLVER])
+    return f"{run} {{game}} {{solution}} {word}".strip()
 
 
 def small(seed):
     """The text of a random small game."""
     draw = random.Random(seed)
     count = draw.randint(2, 12)
-    rows = [(draw.randrange(6), draw.randrange(2), [draw.randrange(count) for _ in range(draw.randint(1, 3))]) for _ in range(count)]
+    rows = [
+        (draw.randrange(6), draw.randrange(2), [draw.randrange(count) for _ in range(draw.randint(1, 3))])
+        for _ in range(count)
+    ]
     return families.game_of(rows).text().encode()
 
 
@@ -38,7 +44,11 @@ def is_right(read, entries):
     for vertex in read.vertices:
         winner, move = entries[vertex.identity]
         remaining[vertex.identity] = [move] if vertex.owner == winner else list(vertex.successors)
-        if move not in vertex.successors and vertex.owner == winner or any(entries[to][0] != winner for to in remaining[vertex.identity]):
+        if (
+            move not in vertex.successors
+            and vertex.owner == winner
+            or any(entries[to][0] != winner for to in remaining[vertex.identity])
+        ):
             return False
     priorities = {vertex.identity: vertex.priority for vertex in read.vertices}
     return not any(
@@ -125,7 +135,9 @@ class Solving(OnFiles):
             read = game.read(small(seed).decode())
             solved = improving.solve(improving.read(read.text()))
             entries = changed(draw, read, solved) if seed % 5 else solved
-            text = "".join(f"{v} {winner}{'' if move is None else f' {move}'};\n" for v, (winner, move) in entries.items())
+            text = "".join(
+                f"{v} {winner}{'' if move is None else f' {move}'};\n" for v, (winner, move) in entries.items()
+            )
             answer = ask(f"judge\n{read.text()}%%\n{text}".encode())
             right = is_right(read, entries)
             counts[right] += 1
@@ -145,10 +157,17 @@ class Erring(OnFiles):
         done = self.tool("solve", "--by", by("move"), "--picture", picture, path)
         self.assertEqual((done.stdout, done.returncode), (b"fault 40 BadCycle 0\n", 1))
         told = [
-            "by the solution of python player 0 wins these vertices; it loses the cycle, whose greatest priority 1 is odd:",
+            "by the solution of python player 0 wins these vertices; it loses the cycle, "
+            "whose greatest priority 1 is odd:",
             '  vertex 0 "a", priority 1: player 0 moves to 0',
         ]
-        self.assertEqual([line.replace(os.path.basename(sys.executable), "python") for line in done.stderr.decode().splitlines()[:2]], told)
+        self.assertEqual(
+            [
+                line.replace(os.path.basename(sys.executable), "python")
+                for line in done.stderr.decode().splitlines()[:2]
+            ],
+            told,
+        )
         self.assertTrue(done.stderr.endswith(b"lost.dot draws it\n"))
         with open(picture, encoding="utf-8") as file:
             dot = file.read()
@@ -157,7 +176,9 @@ class Erring(OnFiles):
 
     def test_an_erring_solver_makes_no_circuit(self):
         automaton, picture = self.file("automaton", AUTOMATON), os.path.join(self.room, "lost.dot")
-        done = self.tool("synth", "--by", by("move"), "-o", os.path.join(self.room, "out"), "--picture", picture, automaton)
+        done = self.tool(
+            "synth", "--by", by("move"), "-o", os.path.join(self.room, "out"), "--picture", picture, automaton
+        )
         self.assertEqual((done.stdout[:17], done.returncode), (b"fault 40 BadCycle", 1))
         self.assertRegex(done.stderr.decode(), r'vertex \d+ "1:[01]", priority 0: player 0 moves to ')
         with open(picture, encoding="utf-8") as file:
@@ -169,15 +190,20 @@ class Erring(OnFiles):
 
     def test_what_is_wrong_is_told_by_names(self):
         cases = {
-            b"0 0; 1 0; 2 0 2; 3 1 3;": ("50 Move 0 -", 'player 0, who owns vertex 0 "a", is to win it without a move; its edges lead to 1, 0'),
-            b"1 0; 0 0 2; 2 0 2; 3 1 3;": ("50 Move 0 2", 'player 0, who owns vertex 0 "a", is to win it by a move to 2; its edges lead to 1, 0'),
+            b"0 0; 1 0; 2 0 2; 3 1 3;": (
+                "50 Move 0 -", 'player 0, who owns vertex 0 "a", is to win it without a move; its edges lead to 1, 0'
+            ),
+            b"1 0; 0 0 2; 2 0 2; 3 1 3;": (
+                "50 Move 0 2", 'player 0, who owns vertex 0 "a", is to win it by a move to 2; its edges lead to 1, 0'
+            ),
             b"0 0 1; 1 0; 2 1; 3 1 3;": (
                 "51 Escape 1 2",
                 "player 0 is to win vertex 1, but player 1 can move from there to vertex 2, which player 1 is to win",
             ),
             b"0 0 1; 1 0; 2 0 2; 3 1 0;": (
                 "51 Escape 3 0",
-                'player 1 is to win vertex 3 "d", but player 1 moves from there to vertex 0 "a", which player 0 is to win',
+                'player 1 is to win vertex 3 "d", but player 1 moves from there to vertex 0 "a", '
+                'which player 0 is to win',
             ),
             b"0 0 1; 2 0 2;": ("54 OtherGame at 14", "vertex 1 has no entry; 2 vertices have none"),
             b"0 0 1; 1 0; 2 0 2;": ("54 OtherGame at 19", 'vertex 3 "d" has no entry'),
@@ -188,7 +214,9 @@ class Erring(OnFiles):
             b"0 0 1; # done": ("53 Syntax at 7", "'#' is no part of a solution"),
             b"Solved by zlk:\n0 0 1;": ("53 Syntax at 0", "'Solved' is no part of a solution"),
             b"0 2;": ("53 Syntax at 2", "the winner is 2, and should be 0 or 1"),
-            b"0 0 1 1;": ("53 Syntax at 6", "an entry has an id, a winner and at most one move, and this one has another number"),
+            b"0 0 1 1;": (
+                "53 Syntax at 6", "an entry has an id, a winner and at most one move, and this one has another number"
+            ),
             b"0 ;": ("53 Syntax at 2", "an entry ends before its winner"),
             b"0 0 1": ("53 Syntax at 6", "the text ends inside an entry"),
             b"paritysol 3;": ("53 Syntax at 13", "there is no entry"),

@@ -30,7 +30,10 @@ class Specifications(OnFiles):
 
     def setUp(self):
         super().setUp()
-        for name, text in (("s.tlsf", HEAD + MAIN), ("grant.aag", GRANT), ("never.aag", NEVER), ("clocked.aag", CLOCKED), ("l.stim", b"-\n1\n"), ("spec.hoa", AUTOMATON)):
+        for name, text in (
+            ("s.tlsf", HEAD + MAIN), ("grant.aag", GRANT), ("never.aag", NEVER), ("clocked.aag", CLOCKED),
+            ("l.stim", b"-\n1\n"), ("spec.hoa", AUTOMATON),
+        ):
             self.file(name, text)
 
     def asked(self, *words):
@@ -67,28 +70,50 @@ class Specifications(OnFiles):
         answer, told, _ = self.asked("s.tlsf", "other.aag", "l.stim")
         self.assertEqual(answer, "fault 72 Symbols\n")
         self.assertIn("among the circuit's inputs: missing r; too many q", told)
-        self.assertIn("the symbols are those of a controller: ask without --env", self.asked("--env", "s.tlsf", "grant.aag", "l.stim")[1])
+        self.assertIn(
+            "the symbols are those of a controller: ask without --env",
+            self.asked("--env", "s.tlsf", "grant.aag", "l.stim")[1],
+        )
 
     def test_a_clock_is_left_out(self):
         self.file("two.stim", b"-\n01\n")
         answer, told, _ = self.asked("s.tlsf", "clocked.aag", "two.stim")
         self.assertEqual(answer, "satisfied stem 0 lap 1\n")
-        self.assertEqual(told[0], "clocked.aag: input clk left out: the specification does not mention it, and nothing reads it")
+        self.assertEqual(
+            told[0], "clocked.aag: input clk left out: the specification does not mention it, and nothing reads it"
+        )
 
     def test_a_text_of_another_kind_is_named(self):
-        self.assertIn("spec.hoa is an automaton; lasso wants SPECIFICATION CIRCUIT STIMULUS", self.asked("spec.hoa", "grant.aag", "l.stim")[1])
+        self.assertIn(
+            "spec.hoa is an automaton; lasso wants SPECIFICATION CIRCUIT STIMULUS",
+            self.asked("spec.hoa", "grant.aag", "l.stim")[1],
+        )
         self.file("spec", HEAD + MAIN)
         told = self.tool("lasso", "spec", "grant.aag", "l.stim").stderr.decode()
         self.assertIn("spec is a specification; lasso wants SPECIFICATION CIRCUIT STIMULUS", told)
 
     def test_it_is_known_by_its_ending(self):
         self.assertEqual(self.tool("lasso", "s.tlsf", "grant.aag", "l.stim").stdout, b"satisfied stem 0 lap 1\n")
-        self.assertEqual(self.tool("each", "lasso", "s.tlsf", "never.aag", "l.stim").stdout, b"s.tlsf never.aag l.stim: violated stem 0 lap 1\n")
+        self.assertEqual(
+            self.tool("each", "lasso", "s.tlsf", "never.aag", "l.stim").stdout,
+            b"s.tlsf never.aag l.stim: violated stem 0 lap 1\n",
+        )
         self.assertEqual(self.tool("verify", "s.tlsf", "grant.aag").stdout, b"wins\n")
-        self.assertEqual(self.tool("each", "verify", "s.tlsf", "grant.aag", "spec.hoa", "grant.aag").stdout.count(b"wins\n"), 2)
-        for words in (["verify", "--moore", "s.tlsf", "grant.aag"], ["each", "verify", "--moore", "s.tlsf", "grant.aag"]):
+        self.assertEqual(
+            self.tool("each", "verify", "s.tlsf", "grant.aag", "spec.hoa", "grant.aag").stdout.count(b"wins\n"), 2
+        )
+        for words in (
+            ["verify", "--moore", "s.tlsf", "grant.aag"], ["each", "verify", "--moore", "s.tlsf", "grant.aag"]
+        ):
             done = self.tool(*words)
-            self.assertEqual((done.stdout, done.stderr, done.returncode), (b"", b"psyn: verify --tlsf can't have --moore: a specification says that itself, by SEMANTICS: Moore\n", 2))
+            self.assertEqual(
+                (done.stdout, done.stderr, done.returncode),
+                (
+                    b"",
+                    b"psyn: verify --tlsf can't have --moore: a specification says that itself, by SEMANTICS: Moore\n",
+                    2,
+                ),
+            )
 
     def test_where_a_circuit_loses_the_letters_are_shown_by_names(self):
         done = self.tool("verify", "--check", "--stimulus", "lost.stim", "s.tlsf", "never.aag")
@@ -106,22 +131,43 @@ class Specifications(OnFiles):
         self.assertEqual((done.stderr, done.returncode), (b"gates: 3 before, 0 after; latches: 2 before, 0 after\n", 0))
         self.assertEqual(self.tool("verify", "s.tlsf", "-", given=done.stdout).stdout, b"wins\n")
         self.assertIn(b'"verdict": "wins"', self.tool("shrink", "--json", "s.tlsf", late).stdout)
-        for words in (["s.tlsf", "never.aag"], ["--check", "s.tlsf", "never.aag"], ["--moore", "s.tlsf", late], ["--env", "s.tlsf", late]):
+        for words in (
+            ["s.tlsf", "never.aag"], ["--check", "s.tlsf", "never.aag"], ["--moore", "s.tlsf", late],
+            ["--env", "s.tlsf", late],
+        ):
             one, other = (self.tool(command, *words) for command in ("shrink", "verify"))
-            self.assertEqual((one.stdout, one.stderr.replace(b"shrink", b"verify"), one.returncode), (other.stdout, other.stderr, other.returncode))
+            self.assertEqual(
+                (one.stdout, one.stderr.replace(b"shrink", b"verify"), one.returncode),
+                (other.stdout, other.stderr, other.returncode),
+            )
 
     def test_what_it_refuses(self):
         answer, told, status = self.asked("s.tlsf", "grant.aag")
-        self.assertEqual((answer, told, status), ("", ["psyn: lasso --tlsf reads SPECIFICATION CIRCUIT STIMULUS, and got 2 files"], 2))
+        self.assertEqual(
+            (answer, told, status),
+            ("", ["psyn: lasso --tlsf reads SPECIFICATION CIRCUIT STIMULUS, and got 2 files"], 2),
+        )
         for words, said in (
-            (["lasso", "--set", "n=2", "spec.hoa", "grant.aag", "l.stim"], "lasso --set wants a specification, as --tlsf or a name that ends with .tlsf says"),
-            (["lasso", "--set", "n=2", "s.tlsf", "grant.aag", "l.stim"], "s.tlsf: --set NAME=VALUE: there is no parameter n; the specification has none"),
+            (
+                ["lasso", "--set", "n=2", "spec.hoa", "grant.aag", "l.stim"],
+                "lasso --set wants a specification, as --tlsf or a name that ends with .tlsf says",
+            ),
+            (
+                ["lasso", "--set", "n=2", "s.tlsf", "grant.aag", "l.stim"],
+                "s.tlsf: --set NAME=VALUE: there is no parameter n; the specification has none",
+            ),
         ):
             done = self.tool(*words)
             self.assertEqual((done.stdout, done.stderr.decode(), done.returncode), (b"", f"psyn: {said}\n", 2))
 
     def test_the_full_form_is_written_out(self):
-        full = HEAD + b"GLOBAL { PARAMETERS { n = 2; } }\n" + MAIN.replace(b"r;", b"r[n];").replace(b"g;", b"g[n];").replace(b"G (r -> F g)", b"&&[i IN {0, 1 .. n - 1}] G (r[i] -> within 1 g[i])")
+        full = (
+            HEAD
+            + b"GLOBAL { PARAMETERS { n = 2; } }\n"
+            + MAIN.replace(b"r;", b"r[n];").replace(b"g;", b"g[n];").replace(
+                b"G (r -> F g)", b"&&[i IN {0, 1 .. n - 1}] G (r[i] -> within 1 g[i])"
+            )
+        )
         self.file("full.tlsf", full)
         done = self.tool("synth", "--set", "n=1", "full.tlsf")
         self.assertEqual((done.stdout.split(b"\n")[0], done.returncode), (b"REALIZABLE", 10))
@@ -139,9 +185,14 @@ class Specifications(OnFiles):
         self.assertIn(b"// psyn verify says that this circuit wins, by s.tlsf.\n", done.stdout)
         self.assertIn(b"  // - G (r -> F g)\n", done.stdout)
         done = self.tool("verilog", "never.aag", "s.tlsf")
-        self.assertEqual((done.stdout, done.stderr, done.returncode), (b"", b"psyn: never.aag loses, so there is no module: `verify` tells a counterexample\n", 1))
+        self.assertEqual(
+            (done.stdout, done.stderr, done.returncode),
+            (b"", b"psyn: never.aag loses, so there is no module: `verify` tells a counterexample\n", 1),
+        )
         done = self.tool("verilog", "--moore", "grant.aag", "s.tlsf")
-        self.assertEqual((done.stderr, done.returncode), (b"psyn: s.tlsf says itself who moves first, without --moore\n", 2))
+        self.assertEqual(
+            (done.stderr, done.returncode), (b"psyn: s.tlsf says itself who moves first, without --moore\n", 2)
+        )
 
 
 class Synthesis(OnFiles):
@@ -170,7 +221,10 @@ class Synthesis(OnFiles):
 
     def test_a_sentence_that_is_long_or_deep_leaves_no_traceback(self):
         self.file("never.aag", NEVER)
-        for formula in (" -> ".join(["r"] * 500) + " -> g", "X " * 250 + "g", "(" * 250 + "g" + ")" * 250, " && ".join(["(r -> X g)"] * 200)):
+        for formula in (
+            " -> ".join(["r"] * 500) + " -> g", "X " * 250 + "g", "(" * 250 + "g" + ")" * 250,
+            " && ".join(["(r -> X g)"] * 200),
+        ):
             self.file("long.tlsf", HEAD + MAIN.replace(b"G (r -> F g)", formula.encode() + b"; G F g"))
             for words in (["verify", "long.tlsf", "never.aag"], ["compose", "--guarantee", formula, "--outs", "g"]):
                 done = self.tool(*words)
@@ -179,7 +233,15 @@ class Synthesis(OnFiles):
     def test_no_other_flag_stands_beside_it(self):
         for flag in ("--full", "--moore", "--compact"):
             done = self.tool("synth", flag, "s.tlsf")
-            self.assertEqual((done.stdout, done.stderr.decode(), done.returncode), (b"", f"psyn: synth --tlsf can't have {flag}{': a specification says that itself, by SEMANTICS: Moore' * (flag == '--moore')}\n", 2))
+            self.assertEqual(
+                (done.stdout, done.stderr.decode(), done.returncode),
+                (
+                    b"",
+                    "psyn: synth --tlsf can't have "
+                    f"{flag}{': a specification says that itself, by SEMANTICS: Moore' * (flag == '--moore')}\n",
+                    2,
+                ),
+            )
 
 
 class Reading(unittest.TestCase):
@@ -189,7 +251,10 @@ class Reading(unittest.TestCase):
         self.assertIsNone(kind_of(b"/* */" * 800 + b"INFORMAL"))
 
     def test_names_are_read_behind_comments_and_strings(self):
-        text = 'INFO { TITLE: "INPUTS { x }" /* INPUTS { z } /* */ */ } MAIN { // OUTPUTS {\n INPUTS { a; b\'@ } OUTPUTS { c; } ASSUME { a } }'
+        text = (
+            'INFO { TITLE: "INPUTS { x }" /* INPUTS { z } /* */ */ } MAIN { // OUTPUTS {\n INPUTS { a; '
+            'b\'@ } OUTPUTS { c; } ASSUME { a } }'
+        )
         self.assertEqual(specification.owners(text), [["a", "b'@"], ["c"]])
         self.assertEqual(specification.owners("INFO { } MAIN { }"), [[], []])
         with self.assertRaises(Unreadable):

@@ -127,34 +127,78 @@ class OfTheTool(OnFiles):
         self.assertEqual(self.tool("synth", *words[:3], "--outs", "g", "--assume", "GF r").returncode, 20)
         text = self.tool("tlsf", "--strict", "--moore", *words, "--formula", "g U r").stdout.decode()
         self.assertIn("  SEMANTICS:   Moore,Strict\n", text)
-        self.assertEqual(text[text.index("  REQUIRE") :], "  REQUIRE {\n    F !r;\n  }\n  ASSERT {\n    g <-> r;\n    F !g;\n  }\n  GUARANTEE {\n    g U r;\n  }\n}\n")
+        self.assertEqual(
+            text[text.index("  REQUIRE") :],
+            "  REQUIRE {\n    F !r;\n  }\n  ASSERT {\n    g <-> r;\n    F !g;\n  }\n  GUARANTEE {\n    "
+            "g U r;\n  }\n}\n",
+        )
 
     def test_what_is_refused_in_one_line(self):
         for words, told in (
             (["--formula", "G (r -> F h)", "--ins", "r", "--outs", "g"], "'G (r -> F h)': column 11: there is no `h`"),
-            (["--formula", "G (r -> F g", "--outs", "g"], "'G (r -> F g': column 12: `)` is expected here, and this is the end of the text"),
-            (["--formula", "G (r -> F g) r", "--outs", "g"], "'G (r -> F g) r': column 14: the end of the sentence is expected here, and this is `r`"),
-            (["--guarantee", "G g", "G (r $ g)", "--outs", "g"], "'G (r $ g)': column 6: no word, number or sign of a formula begins with `$`"),
-            (["--formula", "G (r -> next g)", "--outs", "g"], "'G (r -> next g)': column 14: `)` is expected here, and this is `g`; for `next` write `X`"),
-            (["--formula", "always (r -> g)", "--outs", "g"], "'always (r -> g)': column 1: there is no function `always`; for `always` write `G`"),
-            (["--formula", "G (r -> within 3 steps g)", "--outs", "g"], "'G (r -> within 3 steps g)': column 24: `)` is expected here, and this is `g`; leave `steps` out"),
-            (["--formula", "G (Y r -> g)", "--outs", "g"], "'G (Y r -> g)': column 6: `)` is expected here, and this is `r`; no word speaks of the past, as `Y` does elsewhere: write the formula one step earlier, with `X`"),
+            (
+                ["--formula", "G (r -> F g", "--outs", "g"],
+                "'G (r -> F g': column 12: `)` is expected here, and this is the end of the text",
+            ),
+            (
+                ["--formula", "G (r -> F g) r", "--outs", "g"],
+                "'G (r -> F g) r': column 14: the end of the sentence is expected here, and this is `r`",
+            ),
+            (
+                ["--guarantee", "G g", "G (r $ g)", "--outs", "g"],
+                "'G (r $ g)': column 6: no word, number or sign of a formula begins with `$`",
+            ),
+            (
+                ["--formula", "G (r -> next g)", "--outs", "g"],
+                "'G (r -> next g)': column 14: `)` is expected here, and this is `g`; for `next` write `X`",
+            ),
+            (
+                ["--formula", "always (r -> g)", "--outs", "g"],
+                "'always (r -> g)': column 1: there is no function `always`; for `always` write `G`",
+            ),
+            (
+                ["--formula", "G (r -> within 3 steps g)", "--outs", "g"],
+                "'G (r -> within 3 steps g)': column 24: `)` is expected here, and this is `g`; leave `steps` out",
+            ),
+            (
+                ["--formula", "G (Y r -> g)", "--outs", "g"],
+                "'G (Y r -> g)': column 6: `)` is expected here, and this is `r`; no word speaks of the past, "
+                "as `Y` does elsewhere: write the formula one step earlier, with `X`",
+            ),
             (["--formula", "G g"], "synth of sentences wants --outs NAME.., the controller's propositions"),
-            (["--formula", "G g", "--outs", "g,"], "--outs NAME..: 'g,' is no name of a proposition; names stand with blanks between them"),
+            (
+                ["--formula", "G g", "--outs", "g,"],
+                "--outs NAME..: 'g,' is no name of a proposition; names stand with blanks between them",
+            ),
             (["--formula", "G g", "--ins", "g", "--outs", "g"], "--ins NAME..: g stands twice in --ins and --outs"),
             (["--formula", "G g", "--outs", "g", "--full"], "synth --tlsf can't have --full"),
-            (["--formula", "G g", "--outs", "g", "--set", "n=1"], "synth --set wants a specification, as --tlsf or a name that ends with .tlsf says"),
+            (
+                ["--formula", "G g", "--outs", "g", "--set", "n=1"],
+                "synth --set wants a specification, as --tlsf or a name that ends with .tlsf says",
+            ),
         ):
             self.assertEqual(self.refused("synth", *words), told)
 
     def test_flags_that_would_say_nothing(self):
         self.file("s.tlsf", b"INFO { SEMANTICS: Mealy TARGET: Mealy } MAIN { OUTPUTS { g; } GUARANTEE { G g; } }\n")
         self.file("p.hoa", b'HOA: v1 Start: 0 AP: 1 "g" Acceptance: 0 t --BODY-- State: 0 [0] 0 --END--\n')
-        for words, flag in ((["tlsf", "--moore", "s.tlsf"], "--moore"), (["sane", "--outs", "g", "--", "s.tlsf"], "--outs"), (["synth", "s.tlsf", "--ins", "r"], "--ins")):
-            self.assertEqual(self.refused(*words), f"{words[0]} {flag} is for sentences on the command line: a specification says itself what it means")
+        for words, flag in (
+            (["tlsf", "--moore", "s.tlsf"], "--moore"),
+            (["sane", "--outs", "g", "--", "s.tlsf"], "--outs"),
+            (["synth", "s.tlsf", "--ins", "r"], "--ins"),
+        ):
+            self.assertEqual(
+                self.refused(*words),
+                f"{words[0]} {flag} is for sentences on the command line: a specification says itself what it means",
+            )
         said = "stands beside no parts: --guarantee takes a sentence, too, and --outs says whose the names are"
-        self.assertEqual(self.refused("synth", "--formula", "G g", "--guarantee", "p.hoa", "--outs", "g"), f"synth --formula {said}")
-        self.assertEqual(self.refused("compose", "--guarantee", "p.hoa", "--outs", "g", "--ins", "r"), "compose has no flag --ins: it is for synth, core, sane, tlsf")
+        self.assertEqual(
+            self.refused("synth", "--formula", "G g", "--guarantee", "p.hoa", "--outs", "g"), f"synth --formula {said}"
+        )
+        self.assertEqual(
+            self.refused("compose", "--guarantee", "p.hoa", "--outs", "g", "--ins", "r"),
+            "compose has no flag --ins: it is for synth, core, sane, tlsf",
+        )
 
     def test_a_name_that_no_flag_declares_is_an_input(self):
         done = self.tool("tlsf", "--formula", "G (closed -> F open)", "--outs", "open")

@@ -17,8 +17,8 @@ from upkeep.sweeps import TOP
 
 
 def accepts(moves, lasso):
-    """Whether a part, whose moves are given, accepts a lasso: it never breaks and, if it is a Büchi part, is met again and
-    again."""
+    """Whether a part, whose moves are given, accepts a lasso: it never breaks and, if it is a Büchi part, is met again
+    and again."""
     letters = [{place for place, bit in enumerate(letter) if bit} for letter in lasso.letters]
     state, place, seen, met = moves.start, 0, {}, []
     while (state, place) not in seen:
@@ -52,7 +52,10 @@ class Meanings(unittest.TestCase):
         self.assertGreater(min(told.values()), 10, told)
 
     def test_which_sentences_are_no_parts(self):
-        for text, is_part in (("GF a -> GF b", False), ("FG a", False), ("G (a -> F b)", True), ("a U (b U c)", True), ("F G a | G b", False), ("(a W b) W F c", True), ("GF a & (a -> F b)", True)):
+        for text, is_part in (
+            ("GF a -> GF b", False), ("FG a", False), ("G (a -> F b)", True), ("a U (b U c)", True),
+            ("F G a | G b", False), ("(a W b) W F c", True), ("GF a & (a -> F b)", True),
+        ):
             formula, names = spoken.read(text)
             try:
                 spoken.part_of(text, "", formula, names)
@@ -76,27 +79,47 @@ class OfTheTool(OnFiles):
 
     def test_beside_automata(self):
         answered = f"{TOP}/examples/parts/answered.hoa"
-        self.file("l.parts", f"--outs g h\n# A sentence above.\n--guarantee 'G !(g & h)'\n--guarantee {answered} --as request=r answer=g\n--guarantee 'G (s -> within 1 h)' 'G (g -> !s)'\n".encode())
+        self.file(
+            "l.parts",
+            "--outs g h\n# A sentence above.\n--guarantee 'G !(g & h)'\n"
+            f"--guarantee {answered} --as request=r answer=g\n"
+            "--guarantee 'G (s -> within 1 h)' 'G (g -> !s)'\n".encode(),
+        )
         done = self.tool("core", "l.parts")
         self.assertEqual((done.stdout.splitlines()[0], done.returncode), (b"UNREALIZABLE", 20))
         self.assertIn(b"  G (g -> !s)", done.stdout)
         self.assertIn(b"  answered(r,g)", done.stdout)
-        self.assertEqual(self.tool("synth", "--guarantee", "G (r -> X g)", answered, "--as", "request=r", "answer=h", "--outs", "g", "h").returncode, 10)
+        self.assertEqual(
+            self.tool(
+                "synth", "--guarantee", "G (r -> X g)", answered, "--as", "request=r", "answer=h", "--outs", "g", "h"
+            ).returncode,
+            10,
+        )
 
     def test_what_is_refused_with_its_line(self):
         self.file("l.parts", b"--outs g\n--guarantee 'G (r -> F g'\n")
-        self.assertEqual(self.refused("compose", "l.parts"), "l.parts:2: 'G (r -> F g': column 12: `)` is expected here, and this is the end of the text")
+        self.assertEqual(
+            self.refused("compose", "l.parts"),
+            "l.parts:2: 'G (r -> F g': column 12: `)` is expected here, and this is the end of the text",
+        )
         self.file("l.parts", b"--outs g\n\n--guarantee 'FG g'\n")
         self.assertEqual(
             self.refused("compose", "l.parts"),
-            "l.parts:3: 'FG g': as a part it would have to say what holds for ever at last, and a part can't: give the specification to `synth` as a whole",
+            "l.parts:3: 'FG g': as a part it would have to say what holds for ever at last, and a part can't: "
+            "give the specification to `synth` as a whole",
         )
         self.file("l.parts", b"--outs g\n--guarantee 'G g' --as g=h\n")
-        self.assertEqual(self.refused("compose", "l.parts"), "l.parts:2: 'G g': --as renames propositions of files; write the sentence with the names that are wanted")
+        self.assertEqual(
+            self.refused("compose", "l.parts"),
+            "l.parts:2: 'G g': --as renames propositions of files; write the sentence with the names that are wanted",
+        )
         said = "there is no file g; a sentence that is one name stands in parentheses, '(g)'"
         self.assertEqual(self.refused("compose", "--guarantee", "g", "--outs", "g"), said)
         many = " & ".join(f"p{number}" for number in range(11))
-        self.assertIn("it mentions 11 propositions, and as a part at most 10", self.refused("compose", "--guarantee", f"G ({many})", "--outs", "p0"))
+        self.assertIn(
+            "it mentions 11 propositions, and as a part at most 10",
+            self.refused("compose", "--guarantee", f"G ({many})", "--outs", "p0"),
+        )
 
     def test_a_specification_in_temporal_logic(self):
         self.file("s.tlsf", ASSUMING)
@@ -113,24 +136,40 @@ class OfTheTool(OnFiles):
 
     def test_a_specification_that_no_parts_say(self):
         self.file("s.tlsf", ASSUMING.replace(b"SEMANTICS: Mealy", b"SEMANTICS: Mealy,Strict"))
-        self.assertEqual(self.refused("compose", "s.tlsf"), "s.tlsf: semantics are strict, and those of parts are not: give the specification to `synth` as a whole")
+        self.assertEqual(
+            self.refused("compose", "s.tlsf"),
+            "s.tlsf: semantics are strict, and those of parts are not: give the specification to `synth` as a whole",
+        )
         self.file("s.tlsf", ASSUMING.replace(b"ASSUME", b"PRESET { g; } ASSUME"))
         self.assertIn("PRESET binds even where an assumption fails", self.refused("compose", "s.tlsf"))
         self.file("s.tlsf", ASSUMING.replace(b"G F ready", b"F G ready"))
         self.assertTrue(self.refused("compose", "s.tlsf").startswith("s.tlsf: line 5: as a part it would have to say"))
 
     def test_sentences_that_are_no_parts_are_shown_by_one_automaton(self):
-        said = "s.tlsf: line 5: as a part it would have to say what holds for ever at last, and a part can't: one automaton of all sentences is shown\n"
+        said = (
+            "s.tlsf: line 5: as a part it would have to say what holds for ever at last, and a part can't: "
+            "one automaton of all sentences is shown\n"
+        )
         for order in (b"Mealy", b"Moore"):
             self.file("s.tlsf", PERSISTENT.replace(b"Mealy", order))
             self.assertEqual(self.tool("synth", "--force", "-o", "s", "s.tlsf").returncode, 10)
             for words in (["page", "s.tlsf"], ["page", "s", "s.tlsf"], ["page", "--circuit", "s.aag", "s.tlsf"]):
                 done = self.tool(*words)
                 wanted = "" if words == ["page", "s", "s.tlsf"] else said  # synth has written the automaton
-                self.assertEqual((done.returncode, done.stderr.decode().replace(" (written out)", "")), (0, wanted), words)
-                for told in ("What is wanted, in 2 parts", "guaranteed, but no part by itself: <code>FG dead -&gt; FG alarm</code>", "guaranteed:  <code>G (dead -&gt; within 1 alarm)</code>", "</html>"):
+                self.assertEqual(
+                    (done.returncode, done.stderr.decode().replace(" (written out)", "")), (0, wanted), words
+                )
+                for told in (
+                    "What is wanted, in 2 parts",
+                    "guaranteed, but no part by itself: <code>FG dead -&gt; FG alarm</code>",
+                    "guaranteed:  <code>G (dead -&gt; within 1 alarm)</code>",
+                    "</html>",
+                ):
                     self.assertIn(told, done.stdout.decode())
-            self.assertIn(f"In each step the {'controller' if order == b'Moore' else 'environment'} moves first.".encode(), done.stdout)
+            self.assertIn(
+                f"In each step the {'controller' if order == b'Moore' else 'environment'} moves first.".encode(),
+                done.stdout,
+            )
             self.assertTrue(self.tool("show", "s.tlsf").stdout.startswith(b"digraph automaton {"))
             self.assertIn(b"the loop begins", self.tool("play", "--auto", "s", "s.tlsf").stdout)
 
@@ -140,7 +179,9 @@ class OfTheTool(OnFiles):
         self.file("s.tlsf", PERSISTENT)
         done = self.tool("page", "s.tlsf", environment={"PSYN": fake})
         self.assertEqual((done.stdout, done.returncode, done.stderr.count(b"\n")), (b"", 2, 1), done.stderr)
-        self.assertIn(b"give the specification to `synth` as a whole; `translate` answers: fault 75 NotTranslated", done.stderr)
+        self.assertIn(
+            b"give the specification to `synth` as a whole; `translate` answers: fault 75 NotTranslated", done.stderr
+        )
 
 
 PERSISTENT = b"""INFO { SEMANTICS: Mealy TARGET: Mealy }

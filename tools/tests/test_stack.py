@@ -26,7 +26,9 @@ class Stack(unittest.TestCase):
         self.assertEqual(lines, [["top", "left", "right"], ["left", "low"], ["right", "low"], ["low"]])
 
     def test_the_drawing_alone_is_put_in_place(self):
-        self.assertEqual(stack.redrawn("a\n```text crates\nold\n```\nb\n", "low:\n"), "a\n```text crates\nlow\n```\nb\n")
+        self.assertEqual(
+            stack.redrawn("a\n```text crates\nold\n```\nb\n", "low:\n"), "a\n```text crates\nlow\n```\nb\n"
+        )
 
     def test_what_is_no_list_is_refused(self):
         for text in ("top low\n", "low:\nlow:\n", "one: two\ntwo: one\n"):

@@ -57,14 +57,20 @@ class Sweeps(unittest.TestCase):
         ways = [(way, number) for way, number, _, _ in wrong]
         # The program makes three reads and a write: it treats a failed read as the end of the input, and repeats an
         # interrupted read.
-        self.assertEqual(ways, [(way, number) for way in ("fails", "interrupted") for number in (1, 2, 3, 4)] + [("one", 0), ("one", 4), ("none", 4)])
+        self.assertEqual(
+            ways,
+            [(way, number) for way in ("fails", "interrupted") for number in (1, 2, 3, 4)]
+            + [("one", 0), ("one", 4), ("none", 4)],
+        )
         self.assertEqual(spoiled, 4 + 4 + 5 + 1)
 
     def test_each_example_meets_each_spoiled_call(self):
         folder, path = os.path.join(sweeps.TOP, "examples"), program()
         inputs = sweeps.inputs_of(folder)
         with sweeps.library("refuse_stream.c") as shim:
-            swept = sweeps.at_once(lambda name: streams.sweep(path, shim, os.path.join(folder, name), inputs[name]), inputs)
+            swept = sweeps.at_once(
+                lambda name: streams.sweep(path, shim, os.path.join(folder, name), inputs[name]), inputs
+            )
         counts.ran("sweeps", "examples with each read and write spoiled", len(swept))
         self.assertEqual([(name, wrong) for name, (_, wrong) in zip(inputs, swept) if wrong], [])
 
@@ -73,7 +79,9 @@ class Sweeps(unittest.TestCase):
         inputs = sweeps.inputs_of(folder)
         with sweeps.library("refuse_stream.c") as shim:
             for name in ("closed-escape-repaired", "synth-full"):
-                done, wrong = streams.sweep_by_bytes(path, shim, os.path.join(folder, name), inputs[name], sweeps.at_once)
+                done, wrong = streams.sweep_by_bytes(
+                    path, shim, os.path.join(folder, name), inputs[name], sweeps.at_once
+                )
                 runs += done
                 self.assertEqual(wrong, [], name)
         counts.ran("sweeps", "runs byte by byte with a read or a write that fails", runs)
@@ -88,7 +96,9 @@ class Ends(unittest.TestCase):
     def test_one_byte_too_many_is_read_and_none_behind_it(self):
         with tempfile.TemporaryFile() as zeros:
             zeros.truncate(100_000_000)
-            done = subprocess.run([program()], stdin=zeros, stdout=subprocess.PIPE, timeout=streams.SECONDS, check=False)
+            done = subprocess.run(
+                [program()], stdin=zeros, stdout=subprocess.PIPE, timeout=streams.SECONDS, check=False
+            )
             self.assertEqual((done.stdout, done.returncode), streams.READ_FAULT)
             self.assertEqual(os.lseek(zeros.fileno(), 0, os.SEEK_CUR), 67_108_865)
 

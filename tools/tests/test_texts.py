@@ -8,14 +8,18 @@ import unittest
 from psyntool.files import Text, returns_at_line_ends
 from psyntool.kinds import Kind, kind_of
 from psyntool.program import path as program
-from psyntool.texts import Unreadable, automaton, binary, certificate, circuit, game, labels, report, solution, stimulus, vcd
+from psyntool.texts import (
+    Unreadable, automaton, binary, certificate, circuit, game, labels, report, solution, stimulus, vcd
+)
 from tests.tool import AUTOMATON, CERTIFICATE, CIRCUIT, GAME
 from upkeep.sweeps import TOP
 
 
 def read(body, names=3, extra=""):
     said = " ".join(f'"p{number}"' for number in range(names))
-    return automaton.read(f"HOA: v1 Start: 0 AP: {names} {said} controllable-AP: 1 {extra} Acceptance: 1 Inf(0) --BODY-- {body} --END--")
+    return automaton.read(
+        f"HOA: v1 Start: 0 AP: {names} {said} controllable-AP: 1 {extra} Acceptance: 1 Inf(0) --BODY-- {body} --END--"
+    )
 
 
 def is_met(label, true, made):
@@ -27,9 +31,15 @@ def a_circuit(chance):
     counts = inputs, latches, outputs, gates = [chance.randrange(5) for _ in range(4)]
     variables = chance.sample(range(1, 40), inputs + latches + gates)
     literals = [2 * variable for variable in variables]
-    rows = [[literal, *(chance.choice([0, 1, *literals[:place]]) ^ chance.randrange(2) for _ in range(2))] for place, literal in enumerate(literals)]
+    rows = [
+        [literal, *(chance.choice([0, 1, *literals[:place]]) ^ chance.randrange(2) for _ in range(2))]
+        for place, literal in enumerate(literals)
+    ]
     gate_rows = chance.sample(rows[inputs + latches :], gates)
-    latch_rows = [[literal, chance.choice([0, 1, *literals]), chance.randrange(2)] for literal in literals[inputs : inputs + latches]]
+    latch_rows = [
+        [literal, chance.choice([0, 1, *literals]), chance.randrange(2)]
+        for literal in literals[inputs : inputs + latches]
+    ]
     ends = [[chance.choice([0, 1, *literals]) ^ chance.randrange(2)] for _ in range(outputs)]
     lines = [["aag", 40, *counts], *([literal] for literal in literals[:inputs]), *latch_rows, *ends, *gate_rows]
     return "".join(" ".join(map(str, line)) + "\n" for line in lines)
@@ -124,7 +134,9 @@ class Labels(unittest.TestCase):
 class Automata(unittest.TestCase):
     def test_parts(self):
         made = automaton.read(AUTOMATON.decode())
-        self.assertEqual((made.names, made.controllable, made.acceptance, made.states), (("r", "g"), {1}, "Inf(0)", [0, 1]))
+        self.assertEqual(
+            (made.names, made.controllable, made.acceptance, made.states), (("r", "g"), {1}, "Inf(0)", [0, 1])
+        )
         self.assertEqual([made.title_of(state) for state in (0, 1)], ["0 off", "1"])
         self.assertEqual(made.owners(), [[(0, "r")], [(1, "g")]])
         self.assertEqual(made.edge_at(0, {0}).target, 1)
@@ -145,14 +157,27 @@ class Automata(unittest.TestCase):
             if done.returncode:
                 continue
             made = automaton.read(text.decode())
-            reached = {(edge.target, made.chain.priority(edge.marks)) for edges in made.edges.values() for edge in edges}
-            named = [vertex.name.split("/") for vertex in game.read(done.stdout.decode()).vertices if "/" in vertex.name]
+            reached = {
+                (edge.target, made.chain.priority(edge.marks)) for edges in made.edges.values() for edge in edges
+            }
+            named = [
+                vertex.name.split("/") for vertex in game.read(done.stdout.decode()).vertices if "/" in vertex.name
+            ]
             found = {(int(state), int(priority)) for state, priority in named if state != "sink"}
             with self.subTest(path):
                 self.assertLessEqual(found - {(made.start, 0)}, reached)
 
     def test_what_is_none(self):
-        for text in ("", "no", "HOA: v1", "HOA: v1 --BODY-- State: x", "HOA: v1 --BODY-- State: 0 [(0] 0 --END--", "HOA: v1 --BODY-- State: 0 [@a] 0 --END--", "HOA: v1 Alias: @a @b Alias: @b 0 --BODY-- --END--", "HOA: v1 Alias: @a 0 Alias: @a 0 --BODY-- --END--"):
+        for text in (
+            "",
+            "no",
+            "HOA: v1",
+            "HOA: v1 --BODY-- State: x",
+            "HOA: v1 --BODY-- State: 0 [(0] 0 --END--",
+            "HOA: v1 --BODY-- State: 0 [@a] 0 --END--",
+            "HOA: v1 Alias: @a @b Alias: @b 0 --BODY-- --END--",
+            "HOA: v1 Alias: @a 0 Alias: @a 0 --BODY-- --END--",
+        ):
             with self.subTest(text), self.assertRaises(Unreadable):
                 automaton.read(text)
 
@@ -172,14 +197,23 @@ class Others(unittest.TestCase):
         self.assertEqual(plain, compact)
         self.assertEqual((plain.entries[0].winner, plain.entries[0].move, plain.entries[0].counts), (0, 1, {1: 7}))
         self.assertEqual(plain.text(), "psyncert 1\nvertices 2\nodd 1\neven 0\n0 0 1 7\n1 1 - 0\n")
-        for text in ("psyncert 3\n", "psyncert 1\nvertices 1\nodd\neven\n0 x -\n", "psyncert 1\n", "psyncert 2\nvertices 1\nodd\neven\n0 0 - 7\n"):
+        for text in (
+            "psyncert 3\n",
+            "psyncert 1\nvertices 1\nodd\neven\n0 x -\n",
+            "psyncert 1\n",
+            "psyncert 2\nvertices 1\nodd\neven\n0 0 - 7\n",
+        ):
             with self.subTest(text), self.assertRaises(Unreadable):
                 certificate.read(text)
 
     def test_a_circuit(self):
         made = circuit.read(CIRCUIT.decode())
-        self.assertEqual((made.names("i"), made.names("l"), made.names("o")), (["push"], ["lamp"], ["dark", "o1", "o2"]))
-        for text in ("", "aag x", "aag 1 1 0 0 0\n", "aag 1 1 0 0 0\nx\n", "aag " + "9" * 5_000 + " 0 0 0 0\n", "aag ² 0 0 0 0\n"):
+        self.assertEqual(
+            (made.names("i"), made.names("l"), made.names("o")), (["push"], ["lamp"], ["dark", "o1", "o2"])
+        )
+        for text in (
+            "", "aag x", "aag 1 1 0 0 0\n", "aag 1 1 0 0 0\nx\n", "aag " + "9" * 5_000 + " 0 0 0 0\n", "aag ² 0 0 0 0\n"
+        ):
             with self.subTest(text[:20]), self.assertRaises(Unreadable):
                 circuit.read(text)
 
@@ -234,7 +268,10 @@ class Others(unittest.TestCase):
             read = solution.read(text)
             self.assertEqual([(v, it.winner, it.move) for v, it in read.entries.items()], [(0, 0, 1), (1, 1, None)])
             self.assertEqual(read.text(), "paritysol 1;\n0 0 1;\n1 1;\n")
-        for text in ("", "paritysol 1;", "paritysol 1;\n0 0 1;\ngarbage here\n", "paritysol 1;\n0 0 1; 0 1 1;\n", "paritysol 1;\n0 2;\n"):
+        for text in (
+            "", "paritysol 1;", "paritysol 1;\n0 0 1;\ngarbage here\n", "paritysol 1;\n0 0 1; 0 1 1;\n",
+            "paritysol 1;\n0 2;\n",
+        ):
             with self.subTest(text), self.assertRaises(Unreadable):
                 solution.read(text)
 

@@ -37,14 +37,23 @@ class Commands(OnFiles):
         self.assertIn(b"cause: the symbols of the circuit", turned.stderr)
 
     def test_where_a_circuit_loses_the_run_is_shown_and_the_stimulus_stored(self):
-        judge = f"#!/bin/sh\nread line\ncase $line in verify*) cat > /dev/null; printf '%s' \"$SAID\" ;; *) (echo $line; cat) | '{program()}' ;; esac\n"
+        judge = (
+            "#!/bin/sh\nread line\ncase $line in verify*) cat > /dev/null; printf '%s' \"$SAID\" ;; *) (echo $line; "
+            f"cat) | '{program()}' ;; esac\n"
+        )
         fake, automaton = self.file("fake", judge.encode()), self.file("automaton", AUTOMATON)
         os.chmod(fake, 0o755)
         circuit, path = self.file("silent", b"aag 1 1 0 1 0\n2\n0\ni0 r\no0 g\n"), os.path.join(self.room, "lost.stim")
         loses = {"PSYN": fake, "SAID": "loses\n0\n1\n-\n1\n"}
         done = self.tool("verify", "--stimulus", path, automaton, circuit, environment=loses)
         self.assertEqual((done.stdout, done.returncode), (b"loses\n0\n1\n-\n1\n", 0))
-        shown = ["step  state  letter  sets", "0     0 off  !r !g   0", "1     0 off  r !g", "the lap begins; it comes again after step 2", "2     1      r !g"]
+        shown = [
+            "step  state  letter  sets",
+            "0     0 off  !r !g   0",
+            "1     0 off  r !g",
+            "the lap begins; it comes again after step 2",
+            "2     1      r !g",
+        ]
         self.assertEqual([line.rstrip() for line in done.stderr.decode().splitlines()], shown)
         with open(path, "rb") as file:
             self.assertEqual(file.read(), b"0\n1\n-\n1\n")
@@ -52,10 +61,17 @@ class Commands(OnFiles):
         won = self.tool("verify", automaton, circuit, environment={"PSYN": fake, "SAID": "wins\n"})
         self.assertEqual((won.stdout, won.stderr), (b"wins\n", b""))
         self.assertEqual(self.tool("--quiet", "verify", automaton, circuit, environment=loses).stderr, b"")
-        self.assertEqual(self.tool("verify", "--stimulus", os.path.join(self.room, "no", "x"), automaton, circuit, environment=loses).returncode, 2)
+        self.assertEqual(
+            self.tool(
+                "verify", "--stimulus", os.path.join(self.room, "no", "x"), automaton, circuit, environment=loses
+            ).returncode,
+            2,
+        )
 
     def test_synth_reads_an_automaton_and_with_its_flag_a_certificate(self):
-        automaton = self.file("automaton", b"HOA: v1 Start: 0 controllable-AP: Acceptance: 0 t --BODY-- State: 0 0 --END--")
+        automaton = self.file(
+            "automaton", b"HOA: v1 Start: 0 controllable-AP: Acceptance: 0 t --BODY-- State: 0 0 --END--"
+        )
         done = self.tool("synth", automaton)
         self.assertEqual((done.stdout, done.returncode), (b"REALIZABLE\naag 0 0 0 0 0\n", 10))
         right = self.file("certificate", b"psyncert 1\nvertices 2\nodd\neven 0\n0 0 -\n1 0 0\n")
@@ -74,7 +90,9 @@ class Commands(OnFiles):
             with open(prefix + ending, "rb") as file:
                 parts.append(file.read())
         self.assertTrue(parts[0].endswith(b"\nc\nwritten by psyn\n"))
-        self.assertEqual(done.stdout + b"%%\n".join([parts[0].removesuffix(b"c\nwritten by psyn\n"), *parts[1:]]), whole)
+        self.assertEqual(
+            done.stdout + b"%%\n".join([parts[0].removesuffix(b"c\nwritten by psyn\n"), *parts[1:]]), whole
+        )
         self.assertEqual(self.tool("check", prefix + ".pg", prefix + ".cert").stdout, b"valid\n")
         self.assertEqual(self.tool("-o", prefix, "game", automaton).returncode, 2)
 
@@ -115,11 +133,16 @@ class Commands(OnFiles):
     def test_a_circuit_is_converted_to_the_other_form_and_back(self):
         clocked = self.file("clocked", b"aag 3 2 1 1 0\n2\n4\n6 4\n6\ni0 clk\ni1 push\no0 lamp\n")
         made = self.tool("convert", "--drop", "clk", clocked)
-        self.assertEqual((made.stdout, made.stderr, made.returncode), (b"aig 2 1 1 1 0\n2\n4\ni0 push\no0 lamp\n", b"", 0))
+        self.assertEqual(
+            (made.stdout, made.stderr, made.returncode), (b"aig 2 1 1 1 0\n2\n4\ni0 push\no0 lamp\n", b"", 0)
+        )
         back = self.tool("convert", "--quiet", self.file("made", made.stdout))
         self.assertEqual((back.stdout, back.returncode), (b"aag 2 1 1 1 0\n2\n4 2\n4\ni0 push\no0 lamp\n", 0))
         read = self.tool("convert", clocked, "--drop=push")
-        self.assertEqual((read.stdout, read.stderr, read.returncode), (b"", b"psyn: the input 'push' can't be dropped: the circuit reads it\n", 2))
+        self.assertEqual(
+            (read.stdout, read.stderr, read.returncode),
+            (b"", b"psyn: the input 'push' can't be dropped: the circuit reads it\n", 2),
+        )
 
     def test_quiet_explains_nothing(self):
         game = self.file("game", b"0 1 0 ;")
@@ -129,7 +152,10 @@ class Commands(OnFiles):
         circuit = self.file("circuit", CIRCUIT)
         done = self.tool("wave", circuit, "-", given=b"1\n1\n0\n")
         self.assertEqual(done.returncode, 0)
-        for line in (b"$var wire 1 ! lamp $end", b'$var wire 1 " push $end', b"$var wire 1 # dark $end", b"#0\n1!\n1\"\n", b"#3\n"):
+        for line in (
+            b"$var wire 1 ! lamp $end", b'$var wire 1 " push $end', b"$var wire 1 # dark $end", b"#0\n1!\n1\"\n",
+            b"#3\n",
+        ):
             self.assertIn(line, done.stdout)
 
     @unittest.skipUnless(shutil.which("vcd2fst") and shutil.which("fst2vcd"), "no reader of VCD files is installed")
@@ -166,7 +192,10 @@ class Commands(OnFiles):
         automaton = self.file("automaton", AUTOMATON.replace(b"[!1] 1", b"[!1&0] 1"))
         never = self.file("never", b"aag 1 1 0 1 0\n2\n0\ni0 r\no0 g\n")
         done = self.tool("lasso", "--trace", automaton, never, "-", given=b"1\n-\n0\n")
-        self.assertEqual(done.stdout.decode().splitlines()[2:], ["0     0 off  r !g", "1     1      !r !g   no edge", "there is no edge: the run ends"])
+        self.assertEqual(
+            done.stdout.decode().splitlines()[2:],
+            ["0     0 off  r !g", "1     1      !r !g   no edge", "there is no edge: the run ends"],
+        )
         self.assertEqual((done.stdout[:8], done.returncode), (b"rejected", 0))
 
     def test_a_trace_of_a_circuit_that_is_the_environment(self):
@@ -176,7 +205,9 @@ class Commands(OnFiles):
         self.assertEqual(done.stdout.decode().splitlines()[-2:], ["0     0 off  r !g", "1     1      r g     0"])
 
     def test_a_trace_of_a_fault_is_the_fault(self):
-        done = self.tool("lasso", "--trace", self.file("automaton", AUTOMATON), self.file("circuit", CIRCUIT), "-", given=b"-\n1\n")
+        done = self.tool(
+            "lasso", "--trace", self.file("automaton", AUTOMATON), self.file("circuit", CIRCUIT), "-", given=b"-\n1\n"
+        )
         self.assertEqual((done.stdout, done.returncode), (b"fault 72 Symbols\n", 1))
 
     def test_a_wave_of_a_lasso_goes_on_until_the_latches_come_again(self):
@@ -189,7 +220,10 @@ class Commands(OnFiles):
     def test_pictures_of_a_binary_circuit_and_of_an_answer(self):
         self.assertIn(b"digraph circuit", self.tool("show", self.file("circuit", b"aig 2 1 1 1 0\n2\n4\n")).stdout)
         automaton = self.file("automaton", AUTOMATON)
-        short, whole = (self.file(name, self.tool("synth", *flags, automaton).stdout) for name, flags in (("short", []), ("whole", ["--full"])))
+        short, whole = (
+            self.file(name, self.tool("synth", *flags, automaton).stdout)
+            for name, flags in (("short", []), ("whole", ["--full"]))
+        )
         self.assertIn(b"digraph circuit", self.tool("show", short).stdout)
         self.assertIn(b"fillcolor", self.tool("show", whole).stdout)
         named = self.tool("show", whole, automaton).stdout
@@ -230,14 +264,19 @@ class Refusals(OnFiles):
         self.assertIn(b"game:2: a line %%", self.tool("closed", game, self.file("certificate", CERTIFICATE)).stderr)
 
     def test_a_program_that_is_not_there(self):
-        done = self.tool("sim", self.file("circuit", CIRCUIT), "-", environment={"PSYN": os.path.join(self.room, "none")})
+        done = self.tool(
+            "sim", self.file("circuit", CIRCUIT), "-", environment={"PSYN": os.path.join(self.room, "none")}
+        )
         self.assertIn(b"there is no such file, and no program", done.stderr)
 
 
 class Start(OnFiles):
     def modules(self, *words):
         """The modules of the tool that a command line imports."""
-        code = "import sys; sys.path.insert(0, sys.argv[1]); from psyntool.main import main; main(sys.argv[2:]); print(*sys.modules)"
+        code = (
+            "import sys; sys.path.insert(0, sys.argv[1]); from psyntool.main import main; main(sys.argv[2:]); "
+            "print(*sys.modules)"
+        )
         command = [sys.executable, "-B", "-c", code, os.path.dirname(TOOL), *words]
         said = subprocess.run(command, capture_output=True, text=True, check=True, cwd=self.room).stdout
         return {name.removeprefix("psyntool.") for name in said.split() if name.startswith("psyntool.")}
@@ -249,9 +288,14 @@ class Start(OnFiles):
         self.assertEqual(self.modules("help"), parsing | {"commands", "commands.help"})
         self.assertEqual(self.modules("check", self.file("game", GAME), self.file("certificate", CERTIFICATE)), asking)
         self.file("automaton", AUTOMATON)
-        self.assertEqual(self.modules("synth", "automaton"), asking | set("commands commands.synth outputs remarks texts.report texts.circuit".split()))
+        self.assertEqual(
+            self.modules("synth", "automaton"),
+            asking | set("commands commands.synth outputs remarks texts.report texts.circuit".split()),
+        )
         self.file("grant", b"aag 1 1 0 1 0\n2\n2\ni0 r\no0 g\n")
-        self.assertEqual(self.modules("verify", "automaton", "grant"), asking | set("commands commands.verify outputs".split()))
+        self.assertEqual(
+            self.modules("verify", "automaton", "grant"), asking | set("commands commands.verify outputs".split())
+        )
 
     def test_the_families_of_games_are_told(self):
         self.assertTrue(COMMANDS["games"].says.endswith(f": {', '.join(families.FAMILIES)}"))

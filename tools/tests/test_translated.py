@@ -8,9 +8,15 @@ import unittest
 from psyntool.program import path as program
 from tests.tool import OnFiles
 
-SPEC = "INFO {{ TITLE: \"it\" SEMANTICS: {0} TARGET: {0} }}\nMAIN {{\n  OUTPUTS {{ g; }}\n  INPUTS {{ r; s; }}\n  REQUIRE {{ !s; }}\n  GUARANTEE {{\n    {1};\n    G (r -> F g);\n  }}\n}}\n"
+SPEC = (
+    "INFO {{ TITLE: \"it\" SEMANTICS: {0} TARGET: {0} }}\nMAIN {{\n  OUTPUTS {{ g; }}\n  INPUTS {{ r; s; }}\n  "
+    "REQUIRE {{ !s; }}\n  GUARANTEE {{\n    {1};\n    G (r -> F g);\n  }}\n}}\n"
+)
 # Answers 75 to `translate`, and hands other commands on to the program.
-WITHOUT = "#!/bin/sh\nread -r line\nif [ \"$line\" = translate ]; then cat > /dev/null; echo 'fault 75 NotTranslated'; exit 1; fi\n{ echo \"$line\"; cat; } | "
+WITHOUT = (
+    "#!/bin/sh\nread -r line\nif [ \"$line\" = translate ]; then cat > /dev/null; echo 'fault 75 NotTranslated'; "
+    "exit 1; fi\n{ echo \"$line\"; cat; } | "
+)
 ENDINGS = (".aag", ".pg", ".cert", ".hoa")
 
 
@@ -24,14 +30,19 @@ class Written(OnFiles):
         for name in names:
             with open(os.path.join(self.room, name), "rb") as file:
                 texts.append(file.read())
-        return subprocess.run([program()], input=f"{words}\n".encode() + b"%%\n".join(texts), stdout=subprocess.PIPE, check=False).stdout
+        return subprocess.run(
+            [program()], input=f"{words}\n".encode() + b"%%\n".join(texts), stdout=subprocess.PIPE, check=False
+        ).stdout
 
     def content(self, ending):
         with open(os.path.join(self.room, f"out{ending}"), "rb") as file:
             return file.read()
 
     def test_all_files_belong_together(self):
-        for order, sentence, env in (("Mealy", "G (g -> r)", ""), ("Mealy", "G (g <-> X r)", " --env"), ("Moore", "G (g <-> r)", " --env"), ("Moore", "G (r -> X g)", "")):
+        for order, sentence, env in (
+            ("Mealy", "G (g -> r)", ""), ("Mealy", "G (g <-> X r)", " --env"), ("Moore", "G (g <-> r)", " --env"),
+            ("Moore", "G (r -> X g)", ""),
+        ):
             with self.subTest(order=order, sentence=sentence):
                 self.spec(order, sentence)
                 done = self.tool("synth", "--force", "-o", "out", "it.tlsf")
@@ -57,7 +68,9 @@ class Written(OnFiles):
         self.assertEqual(self.tool("synth", "-o", "out", "it.tlsf").returncode, 10)
 
     def test_a_smaller_circuit_and_sentences(self):
-        done = self.tool("synth", "--small", "--formula", "G (r -> F g)", "--formula", "G (g -> X !g)", "--outs", "g", "-o", "out")
+        done = self.tool(
+            "synth", "--small", "--formula", "G (r -> F g)", "--formula", "G (g -> X !g)", "--outs", "g", "-o", "out"
+        )
         self.assertEqual(done.stdout, b"REALIZABLE\n")
         self.assertEqual(sorted(os.listdir(self.room)), sorted(f"out{ending}" for ending in (*ENDINGS, ".tlsf")))
         self.assertEqual(self.tool("verify", "out.tlsf", "out.aag").stdout, b"wins\n")
@@ -68,7 +81,10 @@ class Written(OnFiles):
         self.spec("Mealy", "true")
         done = self.tool("synth", "-o", "out", "it.tlsf", environment={"PSYN": path})
         self.assertEqual((done.stdout, done.returncode), (b"REALIZABLE\n", 10))
-        self.assertIn(b"no automaton is printed (fault 75 of translate), so of the circuit's files only out.aag is written\n", done.stderr)
+        self.assertIn(
+            b"no automaton is printed (fault 75 of translate), so of the circuit's files only out.aag is written\n",
+            done.stderr,
+        )
         self.assertEqual(sorted(os.listdir(self.room)), ["it.tlsf", "out.aag", "psyn"])
         self.assertEqual(self.tool("verify", "it.tlsf", "out.aag").stdout, b"wins\n")
 
@@ -101,7 +117,9 @@ class Differing(OnFiles):
 
     def test_the_program_confirms_each_sentence(self):
         self.file("it.tlsf", SPEC.format("Mealy", "G (r -> X g)").encode())
-        self.file("it.hoa", b'HOA: v1 Start: 0 AP: 1 "r" controllable-AP: Acceptance: 0 t --BODY-- State: 0 [t] 0 --END--\n')
+        self.file(
+            "it.hoa", b'HOA: v1 Start: 0 AP: 1 "r" controllable-AP: Acceptance: 0 t --BODY-- State: 0 [t] 0 --END--\n'
+        )
         done = self.tool("agree", "--quiet", "it.tlsf", "it.hoa")
         self.assertEqual((done.stdout.split(b"\n")[0], done.stderr), (b"accepts", b""))
         self.assertEqual(self.tool("agree", "--check", "it.tlsf", "it.hoa").returncode, 3)

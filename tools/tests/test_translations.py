@@ -1,7 +1,7 @@
-"""`translate` against two independent translators, lbt and spin; `agree` on automata with planted errors, against the same
-product; each word that `agree` tells is confirmed by an evaluator of formulas and a run of the automaton. Each part of
-examples/parts agrees with the sentence in its head. `translate`, which judges what it prints, has an automaton for each
-pattern and the small members of each family of bench/specified.py."""
+"""`translate` against two independent translators, lbt and spin; `agree` on automata with planted errors, against the
+same product; each word that `agree` tells is confirmed by an evaluator of formulas and a run of the automaton. Each
+part of examples/parts agrees with the sentence in its head. `translate`, which judges what it prints, has an automaton
+for each pattern and the small members of each family of bench/specified.py."""
 import glob
 import os
 import random
@@ -28,7 +28,9 @@ NODES = 9
 
 def answered(words, text):
     """The answer to a command, and the exit status."""
-    done = subprocess.run([program()], input=f"{words}\n{text}".encode(), stdout=subprocess.PIPE, timeout=60, check=False)
+    done = subprocess.run(
+        [program()], input=f"{words}\n{text}".encode(), stdout=subprocess.PIPE, timeout=60, check=False
+    )
     return done.stdout.decode(), done.returncode
 
 
@@ -55,7 +57,9 @@ def planted(chance, text):
         return ""
     states = sorted({int(it) for it in re.findall(r"State: (\d+)", body)})
     sets = int(re.search(r"Acceptance: (\d+)", head)[1])
-    edge, kind = chance.choice(edges), chance.choice(["label", *["marks"] * (sets > 0), *["target"] * (len(states) > 1)])
+    edge, kind = (
+        chance.choice(edges), chance.choice(["label", *["marks"] * (sets > 0), *["target"] * (len(states) > 1)])
+    )
     label, target, marks = edge[1], edge[2], edge[3] or ""
     if kind == "marks":
         here = {*map(int, re.findall(r"\d+", marks))} ^ {chance.randrange(sets)}
@@ -106,18 +110,27 @@ def judged(case):
         return first, None
     stem, lap = lasso_of(word)
     told = (accepts(spec, stem, lap), formulas.holds(formula, stem, lap))
-    return first, None if told == (first == "accepts", first == "rejects") else f"{formulas.text_of(formula, NAMES)}: {word} is no difference: {text}"
+    return (
+        first,
+        None
+        if told == (first == "accepts", first == "rejects")
+        else f"{formulas.text_of(formula, NAMES)}: {word} is no difference: {text}",
+    )
 
 
 def disagreeing(path):
-    """What is wrong with the sentence in a part's head, by `agree` with the automaton that is composed of the part alone."""
+    """What is wrong with the sentence in a part's head, by `agree` with the automaton that is composed of the part
+    alone."""
     with open(path, encoding="utf-8") as file:
         text = file.read()
     sentence = re.search(r"/\* in temporal logic: (.*) \*/", text)
     names = re.findall(r'"(\w+)"', re.search(r"^AP: .*$", text, re.M)[0])
     words = [sys.executable, os.path.join(TOP, "tools", "psyn"), "compose", "--guarantee", path, "--outs", *names]
     composed = subprocess.run(words, stdout=subprocess.PIPE, text=True, timeout=60, check=True).stdout
-    spec = f"INFO {{ SEMANTICS: Mealy TARGET: Mealy }}\nMAIN {{ OUTPUTS {{ {'; '.join(names)}; }} GUARANTEE {{ {sentence[1]}; }} }}\n"
+    spec = (
+        f"INFO {{ SEMANTICS: Mealy TARGET: Mealy }}\nMAIN {{ OUTPUTS {{ {'; '.join(names)}; "
+        f"}} GUARANTEE {{ {sentence[1]}; }} }}\n"
+    )
     said, _ = answered("agree", f"{spec}%%\n{composed}")
     return None if said == "agrees\n" else f"{os.path.basename(path)}: {said}"
 

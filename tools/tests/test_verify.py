@@ -15,7 +15,10 @@ sys.path.insert(0, os.path.join(TOP, "bench"))
 
 import verify  # noqa: E402
 
-CONDITIONS = ["0 t", "0 f", "1 Inf(0)", "1 Fin(0)", "2 Inf(0) | Fin(1)", "2 Fin(0) & Inf(1)", "3 Inf(0) | Fin(1) & Inf(2)", "3 Fin(2) & (Inf(1) | Fin(0))"]
+CONDITIONS = [
+    "0 t", "0 f", "1 Inf(0)", "1 Fin(0)", "2 Inf(0) | Fin(1)", "2 Fin(0) & Inf(1)", "3 Inf(0) | Fin(1) & Inf(2)",
+    "3 Fin(2) & (Inf(1) | Fin(0))",
+]
 AUTOMATA = 40
 LITERALS = 4
 
@@ -46,7 +49,11 @@ def drawn(chance):
 def drawn_condition(chance, depth):
     """A random acceptance condition over three sets."""
     if depth == 0 or chance.random() < 0.2:
-        return chance.choice([True, False]) if chance.random() < 0.1 else (chance.choice(["Inf", "Fin"]), chance.randrange(3))
+        return (
+            chance.choice([True, False])
+            if chance.random() < 0.1
+            else (chance.choice(["Inf", "Fin"]), chance.randrange(3))
+        )
     return chance.choice("&|"), [drawn_condition(chance, depth - 1) for _ in range(chance.randrange(2, 4))]
 
 
@@ -67,9 +74,15 @@ class Loops(unittest.TestCase):
             ends = [(chance.randrange(count), chance.randrange(count)) for _ in range(chance.randrange(1, 6))]
             links = [(*one, frozenset(mark for mark in range(3) if chance.random() < 0.4)) for one in ends]
             condition = drawn_condition(chance, 2)
-            some = [those for size in range(1, len(links) + 1) for those in itertools.combinations(links, size) if is_cycle(those)]
+            some = [
+                those
+                for size in range(1, len(links) + 1) for those in itertools.combinations(links, size) if is_cycle(those)
+            ]
             truths = {products.holds(condition, frozenset().union(*(marks for _, _, marks in those))) for those in some}
-            edges = {vertex: [(target, marks) for source, target, marks in links if source == vertex] for vertex in range(count)}
+            edges = {
+                vertex: [(target, marks) for source, target, marks in links if source == vertex]
+                for vertex in range(count)
+            }
             for truth in (True, False):
                 self.assertEqual(products.has_loop(edges, condition, truth), truth in truths, (edges, condition, truth))
             told[frozenset(truths)] = told.get(frozenset(truths), 0) + 1
@@ -127,7 +140,11 @@ class OfTheTool(OnFiles):
         late = self.file("late", f"aag 151 1 150 1 0\n2\n{''.join(latches)}303\ni0 r\no0 g\n".encode())
         head = b'HOA: v1 Start: 0 AP: 2 "r" "g" controllable-AP: 1 Acceptance: 1 Fin(0) --BODY-- State: 0 [1] 0 '
         broken = "", 51, ["150   0      !r !g   no edge", "there is no edge: the run ends"]
-        odd = "[!1] 0 {0}", 52, ["150   0      !r !g   0", "the lap begins; it comes again after step 151", "151   0      !r !g   0"]
+        odd = (
+            "[!1] 0 {0}",
+            52,
+            ["150   0      !r !g   0", "the lap begins; it comes again after step 151", "151   0      !r !g   0"],
+        )
         for edge, count, end in (broken, odd):
             spec = self.file("spec", head + edge.encode() + b" --END--\n")
             told = self.tool("verify", spec, late).stderr.decode().splitlines()
@@ -136,7 +153,14 @@ class OfTheTool(OnFiles):
             self.assertLess(len(told), 106)
         lasso = self.file("lasso", b"0\n" * 60 + b"-\n" + b"0\n" * 60)
         traced = self.tool("lasso", "--trace", spec, self.file("silent", NEVER), lasso).stdout.decode().splitlines()
-        self.assertEqual(traced[52:55], [".. 20 steps are not shown ..", "the lap begins at step 60; it comes again after step 119", "70    0      !r !g   0"])
+        self.assertEqual(
+            traced[52:55],
+            [
+                ".. 20 steps are not shown ..",
+                "the lap begins at step 60; it comes again after step 119",
+                "70    0      !r !g   0",
+            ],
+        )
 
     def test_files_that_can_not_be_written(self):
         self.file("spec", AUTOMATON)
@@ -147,7 +171,10 @@ class OfTheTool(OnFiles):
             for path, why in (("none/x", "there is no folder none"), (".", folder), ("pipe", "pipe is no plain file")):
                 self.assertEqual(self.refused("verify", flag, path, "spec", "never"), f"{flag} FILE: {why}")
             self.assertEqual(self.refused("verify", "spec", "never", flag), f"{flag} wants FILE behind it")
-        self.assertEqual(self.refused("verify", "--wave", "x", "--stimulus", "./x", "spec", "never"), "--stimulus and --wave name the same file")
+        self.assertEqual(
+            self.refused("verify", "--wave", "x", "--stimulus", "./x", "spec", "never"),
+            "--stimulus and --wave name the same file",
+        )
         self.assertEqual(sorted(os.listdir(self.room)), ["never", "pipe", "spec"])
 
     def test_files_that_are_no_circuits(self):
@@ -157,31 +184,50 @@ class OfTheTool(OnFiles):
             self.assertIn("this is no circuit", self.refused("convert", name))
             done = self.tool("verify", "spec", name)
             self.assertEqual((done.stdout[:15], done.returncode), (b"fault 61 Syntax", 1))
-        self.assertEqual(self.refused("convert", "spec"), "spec is an automaton; convert wants CIRCUIT; `synth` makes one")
+        self.assertEqual(
+            self.refused("convert", "spec"), "spec is an automaton; convert wants CIRCUIT; `synth` makes one"
+        )
         self.assertEqual(self.refused("verify", "spec", "none"), "none: No such file or directory")
-        self.assertEqual(self.refused("convert", "--drop", "push", self.file("never", NEVER)), "no input of the circuit is called 'push'")
+        self.assertEqual(
+            self.refused("convert", "--drop", "push", self.file("never", NEVER)),
+            "no input of the circuit is called 'push'",
+        )
 
     def test_an_input_that_nothing_reads(self):
         self.file("spec", AUTOMATON)
-        for name, rest in (("clocked", "2\n4\n4\ni0 clk\ni1 r\no0 g\n"), ("twice", "2\n4\n2\ni1 clk\ni0 r\no0 g\nc\ni1 x\n")):
+        for name, rest in (
+            ("clocked", "2\n4\n4\ni0 clk\ni1 r\no0 g\n"), ("twice", "2\n4\n2\ni1 clk\ni0 r\no0 g\nc\ni1 x\n")
+        ):
             self.file(name, f"aag 2 2 0 1 0\n{rest}".encode())
             done = self.tool("verify", "spec", name)
             told = f"{name}: input clk left out: the automaton does not mention it, and nothing reads it\n"
             self.assertEqual((done.stdout, done.stderr.decode(), done.returncode), (b"wins\n", told, 0))
             self.assertEqual(self.tool("verify", "--quiet", "spec", name).stdout, b"wins\n")
-        for given, behind in ((b"01\n-\n10\n", "standard input: so are the digits of clk\n"), (b"1\n-\n0\n", ""), (b"r\n-\n!r\n", "")):
+        for given, behind in (
+            (b"01\n-\n10\n", "standard input: so are the digits of clk\n"), (b"1\n-\n0\n", ""), (b"r\n-\n!r\n", "")
+        ):
             done = self.tool("lasso", "spec", "clocked", "-", given=given)
-            self.assertEqual((done.stdout, done.stderr.decode()), (b"accepted stem 1 lap 1\n", told.replace("twice", "clocked") + behind))
+            self.assertEqual(
+                (done.stdout, done.stderr.decode()),
+                (b"accepted stem 1 lap 1\n", told.replace("twice", "clocked") + behind),
+            )
         far = self.tool("verify", "spec", self.file("far", b"aag 5 3 0 1 0\n2\n4\n8\n16\ni0 clk\ni1 r\ni2 rst\no0 g\n"))
         self.assertEqual((far.stdout, far.returncode), (b"fault 62 Literal at 16\n", 1))
-        self.assertIn(b"/far: inputs clk, rst left out: the automaton does not mention them, and nothing reads them\n", far.stderr)
+        self.assertIn(
+            b"/far: inputs clk, rst left out: the automaton does not mention them, and nothing reads them\n", far.stderr
+        )
         self.assertIn(b"/far:5:1: Literal\n  16\n", far.stderr)
 
     def test_an_input_that_the_automaton_does_not_mention_is_read(self):
-        spec, circuit = self.file("spec", AUTOMATON), self.file("circuit", b"aag 3 2 0 1 1\n2\n4\n6\n6 2 4\ni0 clk\ni1 r\no0 g\n")
+        spec, circuit = (
+            self.file("spec", AUTOMATON), self.file("circuit", b"aag 3 2 0 1 1\n2\n4\n6\n6 2 4\ni0 clk\ni1 r\no0 g\n")
+        )
         done = self.tool("verify", spec, circuit)
         self.assertEqual((done.stdout, done.returncode), (b"fault 72 Symbols\n", 1))
-        told = b"among the circuit's inputs: too many clk\nthe circuit reads clk, which the automaton does not mention\ncause:"
+        told = (
+            b"among the circuit's inputs: too many clk\nthe circuit reads clk, "
+            b"which the automaton does not mention\ncause:"
+        )
         self.assertEqual(done.stderr[: len(told)], told)
 
     def test_an_answer_of_another_tool_is_a_circuit(self):
@@ -191,8 +237,15 @@ class OfTheTool(OnFiles):
         above = "the line REALIZABLE above the circuit"
         for text, told in (
             (b"REALIZABLE\n" + grant, f"{above} is left out\n"),
-            (b"REALIZABLE \r\n\r\n" + grant.replace(b"\n", b"\r\n"), f"{above} is left out\nit: 5 carriage return(s) at line ends are left out\n"),
-            (b"REALIZABLE\n" + binary, f"{above} is left out\nit: converted from the binary form of AIGER; places are those of the ASCII form\n"),
+            (
+                b"REALIZABLE \r\n\r\n" + grant.replace(b"\n", b"\r\n"),
+                f"{above} is left out\nit: 5 carriage return(s) at line ends are left out\n",
+            ),
+            (
+                b"REALIZABLE\n" + binary,
+                f"{above} is left out\nit: converted from the binary form of AIGER; "
+                "places are those of the ASCII form\n",
+            ),
             (full, f"{above}, and what is below it, is left out\n"),
         ):
             self.file("it", text)
@@ -200,7 +253,10 @@ class OfTheTool(OnFiles):
             self.assertEqual((done.stdout, done.stderr.decode(), done.returncode), (b"wins\n", f"it: {told}", 0))
         wrong = self.tool("verify", spec, self.file("it", b"UNREALIZABLE\naag 1 1 0 1 0\n2\n4\n"))
         self.assertIn(b"it:4:1: Literal\n  4\n", wrong.stderr)
-        self.assertEqual(self.refused("verify", spec, self.file("it", b"UNREALIZABLE\n")), f"{self.room}/it: this is an answer UNREALIZABLE without a circuit")
+        self.assertEqual(
+            self.refused("verify", spec, self.file("it", b"UNREALIZABLE\n")),
+            f"{self.room}/it: this is an answer UNREALIZABLE without a circuit",
+        )
 
     def test_a_byte_0_in_a_comment(self):
         spec, grant = self.file("spec", AUTOMATON), b"aag 1 1 0 1 0\n2\n2\ni0 r\no0 g\nc\nwritten by abc\0\n"
@@ -210,7 +266,10 @@ class OfTheTool(OnFiles):
         binary = self.file("binary", self.tool("convert", path).stdout)
         self.assertEqual(self.tool("convert", "--quiet", binary).stdout, grant)
         self.assertEqual(self.tool("verify", spec, binary).stdout, b"wins\n")
-        self.assertEqual(self.refused("verify", spec, self.file("grant", grant.replace(b"o0 g", b"o0 g\0"))), f"{path}: this is no text (it holds a byte 0)")
+        self.assertEqual(
+            self.refused("verify", spec, self.file("grant", grant.replace(b"o0 g", b"o0 g\0"))),
+            f"{path}: this is no text (it holds a byte 0)",
+        )
 
     def test_odd_names(self):
         head = 'HOA: v1 Start: 0 AP: 2 "a  b" "$end\\"ü" controllable-AP: 1 Acceptance: 0 t'
@@ -247,14 +306,28 @@ class OfParts(OnFiles):
     """The run of an automaton that was composed of parts names the parts that fail."""
 
     def test_the_guarantee_that_breaks_is_named_and_the_run_stops_there(self):
-        parts = {"free": ("again-and-again", "it=free"), "r": ("answered-within-3", "request=r answer=g"), "f": ("answered", "request=free answer=g")}
-        stored = {name: [os.path.join(TOP, "examples", "parts", f"{part}.hoa"), "--as", *renamed.split()] for name, (part, renamed) in parts.items()}
+        parts = {
+            "free": ("again-and-again", "it=free"),
+            "r": ("answered-within-3", "request=r answer=g"),
+            "f": ("answered", "request=free answer=g"),
+        }
+        stored = {
+            name: [os.path.join(TOP, "examples", "parts", f"{part}.hoa"), "--as", *renamed.split()]
+            for name, (part, renamed) in parts.items()
+        }
         words = ["--outs", "g", "--assume", *stored["free"], "--guarantee", *stored["r"], "--guarantee", *stored["f"]]
-        spec, never = self.file("spec", self.tool("compose", *words).stdout), self.file("never", b"aag 2 2 0 1 0\n2\n4\n0\ni0 r\ni1 free\no0 g\n")
+        spec, never = (
+            self.file("spec", self.tool("compose", *words).stdout),
+            self.file("never", b"aag 2 2 0 1 0\n2\n4\n0\ni0 r\ni1 free\no0 g\n"),
+        )
         done = self.tool("verify", spec, never)
         self.assertEqual((done.stdout[:6], done.stderr.decode()), (b"loses\n", BROKEN))
-        strict = self.tool("verify", self.file("strict", self.tool("compose", "--strict", *words).stdout), never).stderr.decode()
-        self.assertEqual(strict, BROKEN.replace("!free !r !g\n", "!free !r !g  no edge\nthere is no edge: the run ends\n"))
+        strict = self.tool(
+            "verify", self.file("strict", self.tool("compose", "--strict", *words).stdout), never
+        ).stderr.decode()
+        self.assertEqual(
+            strict, BROKEN.replace("!free !r !g\n", "!free !r !g  no edge\nthere is no edge: the run ends\n")
+        )
         self.assertEqual(self.tool("lasso", "--trace", spec, never, "-", given=b"00\n-\n01\n").stdout.decode(), UNMET)
 
 

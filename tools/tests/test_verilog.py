@@ -1,4 +1,5 @@
-"""Tests `verilog`: a module computes what its circuit computes, as yosys reads the module; names, comments, refusals."""
+"""Tests `verilog`: a module computes what its circuit computes, as yosys reads the module; names, comments,
+refusals."""
 import os
 import random
 import re
@@ -18,7 +19,10 @@ from upkeep.sweeps import TOP
 
 GALLERY = os.path.join(TOP, "examples", "gallery")
 # Names that Verilog allows, that it allows between a backslash and a blank, and that it does not allow.
-ODD = ("a", "clk", "reset", "l0", "n7", "i0", "o1", "module", "a[0]", "r'", "1st", "$end", "a\\", "\\a", "//", '"', "a b", "ä", "a_b", "a_b_2", "a  b")
+ODD = (
+    "a", "clk", "reset", "l0", "n7", "i0", "o1", "module", "a[0]", "r'", "1st", "$end", "a\\", "\\a", "//", '"', "a b",
+    "ä", "a_b", "a_b_2", "a  b",
+)
 STEPS = 40
 
 
@@ -41,8 +45,14 @@ def drawn(chance):
         shown.append(gates[-1].literal // 2)
     read = [0, *variables]
     latches = tuple(Latch(2 * one, 2 * chance.choice(read) + chance.randrange(2), chance.randrange(2)) for one in held)
-    outputs = tuple(2 * chance.choice(shown[-4:] if shown and chance.random() < 0.8 else read) + chance.randrange(2) for _ in range(counts[2]))
-    symbols = {(kind, place): chance.choice(ODD) for kind, count in zip("ilo", counts) for place in range(count) if chance.random() < 0.7}
+    outputs = tuple(
+        2 * chance.choice(shown[-4:] if shown and chance.random() < 0.8 else read) + chance.randrange(2)
+        for _ in range(counts[2])
+    )
+    symbols = {
+        (kind, place): chance.choice(ODD)
+        for kind, count in zip("ilo", counts) for place in range(count) if chance.random() < 0.7
+    }
     chance.shuffle(gates)
     return Circuit(tuple(2 * one for one in inputs), latches, outputs, tuple(gates), symbols)
 
@@ -54,7 +64,10 @@ def value(term, known):
         return sides[1] if sides[0] else sides[2]
     if isinstance(term, (terms.Constant, terms.Name)):
         return term.value if isinstance(term, terms.Constant) else known[term.text]
-    return {terms.Not: lambda: 1 - sides[0], terms.And: lambda: min(sides), terms.Or: lambda: max(sides), terms.Xor: lambda: sum(sides) % 2}[type(term)]()
+    return {
+        terms.Not: lambda: 1 - sides[0], terms.And: lambda: min(sides), terms.Or: lambda: max(sides),
+        terms.Xor: lambda: sum(sides) % 2,
+    }[type(term)]()
 
 
 def kinds_in(term):
@@ -86,14 +99,22 @@ def simulated(psyn, made, letters):
 
 def by_words(phrase, rows):
     """The values that words say of an output, where each row has the values of inputs and outputs by name."""
-    found = re.fullmatch(r"(the opposite of )?(?:(.+) of the same step|what (.+) was (?:one step|(\d+) steps) before \(([01 ]+) in the first .*\))", phrase)
+    found = re.fullmatch(
+        r"(the opposite of )?(?:(.+) of the same step|what (.+) was (?:one step|(\d+) steps) before \(([01 ]+) in the "
+        r"first .*\))",
+        phrase,
+    )
     if found:
         opposite, same, name, count, first = found.groups()
         steps = 0 if same else int(count or 1)
         begin = [int(digit) for digit in (first or "").split()]
         values = [row[same or name] ^ bool(opposite) for row in rows]
         return [*(begin if len(begin) == steps else begin * steps), *values][: len(rows)]
-    found = re.fullmatch(r"(?:([01 ]+) in the first (?:step|(\d+) steps), then )?(?:always ([01])|([01]) and ([01]) in turn, [01] first|([01 ]+) again and again)", phrase)
+    found = re.fullmatch(
+        r"(?:([01 ]+) in the first (?:step|(\d+) steps), then )?(?:always ([01])|([01]) and ([01]) in turn, "
+        r"[01] first|([01 ]+) again and again)",
+        phrase,
+    )
     stem, count, constant, one, other, lap = found.groups()
     begin = [int(digit) for digit in (stem or "").split()]
     begin = begin if len(begin) == int(count or 1) else begin * int(count or 1)
@@ -116,7 +137,9 @@ class Equations(unittest.TestCase):
             seen += Counter(kind for _, term in said.wires + said.outputs for kind in kinds_in(term))
             with self.subTest(number=number):
                 self.assertEqual(by_equations(said, named, letters), simulated(psyn, made, letters))
-        self.assertTrue(all(seen[kind] > 10 for kind in (terms.Not, terms.And, terms.Or, terms.Xor, terms.Choice)), seen)
+        self.assertTrue(
+            all(seen[kind] > 10 for kind in (terms.Not, terms.And, terms.Or, terms.Xor, terms.Choice)), seen
+        )
 
     def test_words_for_random_circuits_are_right(self):
         chance, psyn, kinds = random.Random("words"), program(), Counter()
@@ -125,7 +148,10 @@ class Equations(unittest.TestCase):
             named = telling.names_of(made)
             letters, phrases = letters_of(chance, made), telling.phrases(made, equations(made, named))
             if phrases:
-                rows = [dict(zip([*named.inputs, *named.outputs], [*letter, *row])) for letter, row in zip(letters, simulated(psyn, made, letters))]
+                rows = [
+                    dict(zip([*named.inputs, *named.outputs], [*letter, *row]))
+                    for letter, row in zip(letters, simulated(psyn, made, letters))
+                ]
             for name, phrase in phrases.items():
                 kinds[re.sub(r"[01 ]+(?= again| in the first)|(what )?\S+ (?=was|of the same)", "", phrase)[:14]] += 1
                 with self.subTest(number=number, phrase=phrase):
@@ -174,8 +200,13 @@ def by_yosys(room, texts):
     for number, text in enumerate(texts):
         with open(os.path.join(room, f"{number}.v"), "w", encoding="utf-8") as file:
             file.write(text)
-        script += [f"read_verilog {number}.v", "hierarchy -check", "proc", "simplemap", "aigmap", f"write_aiger -ascii -symbols {number}.aag", "design -reset"]
-    done = subprocess.run(["yosys", "-q", "-p", "; ".join(script)], cwd=room, capture_output=True, text=True, check=False)
+        script += [
+            f"read_verilog {number}.v", "hierarchy -check", "proc", "simplemap", "aigmap",
+            f"write_aiger -ascii -symbols {number}.aag", "design -reset",
+        ]
+    done = subprocess.run(
+        ["yosys", "-q", "-p", "; ".join(script)], cwd=room, capture_output=True, text=True, check=False
+    )
     assert (done.returncode, done.stderr) == (0, ""), done.stderr
     for number, _ in enumerate(texts):
         with open(os.path.join(room, f"{number}.aag"), encoding="utf-8") as file:
@@ -194,7 +225,9 @@ class Modules(OnFiles):
         state = len(inputs) - len(made.inputs)
         self.assertEqual((len(outputs), state), (len(made.outputs), 2 if "always @" in text else 0))
         self.assertEqual([sorted(map(bare, read.names(kind))) for kind in "io"], [sorted(inputs), sorted(outputs)])
-        there, columns = list(map(bare, read.names("i"))), [list(map(bare, read.names("o"))).index(name) for name in outputs]
+        there, columns = (
+            list(map(bare, read.names("i"))), [list(map(bare, read.names("o"))).index(name) for name in outputs]
+        )
         for chosen in (0, 0.2):
             letters, resets = letters_of(chance, made), [int(state and chance.random() < chosen) for _ in range(STEPS)]
             wanted, begin = [], 0
@@ -224,7 +257,9 @@ class Modules(OnFiles):
         chance = random.Random("iverilog")
         for number in range(10):
             path = self.file(f"{number}.v", verilog.module(drawn(chance), "it").encode())
-            done = subprocess.run(["iverilog", "-g2012", "-t", "null", path], capture_output=True, text=True, check=False)
+            done = subprocess.run(
+                ["iverilog", "-g2012", "-t", "null", path], capture_output=True, text=True, check=False
+            )
             self.assertEqual((done.returncode, done.stdout, done.stderr), (0, "", ""))
 
 
@@ -286,7 +321,9 @@ class Tool(OnFiles):
         done = self.tool("verilog", "lamp.aag")
         self.assertEqual((done.stdout.decode(), done.stderr, done.returncode), (LAMP, b"", 0))
         self.assertIn(b"module circuit (\n", self.tool("verilog", "-", given=CIRCUIT).stdout)
-        for name, title in (("lift-4.aag", "lift_4"), ("4.aag", "m_4"), ("wire.aig", "m_wire"), ("\u00e4.b.aag", "__b")):
+        for name, title in (
+            ("lift-4.aag", "lift_4"), ("4.aag", "m_4"), ("wire.aig", "m_wire"), ("\u00e4.b.aag", "__b")
+        ):
             binary = self.tool("convert", self.file("it", CIRCUIT)).stdout
             self.file(name, binary)
             self.assertIn(f"module {title} (\n", self.tool("verilog", name).stdout.decode())
@@ -296,11 +333,21 @@ class Tool(OnFiles):
         shutil.copy(os.path.join(TOP, "examples", "parts", "answered.hoa"), self.room)
         head = b"HOA: v1 States: 1 Start: 0 Acceptance: 0 t "
         self.file("never.hoa", head + b'AP: 2 "r" "g" --BODY-- State: 0 [0&1|!0&!1] 0 --END--\n')
-        self.file("some.parts", b"# Each request is granted,\n# later or at once.\n--guarantee answered.hoa --as request=r answer=g\n\n--guarantee never.hoa\n--outs g\n")
+        self.file(
+            "some.parts",
+            b"# Each request is granted,\n# later or at once.\n--guarantee answered.hoa --as request=r answer=g\n\n"
+            b"--guarantee never.hoa\n--outs g\n",
+        )
         done = self.tool("verilog", "--quiet", "grant.aag", "some.parts")
-        self.assertEqual((done.stdout.decode().replace("- never\n", "- never-together(g,r)\n"), done.stderr, done.returncode), (GRANT, b"", 0))
+        self.assertEqual(
+            (done.stdout.decode().replace("- never\n", "- never-together(g,r)\n"), done.stderr, done.returncode),
+            (GRANT, b"", 0),
+        )
         composed = self.file("some.hoa", self.tool("compose", "some.parts").stdout)
-        self.assertIn(b"  // - Each request is granted, later or at once.\n", self.tool("verilog", "--quiet", "grant.aag", composed).stdout)
+        self.assertIn(
+            b"  // - Each request is granted, later or at once.\n",
+            self.tool("verilog", "--quiet", "grant.aag", composed).stdout,
+        )
         plain = self.tool("verilog", "--quiet", "grant.aag", self.file("it.hoa", AUTOMATON)).stdout
         self.assertEqual(plain.count(b"//"), 4)
         turned = self.tool("verilog", "--env", "grant.aag", "it.hoa")
@@ -310,7 +357,11 @@ class Tool(OnFiles):
     def test_a_list_says_who_moves_first(self):
         """With `--moore` an environment sees the letter of the controller, and may copy it."""
         self.file("copy.aag", b"aag 1 1 0 1 0\n2\n2\ni0 g\no0 r\n")
-        self.file("differ.hoa", b'HOA: v1 States: 1 Start: 0 Acceptance: 0 t AP: 2 "r" "g" controllable-AP: 1 --BODY-- State: 0 [0&!1|!0&1] 0 --END--\n')
+        self.file(
+            "differ.hoa",
+            b'HOA: v1 States: 1 Start: 0 Acceptance: 0 t AP: 2 "r" "g" controllable-AP: 1 --BODY-- State: '
+            b'0 [0&!1|!0&1] 0 --END--\n',
+        )
         for flag, status in ((b"", 1), (b"--moore ", 0)):
             self.file("it.parts", flag + b"--guarantee differ.hoa\n")
             self.assertEqual(self.tool("verilog", "--env", "copy.aag", "it.parts").returncode, status)
@@ -322,18 +373,30 @@ class Tool(OnFiles):
         self.assertEqual((done.stdout, done.stderr.decode(), done.returncode), (b"", said, 1))
 
     def test_what_is_no_circuit(self):
-        for text, said in ((b"aag 1 0 1 1 0\n2 3 2\n2\n", "fault 66 UnsetLatch at 18"), (b"aag 2 0 0 1 2\n2\n2 4 4\n4 2 2\n", "fault 65 Cyclic"), (b"", "fault 61 Syntax at 0")):
+        for text, said in (
+            (b"aag 1 0 1 1 0\n2 3 2\n2\n", "fault 66 UnsetLatch at 18"),
+            (b"aag 2 0 0 1 2\n2\n2 4 4\n4 2 2\n", "fault 65 Cyclic"),
+            (b"", "fault 61 Syntax at 0"),
+        ):
             done = self.tool("verilog", "-", given=text)
             self.assertEqual((done.stdout, done.returncode), (b"", 1))
             self.assertTrue(done.stderr.decode().startswith(said), done.stderr)
-        self.assertIn(b"module circuit", self.tool("verilog", "--zero-resets", "-", given=b"aag 1 0 1 1 0\n2 3 2\n2\n").stdout)
+        self.assertIn(
+            b"module circuit", self.tool("verilog", "--zero-resets", "-", given=b"aag 1 0 1 1 0\n2 3 2\n2\n").stdout
+        )
 
     def test_refusals(self):
         spec, made = self.file("it.hoa", AUTOMATON), self.file("it.aag", CIRCUIT)
         self.assertEqual(self.refused(spec), f"{spec} is an automaton; verilog wants CIRCUIT; `synth` makes one")
         self.assertEqual(self.refused("--moore", made), "verilog --moore wants a specification, which says who wins")
-        self.assertEqual(self.refused(made, made), f"{made} is a circuit; SPEC is an automaton, a list of parts or a specification in temporal logic")
-        self.assertEqual(self.refused(made, self.file("empty", b"")), f"{self.room}/empty is empty; SPEC is an automaton, a list of parts or a specification in temporal logic")
+        self.assertEqual(
+            self.refused(made, made),
+            f"{made} is a circuit; SPEC is an automaton, a list of parts or a specification in temporal logic",
+        )
+        self.assertEqual(
+            self.refused(made, self.file("empty", b"")),
+            f"{self.room}/empty is empty; SPEC is an automaton, a list of parts or a specification in temporal logic",
+        )
         self.assertEqual(self.refused("-", "-"), "standard input can be one of the files only")
         self.assertEqual(self.refused(), "verilog reads CIRCUIT [SPEC], and got 0 words")
 
@@ -341,7 +404,9 @@ class Tool(OnFiles):
         for more, said in ((b"6 1\n", b"l1, which is"), (b"6 8\n8 6\n", b"l1, l2, which are")):
             rows = more.count(b"\n")
             text = b"aag %d 1 %d 1 0\n2\n4 2\n%s4\n" % (2 + rows, 1 + rows, more)
-            self.assertIn(b"// No output depends on " + said + b" left out.\n", self.tool("verilog", "-", given=text).stdout)
+            self.assertIn(
+                b"// No output depends on " + said + b" left out.\n", self.tool("verilog", "-", given=text).stdout
+            )
 
     def test_an_empty_circuit(self):
         done = self.tool("verilog", "-", given=b"aag 0 0 0 0 0\n")

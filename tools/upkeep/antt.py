@@ -5,9 +5,10 @@ import re
 
 TOKEN = re.compile(r'"(?:[^"\\]|\\.)*"|[()\[\]{},;]|[^\s()\[\]{},;]+')
 SIGNATURE = re.compile(r"(\s*)(pub )?([^\s:(){},\[\]=]+) :( |$)")
-NO_DEFINITION = set(
-    "abbrev record data use mod module open infixl infixr infix unfoldable opaque ruleset syntax mutual where --".split()
-)
+NO_DEFINITION = {
+    "abbrev", "record", "data", "use", "mod", "module", "open", "infixl", "infixr", "infix", "unfoldable", "opaque",
+    "ruleset", "syntax", "mutual", "where", "--",
+}
 LINKS = (")", "]", "}", ",", ";", "|", "in", "∙", "≡", "×", "→", "=", ".")
 
 
@@ -67,8 +68,13 @@ class Definition:
     and `last` is the index after the last clause's last line."""
 
     def __init__(self, name, indent, first, signature):
-        self.name, self.indent, self.first, self.last = name, indent, first, first
-        self.signature, self.unfolding, self.clauses = signature, [], []
+        self.name = name
+        self.indent = indent
+        self.first = first
+        self.last = first
+        self.signature = signature
+        self.unfolding = []
+        self.clauses = []
 
 
 def groups_of(lines):
@@ -121,8 +127,12 @@ class Clause:
     clauses."""
 
     def __init__(self, start, text, indent, outer):
-        self.start, self.end, self.indent, self.outer = start, start + len(text), indent, outer
-        self.name, self.local = text.split()[0], set()
+        self.start = start
+        self.end = start + len(text)
+        self.indent = indent
+        self.outer = outer
+        self.name = text.split()[0]
+        self.local = set()
         behind = re.search(rf"(?m)^{' ' * (indent + 2)}where$", text)
         self.where = text[behind.end() + 1 :] if behind else ""
         self.where_start = start + behind.end() + 1 if behind else self.end
@@ -130,7 +140,9 @@ class Clause:
         equals = self.equals(main)
         self.is_equation = equals is not None
         if self.is_equation:
-            self.head, self.body, self.body_start = main[: equals[0]].rstrip(), main[equals[1] :], start + equals[1]
+            self.head = main[: equals[0]].rstrip()
+            self.body = main[equals[1] :]
+            self.body_start = start + equals[1]
 
     @staticmethod
     def equals(text):

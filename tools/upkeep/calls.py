@@ -79,7 +79,10 @@ def functions_of(crate, code, traits):
         has_self = bool(re.match(r"\(\s*(?:&\s*)?(?:'\w+\s+)?(?:mut\s+)?self\b", code[brackets:]))
         type_name = type_of(header) if around else ""
         functions.append(
-            Function(crate, found[2], type_name, bool(found[1]), bool(trait) and trait not in traits, has_self, code[start:end])
+            Function(
+                crate, found[2], type_name, bool(found[1]), bool(trait) and trait not in traits, has_self,
+                code[start:end],
+            )
         )
         outside = blank(outside, found.start(), end)
     return functions, outside

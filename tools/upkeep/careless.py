@@ -38,7 +38,10 @@ SIGNALS = {"TERM": signal.SIGTERM, "HUP": signal.SIGHUP, "KILL": signal.SIGKILL}
 SECONDS = 300
 # The number of rungs (parts of equal form) in a game that psyn needs minutes to solve.
 RUNGS = 300
-FILES = ("arbiter.hoa", "grant.hoa", "delay.hoa", "loop.pg", "loop.cert", "stays.cert", "toggle.aag", "lamp.aag", "presses.stim")
+FILES = (
+    "arbiter.hoa", "grant.hoa", "delay.hoa", "loop.pg", "loop.cert", "stays.cert", "toggle.aag", "lamp.aag",
+    "presses.stim",
+)
 # Programs that stand in for psyn: one that runs long, psyn itself after it has written its process id, and one that is
 # killed during its answer. Further programs give no answer, a strange answer or half an answer. The last file, `text`,
 # can't be executed.
@@ -60,7 +63,10 @@ def read(path):
     """The `[[line]]` tables of a TOML file."""
     with open(path, "rb") as file:
         lines = tomllib.load(file)["line"]
-    wrong = [line.get("name", "?") for line in lines if set(line) - KEYS or not {"name", "command", "error", "status"} <= set(line)]
+    wrong = [
+        line.get("name", "?")
+        for line in lines if set(line) - KEYS or not {"name", "command", "error", "status"} <= set(line)
+    ]
     names = [line["name"] for line in lines]
     if wrong or len(set(names)) < len(names):
         raise ValueError(f"{path}: {wrong or 'a name stands twice'}")
@@ -78,7 +84,9 @@ def furnish(room):
     with open(os.path.join(room, "slow.pg"), "w", encoding="utf-8") as file:
         file.write(hostile_texts.game_by_rungs(hostile_texts.SLOW_TO_IMPROVE, RUNGS))
     for name in FILES:
-        with open(os.path.join(TOP, "examples", "files", name), "rb") as source, open(os.path.join(room, name), "wb") as file:
+        with open(os.path.join(TOP, "examples", "files", name), "rb") as source, open(
+            os.path.join(room, name), "wb"
+        ) as file:
             file.write(source.read())
     shutil.copytree(os.path.join(TOP, "examples", "parts"), os.path.join(room, "parts"))
     tools = {os.path.join("bin", name): started(tool) for name, tool in (("psyn", "psyn"), ("install-psyn", "install"))}
@@ -93,11 +101,20 @@ class Run:
     """A run of a command line."""
 
     def __init__(self, room, line, program):
-        self.room, self.line = room, line
-        environment = {**os.environ, "PATH": f"{os.path.join(room, 'bin')}:{os.environ['PATH']}", "PSYN": program, "REAL": program}
+        self.room = room
+        self.line = line
+        environment = {
+            **os.environ, "PATH": f"{os.path.join(room, 'bin')}:{os.environ['PATH']}", "PSYN": program, "REAL": program
+        }
         self.more = {"cwd": room, "env": environment, "stdin": subprocess.DEVNULL}
         # the caller of the tests may ignore signals, as a shell does for commands started with `&`
-        self.words = ["env", "--default-signal=INT,HUP,TERM", "bash", "-c", f"{'exec env ' if line.get('cut') else ''}{line['command']}"]
+        self.words = [
+            "env",
+            "--default-signal=INT,HUP,TERM",
+            "bash",
+            "-c",
+            f"{'exec env ' if line.get('cut') else ''}{line['command']}",
+        ]
 
     def wait_until_at_work(self, child):
         """Waits until the stand-in program has written its process id, or the tool has ended."""
@@ -202,5 +219,8 @@ def wrong_of(room, line, program):
         return "the program is left at work"
     files = sorted(set(os.listdir(room)) - before - {"pid"})
     found = {"error": error, "status": status, "files": files, "output": output}
-    wanted = {"error": line["error"], "status": line["status"], "files": line.get("files", []), "output": line.get("output", output)}
+    wanted = {
+        "error": line["error"], "status": line["status"], "files": line.get("files", []),
+        "output": line.get("output", output),
+    }
     return None if found == wanted else f"{found}, wanted {wanted}"

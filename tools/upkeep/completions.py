@@ -17,7 +17,9 @@ _psyn() {
       @VALUED@) ((at++)); many= ;;
       @MANY@) many=${COMP_WORDS[at]} ;;
       -?*) many= ;;
-      *) if [[ -z $command || $command == @ANOTHER@ ]]; then command=${COMP_WORDS[at]}; elif [[ -z $many ]]; then ((place++)); fi ;;
+      *)
+        if [[ -z $command || $command == @ANOTHER@ ]]; then command=${COMP_WORDS[at]}
+        elif [[ -z $many ]]; then ((place++)); fi ;;
     esac
   done
   case $command in
@@ -61,7 +63,9 @@ _psyn() {
       @VALUED@) ((at++)); many= ;;
       @MANY@) many=${words[at]} ;;
       -?*) many= ;;
-      *) if [[ -z $command || $command == @ANOTHER@ ]]; then command=${words[at]}; elif [[ -z $many ]]; then ((place++)); fi ;;
+      *)
+        if [[ -z $command || $command == @ANOTHER@ ]]; then command=${words[at]}
+        elif [[ -z $many ]]; then ((place++)); fi ;;
     esac
   done
   case $command in
@@ -112,7 +116,10 @@ def endings(command):
     kinds = [kind for kind in (*command.reads, *command.behind.values()) if isinstance(kind, Kind)]
     others = [[these[place] for these in command.instead.values() if place < len(these)] for place in range(len(kinds))]
     others[:1] = [[*command.replaced.values(), *these] for these in others[:1]]
-    return ["|".join(dict.fromkeys(ending for kind in (one, *more) for ending in kind.endings)) for one, more in zip(kinds, others)]
+    return [
+        "|".join(dict.fromkeys(ending for kind in (one, *more) for ending in kind.endings))
+        for one, more in zip(kinds, others)
+    ]
 
 
 def words_of(command):
@@ -150,7 +157,9 @@ def bash():
 
 def zsh_words(told):
     """Words with descriptions, in the form that zsh's `_describe` reads."""
-    return " ".join("'{}:{}'".format(name, says.replace("'", "'\\''").replace(":", "\\:")) for name, says in told.items())
+    return " ".join(
+        "'{}:{}'".format(name, says.replace("'", "'\\''").replace(":", "\\:")) for name, says in told.items()
+    )
 
 
 def zsh():

@@ -23,11 +23,17 @@ class Fence:
     """A code fence of a document: the line at which it begins, its kind, the words after the kind, and its lines."""
 
     def __init__(self, line, info, lines):
-        self.line, self.lines = line, lines
+        self.line = line
+        self.lines = lines
         self.kind, *self.marks = info.split() or [""]
 
     def is_known(self):
-        return self.kind in PLAIN and not self.marks or self.kind == "console" and (self.marks in NOT_RUN or PROGRAMS.issuperset(self.marks))
+        return (
+            self.kind in PLAIN
+            and not self.marks
+            or self.kind == "console"
+            and (self.marks in NOT_RUN or PROGRAMS.issuperset(self.marks))
+        )
 
     def is_run(self):
         return self.kind == "console" and self.marks not in NOT_RUN
@@ -83,7 +89,8 @@ def prose_of(lines):
 
 
 def sentences_of(paragraph):
-    """The sentences of a paragraph. Inline code counts as one word, and a link as its text. Only `.`, `?` and `!` end a sentence."""
+    """The sentences of a paragraph. Inline code counts as one word, and a link as its text. Only `.`, `?` and `!` end a
+    sentence."""
     bare = re.sub(r"`[^`]*`", "code", paragraph)
     bare = re.sub(r"\[([^]]*)\]\([^)]*\)", r"\1", bare)
     return re.split(r"(?<=[.?!])[)*']*\s+", bare)
@@ -117,7 +124,11 @@ def links_of(lines):
 
 def sources(*folders):
     """The text of all files in the given folders of all crates."""
-    paths = [path for folder in folders for path in glob.glob(os.path.join(TOP, "crates", "*", folder, "**", "*.*t*"), recursive=True)]
+    paths = [
+        path
+        for folder in folders
+        for path in glob.glob(os.path.join(TOP, "crates", "*", folder, "**", "*.*t*"), recursive=True)
+    ]
     texts = []
     for path in sorted(paths):
         with open(path, encoding="utf-8") as file:
@@ -128,13 +139,21 @@ def sources(*folders):
 def calls_of(lines):
     """The names of functions and clauses in the first cells of tables, each with the number of its line."""
     cells = [(number, line.split("|")[1]) for number, line in enumerate(lines, 1) if line.startswith("| `")]
-    return [(number, name) for number, cell in cells for code in re.findall(r"`([^`]+)`", cell) for name in re.findall(r"[A-Za-z]\w+", code)]
+    return [
+        (number, name)
+        for number, cell in cells
+        for code in re.findall(r"`([^`]+)`", cell)
+        for name in re.findall(r"[A-Za-z]\w+", code)
+    ]
 
 
 def definitions_of(lines):
     """The files and names in the parentheses at the end of each definition in docs/definitions.md, with the number of
     the definition's first line."""
-    last = [(number, re.findall(r"`([^`]+)`", found[-1])) for number, text in prose_of(lines) if (found := re.findall(r"\([^()]*\)\.?$", text))]
+    last = [
+        (number, re.findall(r"`([^`]+)`", found[-1]))
+        for number, text in prose_of(lines) if (found := re.findall(r"\([^()]*\)\.?$", text))
+    ]
     return [(number, code) for number, codes in last for code in codes]
 
 

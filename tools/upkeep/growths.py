@@ -14,7 +14,8 @@ def run(program, shim, path, number):
     environment = {**os.environ, "LD_PRELOAD": shim, "REFUSED_GROWTH": str(number), "REFUSED_TELLS": str(tells)}
     with open(path, "rb") as text:
         done = subprocess.run(
-            [program], stdin=text, stdout=subprocess.PIPE, env=environment, pass_fds=[tells], timeout=SECONDS, check=False
+            [program], stdin=text, stdout=subprocess.PIPE, env=environment, pass_fds=[tells], timeout=SECONDS,
+            check=False
         )
     os.close(tells)
     was_refused = os.read(asked, 1) != b""
@@ -43,8 +44,12 @@ def sweep_test(program, shim, name):
     growths, failed = 0, []
     while True:
         asked, tells = os.pipe()
-        environment = {**os.environ, "LD_PRELOAD": shim, "REFUSED_GROWTH": str(growths + 1), "REFUSED_TELLS": str(tells)}
-        done = subprocess.run([program, name], capture_output=True, env=environment, pass_fds=[tells], timeout=SECONDS, check=False)
+        environment = {
+            **os.environ, "LD_PRELOAD": shim, "REFUSED_GROWTH": str(growths + 1), "REFUSED_TELLS": str(tells)
+        }
+        done = subprocess.run(
+            [program, name], capture_output=True, env=environment, pass_fds=[tells], timeout=SECONDS, check=False
+        )
         os.close(tells)
         was_refused = os.read(asked, 1) != b""
         os.close(asked)

@@ -107,7 +107,11 @@ def filled(lines):
     for run in paragraphs(lines):
         whole = " ".join([run[0].rstrip(), *(line.strip() for line in run[1:])])
         indents = [indent_of(line) for line in run[1:] if line.strip()[0] not in ")]}"]
-        indent = max(min(indents, default=0), indent_of(run[0]) + (0 if out else 4)) if len(run) > 1 else indent_of(run[0]) + 4
+        indent = (
+            max(min(indents, default=0), indent_of(run[0]) + (0 if out else 4))
+            if len(run) > 1
+            else indent_of(run[0]) + 4
+        )
         new = broken(whole, indent) if is_code(run[0]) else run
         is_long = any(len(line) > WIDTH for line in run)
         is_better = len(new) < len(run) and max(map(len, new)) <= WIDTH and worst(new) <= max(worst(run), 2)
@@ -269,7 +273,13 @@ def document_within_width(text):
         end = at + 1
         inside ^= lines[at].startswith("```")
         is_prose = not inside and lines[at].strip() and not lines[at].startswith(NO_PROSE)
-        while is_prose and end < len(lines) and lines[end].strip() and not lines[end].startswith(NO_PROSE[:-1]) and not BULLET.match(lines[end]):
+        while (
+            is_prose
+            and end < len(lines)
+            and lines[end].strip()
+            and not lines[end].startswith(NO_PROSE[:-1])
+            and not BULLET.match(lines[end])
+        ):
             end += 1
         paragraph, at = lines[at:end], end
         if is_prose and max(map(len, paragraph)) > WIDTH:
@@ -277,7 +287,10 @@ def document_within_width(text):
             indent = " " * (bullet.end() if bullet else indent_of(paragraph[0]))
             words = " ".join(line.strip() for line in paragraph)
             begin = " " * indent_of(paragraph[0])
-            paragraph = textwrap.wrap(words, WIDTH, initial_indent=begin, subsequent_indent=indent, break_long_words=False, break_on_hyphens=False)
+            paragraph = textwrap.wrap(
+                words, WIDTH, initial_indent=begin, subsequent_indent=indent, break_long_words=False,
+                break_on_hyphens=False,
+            )
         out += paragraph
     return "\n".join(out)
 

@@ -13,9 +13,14 @@ from psyntool import places, releases
 from upkeep import completions
 
 DOCUMENTS = "docs/*.md docs/psyn.1 docs/pictures/* README.md VERSION"
-TOOLS = "tools/psyn tools/install tools/check_certificate.py tools/psyntool/**/*.py tools/psyntool/*.toml tools/psyntool/pages/*"
+TOOLS = (
+    "tools/psyn tools/install tools/check_certificate.py tools/psyntool/**/*.py tools/psyntool/*.toml "
+    "tools/psyntool/pages/*"
+)
 EXAMPLES = "examples/files/* examples/parts/* examples/gallery/**/*"
-COMPLETIONS = {"share/bash-completion/completions/psyn": completions.bash, "share/zsh/site-functions/_psyn": completions.zsh}
+COMPLETIONS = {
+    "share/bash-completion/completions/psyn": completions.bash, "share/zsh/site-functions/_psyn": completions.zsh
+}
 SUMS = "SHA256SUMS"
 # The result lines of `rt ci` and of tools/test-tools, as patterns.
 PASSED = (r"(?m)^(\d+) passed, (\d+) failed", r"(?m)^tools: (\d+) passed, (\d+) failed, \d+ skipped$")
@@ -62,10 +67,14 @@ def packed(files, folder, when):
     """The bytes of a compressed tar file that has the given files in a folder; the same files always give the same
     bytes."""
     whole = io.BytesIO()
-    with gzip.GzipFile(fileobj=whole, mode="wb", mtime=when, filename="") as stream, tarfile.open(fileobj=stream, mode="w") as archive:
+    with gzip.GzipFile(fileobj=whole, mode="wb", mtime=when, filename="") as stream, tarfile.open(
+        fileobj=stream, mode="w"
+    ) as archive:
         for name, (data, is_program) in sorted(files.items()):
             entry = tarfile.TarInfo(f"{folder}/{name}")
-            entry.size, entry.mtime, entry.mode = len(data), when, 0o755 if is_program else 0o644
+            entry.size = len(data)
+            entry.mtime = when
+            entry.mode = 0o755 if is_program else 0o644
             archive.addfile(entry, io.BytesIO(data))
     return whole.getvalue()
 

@@ -2,7 +2,8 @@
 
 A root is a function of a source file, whose clauses are shown, or a definition of a file in `specs/`. Each definition
 that a root cites is gathered, and what it cites in turn. The page stops at the names of std, which STD explains, at the
-types of the code, of which it lists variants or fields, and at the definitions in ENDS, of which it says where they are.
+types of the code, of which it lists variants or fields, and at the definitions in ENDS, of which it says where they
+are.
 """
 import dataclasses
 import functools
@@ -17,15 +18,25 @@ from upkeep.sweeps import TOP
 DOCUMENT = "docs/PROMISE.md"
 MOST_LINES = 1500
 FILES = 4  # a chapter of fewer files takes the next crate too
-ROOTS = [("crates/ps_specification/src/synthesis.rt", "synthesise_specification"), ("crates/psyn/src/synthesis.rt", "synthesise")]
+ROOTS = [
+    ("crates/ps_specification/src/synthesis.rt", "synthesise_specification"),
+    ("crates/psyn/src/synthesis.rt", "synthesise"),
+]
 ENDS = {
-    "ps_specification/specs/Requirements.antt: order_stated": "the order of moves that a specification states, as ps_machine names it",
-    "ps_synthesis/specs/SynthFaults.antt: IsSynthFault": "the reason for which a text gets this fault in place of a report",
-    "ps_synthesis/specs/SynthFaults.antt: IsReportOrFault": "a right report, or too many variables for AIGER, or out of memory",
-    "ps_automaton/specs/Autos.antt: IsAutoOf": "the automaton steps as the file's edges do, with the priorities of its chain",
-    "ps_tlsf/specs/Reading.antt: answer_of": "the specification that a TLSF text means, or its first error: the grammar of the format",
-    "ps_specification/specs/Faults.antt: IsSpecificationFault": "the reason for which a text gets this fault in place of a circuit: 75 and 76 among them",
-    "ps_specification/specs/Faults.antt: IsSureSpecificationFault": "a fault that is possible with a solver that never errs",
+    "ps_specification/specs/Requirements.antt: order_stated": "the order of moves that a specification states, "
+    "as ps_machine names it",
+    "ps_synthesis/specs/SynthFaults.antt: IsSynthFault": "the reason for which a text gets this fault in "
+    "place of a report",
+    "ps_synthesis/specs/SynthFaults.antt: IsReportOrFault": "a right report, or too many variables for AIGER, "
+    "or out of memory",
+    "ps_automaton/specs/Autos.antt: IsAutoOf": "the automaton steps as the file's edges do, "
+    "with the priorities of its chain",
+    "ps_tlsf/specs/Reading.antt: answer_of": "the specification that a TLSF text means, or its first error: "
+    "the grammar of the format",
+    "ps_specification/specs/Faults.antt: IsSpecificationFault": "the reason for which a text gets this fault in place "
+    "of a circuit: 75 and 76 among them",
+    "ps_specification/specs/Faults.antt: IsSureSpecificationFault": "a fault that is possible with a solver "
+    "that never errs",
     "ps_hoa/specs/Texts.antt: ReadsFile": "what an HOA text means, or its first error: the grammar of the format",
     "ps_pgsolver/specs/Reading.antt: Answer": "what a game text means, or its first error",
     "ps_pgsolver/specs/Reading.antt: text_limit": "the length of the longest game text that is read, 16,777,216 bytes",
@@ -34,11 +45,14 @@ ENDS = {
     "ps_certificate/specs/Written.antt: text_in": "the text that is written for a certificate",
     "ps_circuit/specs/Texts.antt: ReadsCircuit": "what an AIGER text means, or its first error",
     "ps_circuit/specs/Written.antt: text_of": "the text that is written for a circuit",
-    "ps_automaton/specs/Chains.antt: chain_of": "the chain that an acceptance condition is, if it is one: its links in order, and its base",
+    "ps_automaton/specs/Chains.antt: chain_of": "the chain that an acceptance condition is, if it is one: "
+    "its links in order, and its base",
     "ps_automaton/specs/Chains.antt: has_complement": "whether an acceptance condition names a complemented set",
     "ps_synthesis/specs/Reports.antt: IsWinnersCircuit": "the circuit is that of the winner's machine, gate by gate",
-    "ps_machine/specs/KeyNames.antt: AreNamed": "vertex v has the id v, and a name that tells its state and its letter or priority",
-    "ps_solver/specs/Solving.antt: IsCertified": "the certificate fits the game and is valid ([CERTIFICATES.md](CERTIFICATES.md))",
+    "ps_machine/specs/KeyNames.antt: AreNamed": "vertex v has the id v, and a name that tells its state and its "
+    "letter or priority",
+    "ps_solver/specs/Solving.antt: IsCertified": "the certificate fits the game and is valid "
+    "([CERTIFICATES.md](CERTIFICATES.md))",
 }
 STD = [
     ("ℕ Bool List", "the natural numbers, the truth values, lists"),
@@ -56,19 +70,22 @@ STD = [
     ("IsSomeAnd", "there is a value, and the property holds of it"),
     ("Result Ok IfOk IfErr", "a value or an error; if there is a value (an error), the property holds of it"),
     ("◌∷◌ ◌++◌", "an element before a list (`[]`: the empty list); two lists joined"),
-    ("length map filter fold", "the length; each element changed; those that pass a test; a function over all, from the first on"),
+    (
+        "length map filter fold",
+        "the length; each element changed; those that pass a test; a function over all, from the first on",
+    ),
     ("take slice_range", "the first elements; those from one index up to, not including, another"),
     ("slice_get", "the element at an index, if there is one"),
     ("slice_index slice_index_or", "the same, or else 0; or else a given value"),
     ("flat_map range_with_len", "the lists of all elements, joined; n numbers that count up from a first"),
     ("All AllPairs AllZip", "a property of each element; of each and each later one; of two lists, place by place"),
     ("Contains", "`Contains xs x`: `x` is an element of `xs`"),
-    
 ]
-HEAD = """This page is made by `tools/promise-page` from the files in `specs/`, which the prover reads. It is for readers
-who want to know what is promised without trusting a retelling. First comes the contract, then each definition that it
-needs, file by file: a file cites only files before it, but for those of @TOPS@, which come first. The [index](#index)
-tells by number in which file a name is defined. [definitions.md](definitions.md) says the same in prose."""
+HEAD = """This page is made by `tools/promise-page` from the files in `specs/`, which the prover reads. It is for
+readers who want to know what is promised without trusting a retelling. First comes the contract, then each definition
+that it needs, file by file: a file cites only files before it, but for those of @TOPS@, which come first. The
+[index](#index) tells by number in which file a name is defined. [definitions.md](definitions.md) says the same in
+prose."""
 READING = """\
 - A clause `ensures name { .. }` holds of each call that returns. There `result` is what is returned, `x.now` the value
   of an argument, `x.old` and `x.new` that before and after the call, and `.items` the list in a `Vec`.
@@ -78,7 +95,9 @@ READING = """\
 - A letter is a number whose bit p is the truth of proposition p, and a text is a list of bytes. Player 0 is the
   controller. `pub`, `abbrev` and `unfoldable` say how the prover treats a name, not what it means."""
 FIELD = re.compile(r"(?m)^ +(?:pub )?([^\s:(){}]+) :(?=\s|$)")
-SIGNATURE = re.compile(r"(?:(?:abbrev|unfoldable|opaque) )?(?:pub )?(?:(record|data) )?([^\s:(){},\[\]=]+)(?=[\s:({]|$)")
+SIGNATURE = re.compile(
+    r"(?:(?:abbrev|unfoldable|opaque) )?(?:pub )?(?:(record|data) )?([^\s:(){},\[\]=]+)(?=[\s:({]|$)"
+)
 WORD = re.compile(r"[^\s(){},:\[\]]+")
 IMPORT = re.compile(r"(?:ghost )?use (\S+?)(?:\.\{(.*)\})?(?: as (\S+?))?;?")
 
@@ -126,7 +145,10 @@ class Module:
             last.lines += block
         elif block[0].startswith(("mutual", "abbrev mutual")):
             inside = min(antt.indent_of(line) for line in block[1:] if line.strip())
-            heads = [line[inside:] for line in block[1:] if antt.indent_of(line) == inside and not line.strip().startswith("--")]
+            heads = [
+                line[inside:]
+                for line in block[1:] if antt.indent_of(line) == inside and not line.strip().startswith("--")
+            ]
             cases = [found for line in block[1:] if (found := re.match(r" {4}(?:pub )?([^\s:(){}]+) :", line))]
             names = [found[2] for line in heads if (found := SIGNATURE.match(line))] + [found[1] for found in cases]
             self.items.append(Item(self, list(dict.fromkeys(names)), False, comment, list(block)))
@@ -182,7 +204,9 @@ def bound_in(item):
     bound |= {name for group in re.findall(r"λ ([^.]*?)\.(?=\s|$)", text) for name in WORD.findall(group)}
     bound |= set(re.findall(r"\blet ([^\s:=]+)", text)) | (set(FIELD.findall(text)) if item.is_record else set())
     patterns = re.findall(r"(?m)(?:^|[\[|])\s*([^\[\]|]*?)↦", text)
-    patterns += [line[: line.index(" = ")] for line in text.split("\n") if " = " in line and line.split()[0] in item.names]
+    patterns += [
+        line[: line.index(" = ")] for line in text.split("\n") if " = " in line and line.split()[0] in item.names
+    ]
     return bound | {name for pattern in patterns for name in WORD.findall(pattern) if name not in known}
 
 
@@ -241,7 +265,11 @@ def contract_of(path, function):
 
 
 def root_of(path, name):
-    return contract_of(path, name) if path.endswith(".rt") else module_at(path.removesuffix(".antt").replace("/", ".")).by_name[name]
+    return (
+        contract_of(path, name)
+        if path.endswith(".rt")
+        else module_at(path.removesuffix(".antt").replace("/", ".")).by_name[name]
+    )
 
 
 def ordered(things, below):
@@ -268,15 +296,27 @@ def files_of(items):
     cites = {path: [] for path in by_path}
     for path, those in by_path.items():
         for item in those:
-            cites[path] += [other for it, _ in cited_by(item) if (other := it.replace(".", "/") + ".antt") in by_path and other != path]
-    place = {item: at for path in by_path for at, item in enumerate(module_at(path.removesuffix(".antt").replace("/", ".")).items)}
-    return [(path, sorted(by_path[path], key=place.get)) for path in ordered(sorted(by_path), lambda path: sorted(cites[path]))]
+            cites[path] += [
+                other
+                for it, _ in cited_by(item) if (other := it.replace(".", "/") + ".antt") in by_path and other != path
+            ]
+    place = {
+        item: at
+        for path in by_path for at, item in enumerate(module_at(path.removesuffix(".antt").replace("/", ".")).items)
+    }
+    return [
+        (path, sorted(by_path[path], key=place.get))
+        for path in ordered(sorted(by_path), lambda path: sorted(cites[path]))
+    ]
 
 
 def tops_of(files):
     """The crates whose definitions no definition of another crate on the page cites."""
     crates = dict.fromkeys(path.split("/")[0] for path, _ in files)
-    cited = {(path.split("/")[0], other.split(".")[0]) for path, items in files for item in items for other, _ in cited_by(item)}
+    cited = {
+        (path.split("/")[0], other.split(".")[0])
+        for path, items in files for item in items for other, _ in cited_by(item)
+    }
     return [crate for crate in crates if not any(below == crate != above for above, below in cited)]
 
 
@@ -289,7 +329,11 @@ def chapters_of(files, first):
         uses[crate.strip()] = listed.split()
     for path, items in files:
         by_crate.setdefault(path.split("/")[0], []).append((path, items))
-    order = [crate for crate in ordered(sorted(uses), lambda crate: uses.get(crate, [])) if crate in by_crate and crate not in first]
+    order = [
+        crate
+        for crate in ordered(sorted(uses), lambda crate: uses.get(crate, []))
+        if crate in by_crate and crate not in first
+    ]
     chapters = [(list(first), [file for crate in first for file in by_crate[crate]])]
     for crate in order:
         if len(chapters) == 1 or len(chapters[-1][1]) >= FILES:
@@ -303,8 +347,12 @@ def shape_of(crate, file, name):
     """The variants or the fields of a type of the code, in one line."""
     lines = read(f"crates/{crate}/src/{file}.rt")
     first = next(at for at, line in enumerate(lines) if re.match(rf"pub (?:struct|enum) {name}\b", line))
-    end = next(at for at in range(first, len(lines)) if lines[at].rstrip().endswith("}") and antt.indent_of(lines[at]) == 0)
-    kept = [re.sub(r"^pub ", "", line.strip()) for line in lines[first + 1 : end] if not re.match(r"\s*(///|//|#\[)", line)]
+    end = next(
+        at for at in range(first, len(lines)) if lines[at].rstrip().endswith("}") and antt.indent_of(lines[at]) == 0
+    )
+    kept = [
+        re.sub(r"^pub ", "", line.strip()) for line in lines[first + 1 : end] if not re.match(r"\s*(///|//|#\[)", line)
+    ]
     return " ".join(kept).rstrip(",")
 
 
@@ -344,7 +392,10 @@ def page(roots=None, ends=None):
     for crate, file, name in sorted(found.types, key=lambda it: it[2]):
         out.append(f"| [`{name}`](../crates/{crate}/src/{file}.rt) of {crate} | `{shape_of(crate, file, name)}` |")
     out += ["", "## Names of std", "", "| Name | What it means |", "|---|---|"]
-    out += [f"| {', '.join(f'`{name}`' for name in names.split())} | {said} |".replace("◌||◌", r"◌\|\|◌") for names, said in STD]
+    out += [
+        f"| {', '.join(f'`{name}`' for name in names.split())} | {said} |".replace("◌||◌", r"◌\|\|◌")
+        for names, said in STD
+    ]
     out += ["", "## Where the page stops", "", "| Definition | What it states |", "|---|---|"]
     for key, item in sorted(found.ends.items()):
         out.append(f"| [`{item.names[0]}`](../crates/{item.module.path}) | {(ENDS if ends is None else ends)[key]} |")

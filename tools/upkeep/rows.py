@@ -36,9 +36,12 @@ class Row:
     """A row: an input, and what is known of the right answer to it."""
 
     def __init__(self, name, given, status, **judged):
-        self.name, self.given, self.status = name, given, status
+        self.name = name
+        self.given = given
+        self.status = status
         self.one_of = judged.get("one_of")
-        self.begins, self.contains = judged.get("begins", []), judged.get("contains", [])
+        self.begins = judged.get("begins", [])
+        self.contains = judged.get("contains", [])
 
     def fault_of(self, answer, status):
         """A message that says what is wrong with an answer or its exit status; None if both are right."""
@@ -86,7 +89,9 @@ def joined(parts):
 def row_of(table):
     exactly(table, ROW_KEYS, {"name", "status"})
     inputs = [key for key in ("input", "parts") if key in table]
-    judges = [key for key in ("answer", "one_of") if key in table] + ["begins"] * ("begins" in table or "contains" in table)
+    judges = (
+        [key for key in ("answer", "one_of") if key in table] + ["begins"] * ("begins" in table or "contains" in table)
+    )
     if len(inputs) != 1 or len(judges) != 1:
         raise Malformed(f"{table['name']!r} needs one input and one judge of the answer")
     if judges == ["begins"]:
@@ -115,7 +120,9 @@ def rows_of_cut(cut):
     rows = []
     for end in range(len(text) + 1):
         answer, status = answer_to_beginning(cut, end)
-        rows.append(Row(f"{cut['name']}, cut at {end}", before + text[:end] + behind, status, one_of=[in_bytes(answer)]))
+        rows.append(
+            Row(f"{cut['name']}, cut at {end}", before + text[:end] + behind, status, one_of=[in_bytes(answer)])
+        )
     return rows
 
 

@@ -7,12 +7,15 @@ from psyntool import places
 TABLE = os.path.join(places.TOP, "crates", "ps_program", "src", "commands.rt")
 STORED = os.path.join(places.TOP, "tools", "psyntool", "program.toml")
 HEAD = """\
-# The commands of the program: their flags, and the kinds of their texts; `added` has the kind of a text that a flag adds,
-# and `replaced` the kind of the first text if a flag is given.
+# The commands of the program: their flags, and the kinds of their texts; `added` has the kind of a text that a flag
+# adds, and `replaced` the kind of the first text if a flag is given.
 # Written by tools/command-files from the table of crates/ps_program/src/commands.rt.
 """
 FLAG = r'const (\w+_FLAG): &str = "(\w+)";'
-ROW = r'Usage \{\s*name: "(\w+)",\s*flags: &\[(.*?)\],\s*texts: &\[(.*?)\],\s*added: &\[(.*?)\],\s*replaced: &\[(.*?)\],\s'
+ROW = (
+    r'Usage \{\s*name: "(\w+)",\s*flags: &\[(.*?)\],\s*texts: &\[(.*?)\],\s*added: &\[(.*?)\],\s*replaced: '
+    r'&\[(.*?)\],\s'
+)
 BY_FLAG = r"\((\w+),\s*TextKind::(\w+)\)"
 
 
@@ -33,7 +36,10 @@ def by_flags(kinds):
 def row(name, flags, texts, added, replaced):
     """The entry of a command in program.toml."""
     kinds = quoted(kind.lower() for kind in texts)
-    return f"[{name}]\nflags = [{quoted(flags)}]\ntexts = [{kinds}]\nadded = {by_flags(added)}\nreplaced = {by_flags(replaced)}\n"
+    return (
+        f"[{name}]\nflags = [{quoted(flags)}]\ntexts = [{kinds}]\nadded = {by_flags(added)}\n"
+        f"replaced = {by_flags(replaced)}\n"
+    )
 
 
 def written(code=None):
@@ -43,13 +49,18 @@ def written(code=None):
             code = file.read()
     names, rows = dict(re.findall(FLAG, code)), re.findall(ROW, code, re.S)
     if not rows or len(rows) != len(re.findall(r"\bUsage \{\s*name:", code)):
-        raise Unreadable(f"{os.path.relpath(TABLE, places.TOP)}: {len(rows)} rows of the table are written as name, flags, texts, added, replaced")
+        raise Unreadable(
+            f"{os.path.relpath(TABLE, places.TOP)}: {len(rows)} rows of the table are written as name, flags, texts, "
+            "added, replaced"
+        )
     parts = [HEAD]
     for name, flags, texts, *by_flag in rows:
         given, kinds = re.findall(r"\w+", flags), [re.findall(BY_FLAG, these) for these in by_flag]
         unknown = [flag for flag in (*given, *(flag for these in kinds for flag, _ in these)) if flag not in names]
         if unknown:
-            raise Unreadable(f"{os.path.relpath(TABLE, places.TOP)}: {name} has {unknown[0]}, which is no flag with a name")
+            raise Unreadable(
+                f"{os.path.relpath(TABLE, places.TOP)}: {name} has {unknown[0]}, which is no flag with a name"
+            )
         named = [[(names[flag], kind) for flag, kind in these] for these in kinds]
         parts.append(row(name, [names[flag] for flag in given], re.findall(r"TextKind::(\w+)", texts), *named))
     return "\n".join(parts)
