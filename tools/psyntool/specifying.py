@@ -41,8 +41,10 @@ def basic(text, settings):
 
 
 def write_out(text, request):
-    """Writes a text in the full form out in the basic form. A text in the basic form, and one in neither form, stays as
-    it is, so that the program finds what is wrong with it."""
+    """Writes a text in the full form out in the basic form, once. A text in the basic form, and one in neither form,
+    stays as it is, so that the program finds what is wrong with it."""
+    if text.basic is not None:
+        return
     settings = settings_of(request)
     if not settings and (text.looks_like is not Kind.SPECIFICATION or not is_in_full_form(text.bytes.decode(ENCODING))):
         return

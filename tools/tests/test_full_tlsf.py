@@ -530,6 +530,20 @@ class Commands(OnFiles):
                 self.assertEqual(file.read(), done.stdout)
         self.assertEqual(self.tool("tlsf", "-", given=done.stdout).returncode, 0)
 
+    def test_parameters_of_commands_that_read_a_circuit_or_draw(self):
+        path = os.path.join(FOLDER, "arbiter.tlsf")
+        self.file("two.aag", self.tool("synth", "--set", "n=2", path).stdout)
+        for words, begin in (
+            (("show", path), b"digraph"),
+            (("verilog", "two.aag", path), b"// Written by psyn verilog from two.aag.\n"),
+            (("page", "--circuit", "two.aag", path), b"<!DOCTYPE html>"),
+        ):
+            done = self.tool(*words, "--set", "n=2", "--quiet")
+            self.assertEqual((done.stdout[: len(begin)], done.stderr, done.returncode), (begin, b"", 0), words)
+        done = self.tool("show", "--set", "m=2", path)
+        told = f"psyn: {path}: --set NAME=VALUE: there is no parameter m; the specification has n\n"
+        self.assertEqual((done.stderr.decode(), done.returncode), (told, 2))
+
     def test_what_is_refused(self):
         path, own = os.path.join(FOLDER, "lift_express.tlsf"), self.file("own.tlsf", text_of("arbiter").encode())
         for words, said in (
