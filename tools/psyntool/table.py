@@ -83,8 +83,9 @@ OF_THE_TOOL = (
     ),
     Command(
         "sane",
-        "what looks like a mistake in sentences: assumptions that a controller can break, guarantees that follow from "
-        "the others, outputs that never change, inputs without effect, names that look like slips",
+        "what looks like a mistake in sentences: assumptions that a controller can break, guarantees that contradict "
+        "each other or follow from the others, outputs that never change, inputs without effect, names that look like "
+        "slips",
         (Kind.SPECIFICATION,),
         flags=(MOORE,),
         own=(*OF_SENTENCES, ASSUME, GUARANTEE, OUTS, STRICT, SET),

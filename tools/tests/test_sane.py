@@ -129,6 +129,19 @@ class Sanity(OnFiles):
         self.assertIn("no sentence mentions spare", told)
         self.assertIn("only the guarantee mentions closd (closed?)", told)
 
+    def test_guarantees_that_contradict_each_other(self):
+        told, status = self.asked("--guarantee", "G g", "G !g", "G (h <-> r)", "G F h | h", "--outs", "g", "h")
+        self.assertEqual(told, ["UNREALIZABLE", "these 2 guarantees contradict each other:", "  G g", "  G !g"])
+        self.assertEqual(status, 20)
+        told, _ = self.asked("--guarantee", "G (g & !g)", "G F h", "--outs", "g", "h")
+        self.assertEqual(told, ["UNREALIZABLE", "the guarantee contradicts itself:", "  G (g & !g)"])
+        words = ["--assume", "G F r", "--outs", "g"]
+        told, _ = self.asked("--guarantee", "G !r", "G (r <-> g)", *words)
+        self.assertEqual(told, ["UNREALIZABLE", "the guarantee contradicts the assumptions:", "  G !r"])
+        told, _ = self.asked("--guarantee", "G !g", "G (r -> g)", *words)
+        head = "these 2 guarantees contradict each other where the assumptions are kept:"
+        self.assertEqual(told, ["UNREALIZABLE", head, "  G !g", "  G (r -> g)"])
+
     def test_of_a_file_lines_are_told(self):
         self.file("s.tlsf", ASSUMING.replace(b"G (g -> ready)", b"G (g -> ready); G (g && r -> ready)"))
         told, _ = self.asked("s.tlsf")

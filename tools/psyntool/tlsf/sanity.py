@@ -1,5 +1,5 @@
 """Whether a specification says what was meant: assumptions that fail by themselves or by the controller's doing,
-guarantees that follow from the others, and names that look like slips."""
+guarantees that contradict each other or follow from the others, and names that look like slips."""
 from dataclasses import replace
 
 from psyntool import console
@@ -64,7 +64,7 @@ class Sanity:
     def lines(self) -> list:
         try:
             with deep_calls():
-                found = self.of_impossible() or [*self.of_breakable(), *self.of_guarantees()]
+                found = self.of_impossible() or [*self.of_breakable(), *(self.of_contradicting() or self.of_guarantees())]
                 return [*found, *self.of_names(), *(f"not found out: {what}" for what in dict.fromkeys(self.unknown))]
         except Wrong as error:
             return [f"not found out: {error}"]
@@ -117,6 +117,15 @@ class Sanity:
             ends = [f"{play.looping}, which does not keep {of_those(those, 'assumption')}"]
         return ["so it can play:", *(f"  {line}" for line in [*play.table(), *ends])]
 
+    def of_contradicting(self) -> list:
+        """Guarantees that nothing keeps together, or that nothing keeps while the assumptions are kept."""
+        those, what = self.sides.guarantees, "whether the guarantees can be kept"
+        if self.is_possible(self.demand([*self.sides.assumptions, *those]), f"{what} beside the assumptions"):
+            return []
+        kept = self.sides.assumptions if self.is_possible(self.demand(those), what) else ()
+        few = shrunk(those, lambda some: not self.is_possible(self.demand([*kept, *some]), f"{what} by fewer"))
+        return [f"{contradiction(few, bool(kept))}:", *said(few)]
+
     def of_guarantees(self) -> list:
         """Guarantees that follow from the others and from the assumptions."""
         found, those = [], self.sides.guarantees
@@ -151,6 +160,14 @@ def of_those(sentences, what: str) -> str:
     if len(sentences) == 1:
         return f"the {titled(sentences[0])}"
     return f"these {len(sentences)} {what}s together"
+
+
+def contradiction(guarantees, is_of_assumptions: bool) -> str:
+    """What guarantees contradict: each other, or the assumptions."""
+    if len(guarantees) == 1:
+        return f"the {titled(guarantees[0])} contradicts {'the assumptions' if is_of_assumptions else 'itself'}"
+    beside = " where the assumptions are kept" if is_of_assumptions else ""
+    return f"these {len(guarantees)} guarantees contradict each other{beside}"
 
 
 def said(sentences) -> list:
