@@ -1,38 +1,30 @@
 """Runs the program on files, prints its answer unchanged, and explains the answer if it is a fault."""
 from psyntool import console, files, program
-from psyntool.command import CHECK, TIME
-from psyntool.ends import FAULT, OTHER, WRONG_SOLUTIONS
+from psyntool.command import CHECK
+from psyntool.ends import OTHER, WRONG_SOLUTIONS, Unwritten
 
 # The first line of an answer of `verify` or `shrink` about a circuit that loses; a stimulus follows.
 LOSES = b"loses\n"
 
 
 def run(request):
-    """Runs a command of the program. With --quiet, the tool's process becomes the program (`exec`)."""
+    """Runs a command of the program."""
     texts = request.texts()
-    given = files.joined(request.command.name, request.passed, texts)
-    if may_become(request):
-        program.become(given)
-    return hand_on(request, texts, program.ask(given))
-
-
-def may_become(request):
-    """Whether the tool has nothing to do behind the program's answer, so that it can become the program."""
-    return request.quiet and console.kept is None and not request.has(CHECK) and not request.has(TIME)
+    return hand_on(request, texts, program.ask(files.joined(request.command.name, request.passed, texts)))
 
 
 def hand_on(request, texts, answer):
     """Writes the program's answer to standard output, explains a fault on standard error, and returns the exit
     status."""
-    console.write(answer.bytes)
+    if not answer.died:
+        console.write(answer.bytes)
     return told(request, texts, answer)
 
 
 def told(request, texts, answer):
     """Explains on standard error what is wrong with an answer, and returns the exit status."""
     if answer.died:
-        console.tell(f"psyn: {answer.died}")
-        return FAULT
+        raise Unwritten(answer.died)
     if answer.is_fault and not request.quiet:
         from psyntool import explaining
 

@@ -1,5 +1,6 @@
-"""Finds and runs the program: gives it an input and returns its answer, or replaces the tool by it (`exec`)."""
+"""Finds and runs the program: gives it an input and returns its answer."""
 import os
+import re
 import signal
 import subprocess
 import time
@@ -11,7 +12,23 @@ from psyntool.ends import Refused, Unwritten
 PR_SET_PDEATHSIG = 1
 # The largest input that the program accepts; it answers fault 25 to a longer one.
 MOST_BYTES = 67_108_864
-STATUSES = {0: b"", 10: b"REALIZABLE\n", 20: b"UNREALIZABLE\n", 1: b"fault ", 2: b"fault "}
+# How an answer begins, by its exit status: a fault, what `synth` answers, and else by the command.
+FAULTS = {1: rb"fault \d+ ", 2: rb"fault usage\n"}
+OF_SYNTH = {10: rb"REALIZABLE\naag \d", 20: rb"UNREALIZABLE\naag \d"}
+ANSWERS = {
+    "closed": rb"closed\n",
+    "check": rb"valid\n",
+    "judge": rb"psyncert \d",
+    "sim": rb"[01|]*\n|\Z",
+    "lasso": rb"(accepted|rejected|satisfied|violated) stem \d+ lap \d+\n",
+    "verify": rb"wins\n\Z|loses\n",
+    "shrink": rb"aag \d|loses\n",
+    "agree": rb"agrees\n\Z|(accepts|rejects)\n",
+    "translate": rb"HOA: v1\n",
+    "solve": rb"psyncert \d",
+    "game": rb"parity \d",
+    "cert": rb"psyncert \d",
+}
 CLOCK_FROM = 2
 # The most bytes of memory of each program that is started, or None; the most seconds of processor time of each, or
 # None; and the last moment of the run, or None.
@@ -147,7 +164,8 @@ def ask(given):
         signals.let_go()
         if child:
             end(child)
-    return Answer(written, child.returncode, why_died(written, child.returncode))
+    command = given.split(maxsplit=1)[0].decode()
+    return Answer(written, child.returncode, why_died(command, written, child.returncode))
 
 
 def end(child):
@@ -158,27 +176,12 @@ def end(child):
     child.stdout.close()
 
 
-def why_died(written, status):
-    """A message that says what ended the program before its answer was complete, or an empty string if nothing did."""
+def why_died(command, written, status):
+    """A message that says what ended the program before its answer was complete, or that this is no answer to the
+    command; an empty string if neither is so."""
     if status < 0:
         return f"the program was ended by {signals.name_of(-status)} before its answer was whole"
-    if not written.startswith(STATUSES.get(status, b"\0")):
+    form = {**FAULTS, **OF_SYNTH, 0: ANSWERS.get(command)}.get(status)
+    if form is None or command != "synth" and status in OF_SYNTH or not re.match(form, written):
         return f"the program ended with status {status} and no answer of psyn"
     return ""
-
-
-def become(given):
-    """Replaces the tool by the program, which reads the input and writes its answer itself."""
-    import tempfile
-
-    with tempfile.TemporaryFile() as file:
-        file.write(given)
-        file.seek(0)
-        os.dup2(file.fileno(), console.INPUT)
-    program = path()
-    signals.give_back()
-    limit_memory()
-    try:
-        os.execv(program, [program])
-    except OSError as error:
-        raise Refused(f"{title()} can't be run: {error.strerror}") from None

@@ -64,6 +64,20 @@ class Statuses(Running):
             [self.tool("verify", "spec", "never").returncode, self.tool("judge", "game", "wrong").returncode], [0, 1]
         )
 
+    def test_a_program_that_says_nothing_or_nonsense_is_not_believed(self):
+        for said, status in (("", 0), ("wins", 3), ("wins\nwins\n", 0)):
+            path = self.file("fake", f"#!/bin/sh\ncat > /dev/null\nprintf '%s' '{said}'\nexit {status}\n".encode())
+            os.chmod(path, 0o755)
+            told = f"psyn: the program ended with status {status} and no answer of psyn"
+            for flags in ((), ("--check",), ("--quiet",)):
+                fake = {"PSYN": path}
+                self.assertEqual(self.said("verify", *flags, "spec", "grant", environment=fake), ([], [told], 1))
+                self.assertEqual(self.said("synth", *flags[1:], "spec", environment=fake), ([], [told], 1))
+            lines, _, status = self.said("verify", "--json", "spec", "grant", environment=fake)
+            answer = json.loads(lines[0])
+            said = [answer[name] for name in ("verdict", "status", "error")]
+            self.assertEqual(said, [None, 1, told.removeprefix("psyn: ")])
+
     def test_other_commands_have_no_such_flag(self):
         self.assertEqual(
             self.said("synth", "--check", "spec")[1:],

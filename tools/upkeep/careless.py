@@ -43,14 +43,15 @@ FILES = (
     "presses.stim",
 )
 # Programs that stand in for psyn: one that runs long, psyn itself after it has written its process id, and one that is
-# killed during its answer. Further programs give no answer, a strange answer or half an answer. The last file, `text`,
-# can't be executed.
+# killed during its answer. Further programs give no answer, a strange answer, a verdict alone or half an answer. The
+# last file, `text`, can't be executed.
 PROGRAMS = {
     "slow": "#!/bin/sh\necho $$ > pid\nexec sleep 60\n",
     "real": '#!/bin/sh\necho $$ > pid\nexec "$REAL"\n',
     "killed": "#!/bin/sh\ncat > in\nrm in\necho REALIZABLE\nkill -9 $$\n",
     "silent": "#!/bin/sh\nexit 0\n",
     "strange": "#!/bin/sh\necho hello\nexit 3\n",
+    "bare": "#!/bin/sh\necho REALIZABLE\nexit 10\n",
     "half": "#!/bin/sh\nprintf 'REALIZABLE\\naag 0 0 0 0 0\\n%%%%\\n'\nexit 10\n",
     "text": "no program\n",
 }

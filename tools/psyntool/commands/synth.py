@@ -87,10 +87,8 @@ def run_on_parts(request):
 
 
 def hand_on(request, texts, flags=None):
-    """Prints the program's answer, and remarks on it. With --quiet, the tool becomes the program."""
+    """Prints the program's answer, and remarks on it."""
     given = files.joined("synth", request.passed if flags is None else flags, texts)
-    if asking.may_become(request) and flags is None and not request.has(SMALL):
-        program.become(given)
     answer = smaller(request, texts[0], program.ask(given), request.passed)
     status = asking.hand_on(request, texts, answer)
     remark(request, texts[0], answer)
