@@ -4,9 +4,9 @@ The commands of the program come first, in the order of the program's own table.
 of the command's name in `commands`, or in `asking` if the command only hands the program's answer on.
 """
 from psyntool.command import (
-    ABC, ASSUME, AUTO, BY, CERT, CHECK, CIRCUIT, COMPACT, DROP, EDGES, ENV, FORCE, FULL, GUARANTEE, KEEP, MOORE, NAMES,
-    OF_PARTS, OF_SENTENCES, OUTS, PARTS, PICTURE, PRIORITIES, REACH, SEED, SET, SMALL, STIMULUS, STRICT, TLSF, TO_FILE,
-    TO_FILES, TO_TLSF, TRACE, WAVE, Command, of_the_program,
+    ABC, ASSUME, AUTO, AUTOMATON, BY, CERT, CHECK, CIRCUIT, COMPACT, DROP, EDGES, ENV, FORCE, FULL, GUARANTEE, KEEP, MOORE,
+    NAMES, OF_PARTS, OF_SENTENCES, OUTS, PARTS, PICTURE, PRIORITIES, REACH, SEED, SET, SMALL, STIMULUS, STRICT, TLSF,
+    TO_FILE, TO_FILES, TO_TLSF, TRACE, WAVE, Command, of_the_program,
 )  # fmt: skip
 from psyntool.kinds import Kind
 from psyntool.usages import USAGES
@@ -57,7 +57,7 @@ OF_THE_PROGRAM = (
         "synth",
         "a controller, or an environment that defeats every finite-state one; "
         "with --cert by the certificate of its game; with --tlsf for a specification",
-        own=(TO_FILES, FORCE, SMALL, BY, KEEP, PICTURE, PARTS, *OF_PARTS, *OF_SENTENCES, SET),
+        own=(TO_FILES, AUTOMATON, FORCE, SMALL, BY, KEEP, PICTURE, PARTS, *OF_PARTS, *OF_SENTENCES, SET),
         instead={flag.name: (Kind.LIST,) for flag in (PARTS, *OF_PARTS)},
         apart={TLSF.name: (FULL, CERT, MOORE, COMPACT, BY, KEEP, PICTURE, PARTS, *OF_PARTS)},
     ),

@@ -118,7 +118,7 @@ class OfTheTool(OnFiles):
         done = self.tool("synth", "--formula", "G (r -> F g)", "--ins", "r", "--outs", "g", "-o", "made")
         self.assertEqual((done.stdout, done.returncode), (b"REALIZABLE\n", 10), done)
         self.assertEqual(self.tool("verify", "made.tlsf", "made.aag").stdout, b"wins\n")
-        self.assertEqual(sorted(os.listdir(self.room)), ["made.aag", "made.cert", "made.hoa", "made.pg", "made.tlsf"])
+        self.assertEqual(sorted(os.listdir(self.room)), ["made.aag", "made.tlsf"])
 
     def test_many_sentences_and_both_orders(self):
         words = ["--guarantee", "G (g <-> r)", "G F !g", "--assume", "G F !r", "--outs", "g"]

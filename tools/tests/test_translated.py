@@ -1,5 +1,5 @@
-"""`synth -o` of a specification in temporal logic, which writes the files that belong to the automaton that `translate`
-prints, and `agree` of the tool, which tells a difference as a table."""
+"""`synth --automaton` of a specification in temporal logic, which writes the files that belong to the automaton that
+`translate` prints, and `agree` of the tool, which tells a difference as a table."""
 import os
 import stat
 import subprocess
@@ -45,7 +45,7 @@ class Written(OnFiles):
         ):
             with self.subTest(order=order, sentence=sentence):
                 self.spec(order, sentence)
-                done = self.tool("synth", "--force", "-o", "out", "it.tlsf")
+                done = self.tool("synth", "--automaton", "--force", "-o", "out", "it.tlsf")
                 word = b"UNREALIZABLE\n" if env else b"REALIZABLE\n"
                 self.assertEqual((done.stdout, done.returncode), (word, 20 if env else 10))
                 self.assertEqual(self.asked(f"verify --tlsf{env}", "it.tlsf", "out.aag"), b"wins\n")
@@ -57,7 +57,7 @@ class Written(OnFiles):
 
     def test_commands_read_them(self):
         self.spec("Mealy", "G (g -> X !g)")
-        self.assertEqual(self.tool("synth", "-o", "out", "it.tlsf").returncode, 10)
+        self.assertEqual(self.tool("synth", "--automaton", "-o", "out", "it.tlsf").returncode, 10)
         self.assertIn(b"lasso: accepted", self.tool("play", "--auto", "--force", "out", "out.hoa").stdout)
         self.assertIn(b"lasso: satisfied", self.tool("play", "--auto", "--force", "out", "it.tlsf").stdout)
         page = self.tool("page", "out", "it.tlsf")
@@ -67,10 +67,38 @@ class Written(OnFiles):
         # the files are psyn's own, which a later run writes over
         self.assertEqual(self.tool("synth", "-o", "out", "it.tlsf").returncode, 10)
 
+    def test_the_circuit_alone_serves_play_and_page(self):
+        path = self.file("psyn", f"{WITHOUT}{program()}\n".encode())
+        os.chmod(path, stat.S_IRWXU)
+        for order, sentence in (("Mealy", "G (g -> X !g)"), ("Moore", "G (g <-> r)")):
+            self.spec(order, sentence)
+            done = self.tool("synth", "--force", "-o", "out", "it.tlsf", environment={"PSYN": path})
+            self.assertEqual((done.stderr, done.stdout.count(b"REALIZABLE")), (b"", 1))
+            self.assertEqual(sorted(os.listdir(self.room)), ["it.tlsf", "out.aag", "psyn"])
+            self.assertIn(b"lasso: ", self.tool("play", "--auto", "--force", "out", "it.tlsf").stdout)
+            page = self.tool("page", "out", "it.tlsf")
+            self.assertEqual((page.stderr, page.returncode, page.stdout.count(b"</html>")), (b"", 0, 1))
+            os.remove(os.path.join(self.room, "out.stim"))
+
+    def test_files_of_another_specification_are_not_read(self):
+        self.spec("Mealy", "G (g -> X !g)")
+        self.tool("synth", "--automaton", "-o", "out", "it.tlsf")
+        self.spec("Mealy", "G (g -> X X !g)")
+        self.assertEqual(self.tool("synth", "-o", "out", "it.tlsf").stdout, b"REALIZABLE\n")
+        page = self.tool("page", "out", "it.tlsf")
+        self.assertEqual((page.stderr, page.returncode, page.stdout.count(b"</html>")), (b"", 0, 1))
+
+    def test_the_flag_is_for_files_of_sentences(self):
+        self.spec("Mealy", "true")
+        self.file("it.hoa", self.tool("translate", "it.tlsf").stdout)
+        for words, told in ((["it.tlsf"], "-o PREFIX"), (["-o", "out", "it.hoa"], "--tlsf")):
+            done = self.tool("synth", "--automaton", *words)
+            said = f"psyn: synth --automaton wants {told}\n"
+            self.assertEqual((done.stdout, done.stderr.decode(), done.returncode), (b"", said, 2))
+
     def test_a_smaller_circuit_and_sentences(self):
-        done = self.tool(
-            "synth", "--small", "--formula", "G (r -> F g)", "--formula", "G (g -> X !g)", "--outs", "g", "-o", "out"
-        )
+        sentences = "--formula", "G (r -> F g)", "--formula", "G (g -> X !g)", "--outs", "g"
+        done = self.tool("synth", "--small", "--automaton", *sentences, "-o", "out")
         self.assertEqual(done.stdout, b"REALIZABLE\n")
         self.assertEqual(sorted(os.listdir(self.room)), sorted(f"out{ending}" for ending in (*ENDINGS, ".tlsf")))
         self.assertEqual(self.tool("verify", "out.tlsf", "out.aag").stdout, b"wins\n")
@@ -79,7 +107,7 @@ class Written(OnFiles):
         path = self.file("psyn", f"{WITHOUT}{program()}\n".encode())
         os.chmod(path, stat.S_IRWXU)
         self.spec("Mealy", "true")
-        done = self.tool("synth", "-o", "out", "it.tlsf", environment={"PSYN": path})
+        done = self.tool("synth", "--automaton", "-o", "out", "it.tlsf", environment={"PSYN": path})
         self.assertEqual((done.stdout, done.returncode), (b"REALIZABLE\n", 10))
         self.assertIn(
             b"no automaton is printed (fault 75 of translate), so of the circuit's files only out.aag is written\n",

@@ -25,10 +25,13 @@ def run(request):
     if request.has(CIRCUIT):
         return of_circuit(request, request.value(CIRCUIT), request.words[0] if request.words else "-")
     prefix, spec = request.words
-    if kind_of(reading.beginning(spec)) is Kind.SPECIFICATION and not os.path.exists(f"{prefix}.pg"):
-        return of_circuit(request, f"{prefix}.aag", spec)  # synth writes no game of a specification
+    beside = None
+    if kind_of(reading.beginning(spec)) is Kind.SPECIFICATION:
+        beside = reading.automaton_beside(request)
+        if beside is None:
+            return of_circuit(request, f"{prefix}.aag", spec)
     request.refuse_without(MOORE, PARTS)
-    given = reading.given(request)
+    given = reading.given(request, beside)
     tell_what_is_not_drawn(request, len(given.board.automaton.states))
     given = opponents.smaller(judged(given))
     prefix = os.path.basename(prefix)
@@ -100,29 +103,26 @@ def wanted(request):
 
 
 def of_circuit(request, path, of):
-    """The page of a circuit, in a file, that psyn did not print. The program makes the game of the automaton and its
-    certificate, and judges the circuit."""
+    """The page of a circuit, in a file, without the game that psyn may have printed with it. The program makes the game
+    of the automaton and its certificate, and judges the circuit."""
     reader = Reader(request)
     spec, made = reader.texts((Kind.FILE, Kind.CIRCUIT), (of, path))
     text = reading.automaton_of(reader, spec, request.command.name, request)
     whole = files.Text(Kind.AUTOMATON, spec.name, text.encode("utf-8", "surrogateescape"))
     tell_what_is_not_drawn(request, text.count("\nState: "))
-    printed = [made.string]
-    for command in ("game", "cert"):
+    printed = [made]
+    for command, kind in zip(("game", "cert"), reading.KINDS[1:]):
         answer = program.ask(files.joined(command, request.passed, [whole]))
         if not asking.is_had(answer):
-            console.write(answer.bytes)
-            return asking.told(request, [whole], answer)
-        printed.append(answer.text)
-    board = reading.board_of(text, *printed, name=spec.name, known_by="verify")
+            return asking.hand_on(request, [whole], answer)
+        printed.append(files.Text(kind, kind.title, answer.bytes))
+    board = reading.board_of(text, *(it.string for it in printed), name=spec.name, known_by="verify")
     refuse_losing(board, whole, made)
+    given = reading.Given(text, tuple(printed), spec, board)
+    given = given if request.has(CIRCUIT) else opponents.smaller(given)
     name = os.path.splitext(os.path.basename(path))[0]
-    texts = [
-        (kind.title, name + ending, part.encode("utf-8", "surrogateescape"))
-        for kind, ending, part in zip(reading.KINDS, reading.ENDINGS, printed)
-    ]
-    texts.append(("specification", f"{name}.hoa", whole.bytes))
-    console.write_text(writing.page(name, board, texts))
+    texts = [*texts_of(given, name), ("specification", f"{name}.hoa", whole.bytes)]
+    console.write_text(writing.page(name, given.board, texts))
     return 0
 
 

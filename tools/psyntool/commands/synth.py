@@ -1,8 +1,8 @@
 """`synth`: a circuit for an automaton, for a specification in parts, or for one in temporal logic. With -o, the
-circuit, the game and the certificate go to separate files; with --small, the circuit is made smaller; with --by,
-another solver solves the game."""
+circuit, the game and the certificate go to separate files, of temporal logic the circuit alone or, with --automaton,
+all; with --small, the circuit is made smaller; with --by, another solver solves the game."""
 from psyntool import asking, console, files, outputs, program
-from psyntool.command import BY, CERT, FULL, KEEP, MOORE, OF_PARTS, PARTS, PICTURE, SMALL, TLSF, TO_FILES
+from psyntool.command import AUTOMATON, BY, CERT, FULL, KEEP, MOORE, OF_PARTS, PARTS, PICTURE, SMALL, TLSF, TO_FILES
 from psyntool.ends import FAULT, Refused
 from psyntool.kinds import Kind
 from psyntool.texts import Unreadable, report
@@ -16,6 +16,8 @@ TRANSLATED = b'\ntool: "psyn translate"\n'
 def run(request):
     request.refuse_without(PICTURE, BY)
     request.refuse_without(KEEP, BY)
+    request.refuse_without(AUTOMATON, TO_FILES)
+    request.refuse_without(AUTOMATON, TLSF)
     if any(request.has(flag) for flag in (PARTS, *OF_PARTS)) and not request.has_sentences:
         return run_on_parts(request)
     if request.has(TLSF):
@@ -29,17 +31,26 @@ def run(request):
 
 
 def run_on_specification(request):
-    """Runs `synth` on a specification in temporal logic, of which the circuit alone is printed. With -o, the circuit,
-    the game and the certificate are those of the automaton that `translate` prints, which goes to a file too, and so do
-    sentences of the command line; where no automaton is found, only the circuit is written."""
-    from psyntool.texts import specification
-
+    """Runs `synth` on a specification in temporal logic, of which the circuit alone is printed. With -o it goes to a
+    file, as sentences of the command line do, and with --automaton so do the automaton that `translate` prints, its
+    game and its certificate."""
     if not request.has(TO_FILES):
         return hand_on(request, request.texts())
-    paths = paths_of(request, (*ENDINGS, ".hoa", ".tlsf")[: 4 + request.has_sentences])
+    endings = [".aag", *[".pg", ".cert", ".hoa"] * request.has(AUTOMATON), *[".tlsf"] * request.has_sentences]
+    paths = paths_of(request, endings)
     texts = request.texts()
     outputs.refuse_read(request, paths)
-    others = {path: texts[0].bytes for path in paths[4:]}
+    others = {path: texts[0].bytes for path in paths[-1:] if request.has_sentences}
+    if request.has(AUTOMATON):
+        return with_automaton(request, texts, paths[:4], others)
+    return to_files(request, texts, paths[:1], others)
+
+
+def with_automaton(request, texts, paths, others):
+    """Writes the circuit, the game and the certificate of the automaton of a specification, and this automaton. Where
+    none is found, only a circuit is written."""
+    from psyntool.texts import specification
+
     answer = program.ask(files.joined("translate", [], texts))
     if answer.bytes.startswith(NOT_TRANSLATED):
         status = to_files(request, texts, paths[:1], others)

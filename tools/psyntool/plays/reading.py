@@ -27,12 +27,12 @@ class Given:
     board: Board
 
 
-def given(request):
-    """The files that the words PREFIX and SPEC of a command line name."""
+def given(request, text=None):
+    """The files that the words PREFIX and SPEC of a command line name. The automaton's text may be known."""
     prefix, path = request.words
     reader = Reader(request)
     *printed, spec = reader.texts((*KINDS, Kind.FILE), (*(prefix + ending for ending in ENDINGS), path))
-    text = written_beside(reader, spec, f"{prefix}.hoa") or automaton_of(reader, spec, request.command.name)
+    text = text or automaton_of(reader, spec, request.command.name)
     return Given(text, tuple(printed), spec, board_of(text, *(it.string for it in printed), name=spec.name))
 
 
@@ -63,15 +63,17 @@ def board_of(text, *printed, name="", known_by="synth"):
         raise Unreadable(f"{name}: {error}") from None
 
 
-def written_beside(reader, spec, path):
-    """The text of the automaton in a file, with the sentences, if there is a specification in temporal logic, and
-    `agree` finds that the automaton accepts exactly the words that satisfy it; else None."""
-    if spec.looks_like is not Kind.SPECIFICATION or not os.path.exists(path):
+def automaton_beside(request):
+    """The text of the automaton in PREFIX.hoa, with the sentences of SPEC, if its game and its certificate are there too,
+    and `agree` finds that it accepts exactly the words that satisfy SPEC, a specification in temporal logic; else
+    None."""
+    prefix, path = request.words
+    if not all(os.path.exists(prefix + ending) for ending in (".hoa", *ENDINGS[1:])):
         return None
     from psyntool import specifying
     from psyntool.parts import translated
 
-    texts = [reader.specification(spec), reader.text(Kind.AUTOMATON, path)]
+    texts = Reader(request).texts((Kind.SPECIFICATION, Kind.AUTOMATON), (path, f"{prefix}.hoa"))
     if program.ask(joined("agree", [], texts)).bytes != b"agrees\n":
         return None
     return translated.with_sentences(texts[1].string, specifying.read(texts[0]))
