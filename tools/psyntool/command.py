@@ -6,10 +6,11 @@ The help, the manual and the completions are made from the commands in `table`.
 import importlib
 import os
 import re
+from collections import Counter
 from dataclasses import dataclass, field
 
 from psyntool.ends import Refused
-from psyntool.kinds import Kind
+from psyntool.kinds import Kind, kind_of_file
 from psyntool.usages import USAGES
 
 
@@ -38,7 +39,7 @@ ENV = Flag("--env", "the circuit is an environment")
 TLSF = Flag(
     "--tlsf",
     "a specification in temporal logic (TLSF) in the place of the automaton; "
-    "a file NAME.tlsf is taken for one without the flag",
+    "a file that begins as one is taken for one without the flag",
 )
 OF_THE_PROGRAM = {flag.name: flag for flag in (FULL, CERT, MOORE, COMPACT, ENV, TLSF)}
 TO_FILES = Flag(
@@ -119,8 +120,6 @@ KEEP_RETURNS = Flag("--keep-returns", "leave carriage returns where they are")
 ZERO_RESETS = Flag("--zero-resets", "unset latches of a circuit (their own literal as reset) begin with 0")
 HELP = Flag("--help", "how the command is used")
 VERSION = Flag("--version", "which psyn this is")
-# How the names of files end that --parts reads.
-OF_LISTS = tuple(f".{ending}" for kind in (Kind.LIST, Kind.SPECIFICATION) for ending in kind.endings)
 EVERYWHERE = (KEEP_RETURNS, ZERO_RESETS, JSON, TIME, MEMORY, QUIET, HELP, VERSION)
 SHORT = {"-h": "--help", "-V": "--version"}
 
@@ -179,27 +178,17 @@ class Command:
         )
 
     def recognised(self, given, words):
-        """The given flags, and the flag for a first file of another kind if the file's name ends as those of this kind
-        do, or if the command line has the sentences of a specification. A command that reads several words, and is
-        given one list, reads that."""
+        """The given flags, and the flag for a first file of another kind if the file is of this kind, or if the command
+        line has the sentences of a specification. A command that reads several words, and is given one list, reads
+        that."""
         if has_sentences(given):
             return {**given, **dict.fromkeys(self.replaced, True)}
-        if (
-            PARTS.name in self.instead
-            and len(words) == 1 < len(self.reads)
-            and not set(self.instead) & set(given)
-            and words[0].endswith(OF_LISTS)
-        ):
-            return {**given, PARTS.name: True}
-        for flag, kind in self.replaced.items():
-            if (
-                words
-                and flag not in given
-                and not set(self.instead) & set(given)
-                and words[0].endswith(tuple(f".{ending}" for ending in kind.endings))
-            ):
-                return {**given, flag: True}
-        return given
+        if not words or set(self.instead) & set(given):
+            return given
+        if PARTS.name in self.instead and len(words) == 1 < len(self.reads):
+            return {**given, PARTS.name: True} if is_of(words[0], Kind.LIST, Kind.SPECIFICATION) else given
+        wanted = ((flag, kind) for flag, kind in self.replaced.items() if flag not in given)
+        return {**given, **{flag: True for flag, kind in wanted if is_of(words[0], kind)}}
 
     def wanted(self, given=()):
         """The words of a usage line for what the command reads, with optional words in brackets."""
@@ -214,6 +203,12 @@ class Command:
     def usage(self):
         optional = [f"[{kind.word}]" for kind in self.behind.values()]
         return " ".join([self.name, *(f"[{flag.shown}]" for flag in self.all_flags), *self.wanted(), *optional])
+
+
+def is_of(path, *kinds):
+    """Whether a file is of one of the kinds, as its beginning shows; where that shows none, whether its name does."""
+    found = kind_of_file(path)
+    return found in kinds if found else path.endswith(tuple(f".{ending}" for kind in kinds for ending in kind.endings))
 
 
 def has_sentences(given):
@@ -310,10 +305,7 @@ class Request:
 
         kinds = self.command.kinds(self.given)
         if self.has(SET) and self.command.replaced and (Kind.SPECIFICATION not in kinds or self.has_sentences):
-            raise Refused(
-                f"{self.command.name} {SET.name} wants a specification, "
-                f"as {TLSF.name} or a name that ends with .tlsf says"
-            )
+            raise Refused(f"{self.command.name} {SET.name} wants a specification in a file")
         wrong = next((flag for flag in (INS, OUTS, STRICT, MOORE, ASSUME, GUARANTEE) if self.has(flag)), None)
         if wrong and Kind.SPECIFICATION in kinds and not self.has_sentences:
             raise Refused(
@@ -347,6 +339,8 @@ def wrong_kinds(command, texts):
     kinds = [text.kind for text in texts]
     if TLSF.name in command.replaced and any(text.looks_like is Kind.SPECIFICATION for text in texts):
         kinds[0] = Kind.SPECIFICATION
+    if len(kinds) > 1 and Counter(kinds) == Counter(text.looks_like for text in texts):
+        hint = ", in this order"
     elif kinds == [Kind.CIRCUIT] and texts[0].looks_like in (Kind.SPECIFICATION, Kind.AUTOMATON):
         hint = "; `synth` makes one"
     return f"{said}; {command.name} wants {' '.join(kind.word for kind in kinds)}{hint}"

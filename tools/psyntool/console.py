@@ -10,6 +10,8 @@ INPUT, OUTPUT, ERROR = 0, 1, 2
 STEP = 1 << 20
 # A list that keeps what would go to standard output, or None.
 kept = None
+# What was read of standard input to see what it is, and is read again.
+ahead = b""
 
 
 def fill_closed():
@@ -84,8 +86,26 @@ def lines():
         yield rest.decode("utf-8", "replace").strip()
 
 
+def beginning(most, suffices):
+    """The first bytes of standard input, which stay to be read: `most` of them, or as many as suffice."""
+    global ahead
+    found = ahead
+    while len(found) < most and not suffices(found):
+        ahead = b""
+        part = read_some(most - len(found))
+        found += part
+        ahead = found
+        if not part:
+            break
+    return found
+
+
 def read_some(most):
     """Reads at most `most` bytes that standard input has now; returns no bytes at the end of the input."""
+    global ahead
+    if ahead:
+        part, ahead = ahead[:most], ahead[most:]
+        return part
     try:
         return os.read(INPUT, most)
     except OSError as error:

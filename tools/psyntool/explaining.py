@@ -26,9 +26,12 @@ def lines(request, texts, answer):
         return []
     number = int(found[2]) if found[2] else None
     fault = next((it for it in faults.read_document() if it.number == number and (number or it.name == found[1])), None)
-    told = [*filter(None, [wrong_kinds(request.command, texts)])]
+    wrong = wrong_kinds(request.command, texts)
+    if wrong:
+        return [wrong]
+    told = []
     if number == READ_FAULT:
-        return [*told, f"cause: the files have more than {MOST_BYTES:,} bytes together, the most that psyn reads"]
+        return [f"cause: the files have more than {MOST_BYTES:,} bytes together, the most that psyn reads"]
     if fault and fault.kind and found[4]:
         told += place_of(
             fault,

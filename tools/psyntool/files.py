@@ -2,7 +2,7 @@
 import bisect
 import re
 
-from psyntool import console, program, unmentioned
+from psyntool import console, kinds, program, unmentioned
 from psyntool.ends import Refused
 from psyntool.kinds import Kind, kind_of
 from psyntool.texts import binary, is_number
@@ -196,8 +196,7 @@ class Reader:
         else:
             self.settings.read.append(path)
             try:
-                with open(path, "rb") as file:
-                    data = file.read(self.left)
+                data = kinds.read(path, self.left)
             except OSError as error:
                 raise Refused(f"{title_of(path)}: {error.strerror}") from None
         self.left -= len(data)

@@ -1,9 +1,15 @@
 """Kinds of texts: the name of each kind, its file name endings, and how its texts begin."""
 import enum
+import os
 import re
+import stat
+
+from psyntool import console
 
 # The number of bytes at the start of a text that decide its kind.
 BEGINNING = 4096
+# Files that can be read only once, such as pipes, by their paths, each with its first bytes, which are read already.
+begun = {}
 
 
 class Kind(enum.Enum):
@@ -50,5 +56,36 @@ SIGNS = [
 def kind_of(data):
     """The kind of a text, as its beginning shows; None if the beginning fits no kind. A leading comment of an automaton
     is skipped."""
-    beginning = re.sub(rb"(?s)\A\s*/\*.*?\*/", b"", data[:BEGINNING])
-    return next((kind for kind, sign in SIGNS if re.match(sign, beginning)), None)
+    start = re.sub(rb"(?s)\A\s*/\*.*?\*/", b"", data[:BEGINNING])
+    return next((kind for kind, sign in SIGNS if re.match(sign, start)), None)
+
+
+def kind_of_file(path):
+    """The kind of a file (for the path `-`, of standard input), as its beginning shows; None if that fits no kind, or
+    can't be read."""
+    return kind_of(beginning(path))
+
+
+def beginning(path):
+    """The first bytes of a file, or of standard input, which are read again later; none if they can't be read."""
+    if path == "-":
+        return console.beginning(BEGINNING, kind_of)
+    if path in begun:
+        return begun[path][1]
+    try:
+        file = open(path, "rb")
+        found = file.read(BEGINNING)
+    except OSError:
+        return b""
+    if stat.S_ISREG(os.fstat(file.fileno()).st_mode):
+        file.close()
+    else:
+        begun[path] = file, found
+    return found
+
+
+def read(path, most):
+    """At most so many bytes of a file."""
+    file, found = begun.pop(path, None) or (open(path, "rb"), b"")
+    with file:
+        return found + file.read(most - len(found))

@@ -1,12 +1,14 @@
 """Tests of the tool on specifications in temporal logic: what it explains, and what it hands on."""
 import json
 import os
+import subprocess
+import sys
 import unittest
 
 from psyntool.kinds import Kind, kind_of
 from psyntool.program import path as program
 from psyntool.texts import Unreadable, specification
-from tests.tool import AUTOMATON, OnFiles
+from tests.tool import AUTOMATON, TOOL, OnFiles
 
 HEAD = b'INFO { TITLE: "t" SEMANTICS: Mealy TARGET: Mealy }\n'
 MAIN = b"MAIN {\n  INPUTS { r; }\n  OUTPUTS { g; }\n  GUARANTEE { G (r -> F g); }\n}\n"
@@ -45,6 +47,47 @@ class Specifications(OnFiles):
         self.assertEqual(self.asked("s.tlsf", "grant.aag", "l.stim"), ("satisfied stem 0 lap 1\n", [], 0))
         self.assertEqual(self.asked("s.tlsf", "never.aag", "l.stim"), ("violated stem 0 lap 1\n", [], 0))
         self.assertEqual(self.asked("--check", "s.tlsf", "never.aag", "l.stim")[2], 3)
+
+    def test_it_is_one_whatever_its_name(self):
+        for name in ("spec.txt", "spec"):
+            path = self.file(name, b"// A comment.\n" + HEAD + MAIN)
+            for words, said in (
+                (("synth", path), b"REALIZABLE"),
+                (("verify", path, "grant.aag"), b"wins"),
+                (("lasso", path, "never.aag", "l.stim"), b"violated stem 0 lap 1"),
+                (("each", "synth", path), f"{path}: REALIZABLE".encode()),
+                (("synth", "-"), b"REALIZABLE"),
+                (("verify", "-", "grant.aag"), b"wins"),
+            ):
+                with self.subTest(words):
+                    done = self.tool(*words, given=b"// A comment." + b"\n" * 3000 + HEAD + MAIN)
+                    self.assertEqual((done.stdout.splitlines()[0], done.stderr), (said, b""))
+        self.file("automaton.tlsf", AUTOMATON)
+        self.assertEqual(self.tool("verify", "automaton.tlsf", "grant.aag").stdout, b"wins\n")
+
+    def test_a_pipe_is_read_once(self):
+        reading = f"{sys.executable} {TOOL} verify <(cat s.tlsf) <(cat grant.aag)"
+        done = subprocess.run(["bash", "-c", reading], capture_output=True, check=False, cwd=self.room)
+        self.assertEqual((done.stdout, done.stderr), (b"wins\n", b""))
+
+    def test_files_of_other_kinds_are_told_in_one_line(self):
+        for words, said in (
+            (
+                ("verify", "grant.aag", "s.tlsf"),
+                "grant.aag is a circuit, s.tlsf is a specification; verify wants SPECIFICATION CIRCUIT, in this order",
+            ),
+            (
+                ("agree", "spec.hoa", "s.tlsf"),
+                "spec.hoa is an automaton, s.tlsf is a specification; agree wants SPECIFICATION AUTOMATON, in this order",
+            ),
+            (("synth", "grant.aag"), "grant.aag is a circuit; synth wants AUTOMATON"),
+            (("translate", "spec.hoa"), "spec.hoa is an automaton; translate wants SPECIFICATION"),
+            (("verify", "s.tlsf", "s.tlsf"), "s.tlsf is a specification; verify wants SPECIFICATION CIRCUIT"),
+        ):
+            with self.subTest(words):
+                done = self.tool(*words)
+                self.assertEqual((done.stderr.decode(), done.returncode), (f"{said}\n", 1))
+                self.assertTrue(done.stdout.startswith(b"fault "))
 
     def test_it_is_told_as_json(self):
         told = json.loads(self.asked("--json", "s.tlsf", "never.aag", "l.stim")[0])
@@ -88,9 +131,6 @@ class Specifications(OnFiles):
             "spec.hoa is an automaton; lasso wants SPECIFICATION CIRCUIT STIMULUS",
             self.asked("spec.hoa", "grant.aag", "l.stim")[1],
         )
-        self.file("spec", HEAD + MAIN)
-        told = self.tool("lasso", "spec", "grant.aag", "l.stim").stderr.decode()
-        self.assertIn("spec is a specification; lasso wants SPECIFICATION CIRCUIT STIMULUS", told)
 
     def test_it_is_known_by_its_ending(self):
         self.assertEqual(self.tool("lasso", "s.tlsf", "grant.aag", "l.stim").stdout, b"satisfied stem 0 lap 1\n")
@@ -150,7 +190,7 @@ class Specifications(OnFiles):
         for words, said in (
             (
                 ["lasso", "--set", "n=2", "spec.hoa", "grant.aag", "l.stim"],
-                "lasso --set wants a specification, as --tlsf or a name that ends with .tlsf says",
+                "lasso --set wants a specification in a file",
             ),
             (
                 ["lasso", "--set", "n=2", "s.tlsf", "grant.aag", "l.stim"],
@@ -206,7 +246,7 @@ class Synthesis(OnFiles):
         done = self.tool("synth", "-o", "made", "s.tlsf")
         self.assertEqual((done.stdout, done.returncode), (b"REALIZABLE\n", 10), done)
         self.assertEqual(self.tool("verify", "s.tlsf", "made.aag").stdout, b"wins\n")
-        self.assertTrue(os.path.exists(os.path.join(self.room, "made.pg")))
+        self.assertFalse(os.path.exists(os.path.join(self.room, "made.pg")))
 
     def test_a_smaller_circuit_is_made(self):
         for words, status in ((["s.tlsf"], 10), (["--formula", "G (r -> F g)", "G r"], 20)):

@@ -174,7 +174,7 @@ class OfTheTool(OnFiles):
             (["--formula", "G g", "--outs", "g", "--full"], "synth --tlsf can't have --full"),
             (
                 ["--formula", "G g", "--outs", "g", "--set", "n=1"],
-                "synth --set wants a specification, as --tlsf or a name that ends with .tlsf says",
+                "synth --set wants a specification in a file",
             ),
         ):
             self.assertEqual(self.refused("synth", *words), told)

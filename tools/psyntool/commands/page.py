@@ -6,7 +6,7 @@ from psyntool import asking, console, files, outputs, program, remarks
 from psyntool.command import CIRCUIT, ENV, FULL, MOORE, PARTS, STRICT
 from psyntool.ends import Refused, Unwritten
 from psyntool.files import Reader
-from psyntool.kinds import Kind, kind_of
+from psyntool.kinds import Kind, kind_of_file
 from psyntool.pages import writing
 from psyntool.parts import specification, translated
 from psyntool.parts.composing import Composer
@@ -26,7 +26,7 @@ def run(request):
         return of_circuit(request, request.value(CIRCUIT), request.words[0] if request.words else "-")
     prefix, spec = request.words
     beside = None
-    if kind_of(reading.beginning(spec)) is Kind.SPECIFICATION:
+    if kind_of_file(spec) is Kind.SPECIFICATION:
         beside = reading.automaton_beside(request)
         if beside is None:
             return of_circuit(request, f"{prefix}.aag", spec)
@@ -91,11 +91,7 @@ def of_parts(request):
 def wanted(request):
     """The automaton of a list of parts, with its composer; that of a specification in temporal logic, with a composer
     if all sentences are parts."""
-    if (
-        len(request.words) == 1
-        and not request.has(STRICT)
-        and kind_of(reading.beginning(request.words[0])) is Kind.SPECIFICATION
-    ):
+    if len(request.words) == 1 and not request.has(STRICT) and kind_of_file(request.words[0]) is Kind.SPECIFICATION:
         reader = Reader(request)
         return translated.automaton_of(reader, reader.text(Kind.LIST, request.words[0]), request)
     composer = Composer(specification.asked(request))

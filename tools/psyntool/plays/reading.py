@@ -6,7 +6,7 @@ from dataclasses import dataclass
 from psyntool import program
 from psyntool.ends import Refused
 from psyntool.files import Reader, Text, joined
-from psyntool.kinds import BEGINNING, Kind, kind_of
+from psyntool.kinds import Kind, kind_of_file
 from psyntool.parts import specification as specifications
 from psyntool.parts.composing import Composer
 from psyntool.plays.board import Board
@@ -39,16 +39,7 @@ def given(request, text=None):
 def specification(request):
     """The text of SPEC if it is a specification in temporal logic, else None."""
     path = request.words[1]
-    return Reader(request).text(Kind.SPECIFICATION, path) if kind_of(beginning(path)) is Kind.SPECIFICATION else None
-
-
-def beginning(path):
-    """The first bytes of a file; none of standard input, or of a file that can't be read."""
-    try:
-        with open(path, "rb") as file:
-            return file.read(BEGINNING) if path != "-" else b""
-    except OSError:
-        return b""
+    return Reader(request).text(Kind.SPECIFICATION, path) if kind_of_file(path) is Kind.SPECIFICATION else None
 
 
 def board_of(text, *printed, name="", known_by="synth"):
