@@ -243,6 +243,7 @@ class Reader:
 
         text.kind = Kind.SPECIFICATION
         specifying.write_out(text, self.settings)
+        self.tell(text)
         return text
 
     def tell(self, text):

@@ -11,6 +11,8 @@ from psyntool.tlsf import expanding, spoken
 from psyntool.tlsf.reading import NAME, is_in_full_form
 from psyntool.tlsf.tokens import ENCODING, Wrong
 
+# Of more sentences that other tools group differently, so many are shown.
+MOST_TOLD = 20
 # Stands behind the name of a file whose text was written out.
 WRITTEN_OUT = " (written out)"
 
@@ -30,14 +32,24 @@ def settings_of(request):
 
 def basic(text, settings):
     """The specification that a text describes, in the basic form; what is wrong with the text is told with its line and
-    column."""
+    column. The text is to tell how its mixes of operators were read."""
     try:
-        return expanding.basic(text.bytes.decode(ENCODING), settings)
+        made = expanding.basic(text.bytes.decode(ENCODING), settings)
+        text.told += [f"{text.name}:{line}" for line in groupings(text, made.grouped)]
+        return made
     except Wrong as error:
         row, column = marking.line_and_column(text.original, text.place_in_file(error.offset))
         raise Refused(f"{text.name}:{row}:{column}: {error}") from None
     except expanding.Unset as error:
         raise Refused(f"{text.name}: {SET.shown}: {error}") from None
+
+
+def groupings(text, grouped):
+    """Lines on the mixes of operators of a text, which other tools group differently: how each was read."""
+    rows = [marking.line_and_column(text.original, text.place_in_file(offset))[0] for offset, _ in grouped]
+    found = [f"{row}: read as TLSF groups it: {said}" for row, (_, said) in zip(rows, grouped)]
+    more = [f" {len(found) - MOST_TOLD:,} more mixes of operators are read as TLSF groups them"]
+    return [*found[:MOST_TOLD], *more * (len(found) > MOST_TOLD)]
 
 
 def write_out(text, request):

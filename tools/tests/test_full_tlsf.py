@@ -3,6 +3,7 @@ formulas are compared on random lassos with formulas that are written by hand, o
 import glob
 import os
 import random
+import re
 import tomllib
 import unittest
 
@@ -221,6 +222,84 @@ def meant(formula):
     )
 
 
+def expanded_as_said(text):
+    """The basic form of a guarantee. If it is refused because it mixes words and operators, each reading of the message
+    is accepted as it is, and that of TLSF is taken."""
+    try:
+        made = of_guarantees(text)
+    except Wrong as error:
+        readings = re.findall("`([^`]*)`", str(error))
+        for one in readings:
+            assert not of_guarantees(one).grouped, (text, one)
+        made = of_guarantees(readings[0])
+    for _, one in made.grouped:
+        assert of_guarantees(one).text() == made.text(), (text, one)
+    return made.text()
+
+
+def of_guarantees(*sentences):
+    return expanding.basic(specification(["a", "b"], ["c", "d"], [("GUARANTEE", sentences)]), {})
+
+
+class Groupings(OnFiles):
+    """Mixes of operators that other tools group differently are told, and refused beside words."""
+
+    def test_how_a_sentence_was_read(self):
+        for text, here in (
+            ("G (a -> b U c)", "G ((a -> b) U c)"),
+            ("a U b  /* here */ W c R d", "(a U (b W c)) R d"),
+            ("a R b R c", "(a R b) R c"),
+            ("a -> b <-> c", "a -> (b <-> c)"),
+            ("a && b || c W d", "(a && b || c) W d"),
+            ("F (a U b -> c) && G (a U X b && c)", "F (a U (b -> c)) && G (a U (X b && c))"),
+        ):
+            self.assertEqual([one for _, one in of_guarantees("a", text).grouped], [here])
+        for text in ("a U b U c", "a W b W c", "(a -> b) U c", "a && b -> c || d", "a <-> b <-> c", "G a U F b"):
+            self.assertEqual(of_guarantees(text).grouped, (), text)
+
+    def test_words_beside_operators_are_refused_with_both_readings(self):
+        for text, *readings in (
+            ("G (a -> within 2 b U c)", "G ((a -> within 2 b) U c)", "G (a -> (within 2 b U c))"),
+            ("a until b U c", "(a until b) U c", "a until (b U c)"),
+            ("a U b and c[*2]", "a U (b and c[*2])", "(a U b) and c[*2]"),
+            ("a xor b || c", "a xor (b || c)", "(a xor b) || c"),
+            ("rises(a) -> b <-> c", "rises(a) -> (b <-> c)", "(rises(a) -> b) <-> c"),
+        ):
+            with self.assertRaises(Wrong) as caught:
+                of_guarantees("a", text)
+            told = " or ".join(f"`{one}`" for one in readings)
+            wanted = f"tools group this mix of words and operators differently: write {told}"
+            self.assertEqual(str(caught.exception), wanted, text)
+        for text in ("a until b -> c && within 2 d", "a && b until c || not d", "a xor b && c", "within 2 a unless b"):
+            self.assertEqual(of_guarantees(text).grouped, (), text)
+
+    def test_files_are_read_as_before(self):
+        for folder in ("tlsf", "specifications", "gallery"):
+            for path in glob.glob(os.path.join(TOP, "examples", folder, "*.tlsf")):
+                with open(path, encoding="utf-8") as file:
+                    grouped = expanding.basic(file.read(), {}).grouped
+                self.assertEqual(len(grouped), 6 * (os.path.basename(path) == "precedences.tlsf"), path)
+
+    def test_the_tool_tells_them_by_their_lines(self):
+        text = specification(["a", "b"], ["c"], [("GUARANTEE", ["G (a -> within 1 c)", "\nG (a -> b U c)"])])
+        self.file("it.tlsf", text.encode())
+        told = b"it.tlsf:2: read as TLSF groups it: G ((a -> b) U c)\n"
+        for words in (["synth"], ["tlsf"], ["sane"], ["compose"], ["page"], ["core"]):
+            self.assertTrue(self.tool(*words, "it.tlsf").stderr.startswith(told), words)
+            self.assertNotIn(b"as TLSF", self.tool(*words, "--quiet", "it.tlsf").stderr)
+        self.file("it.tlsf", text.replace("b U c", "within 1 b U c").encode())
+        done = self.tool("synth", "it.tlsf")
+        told = "psyn: it.tlsf:2:1: tools group this mix of words and operators differently: write "
+        told += "`G ((a -> within 1 b) U c)` or `G (a -> (within 1 b U c))`\n"
+        self.assertEqual((done.stdout, done.stderr.decode(), done.returncode), (b"", told, 2))
+
+    def test_of_many_the_first_are_shown(self):
+        text = specification(["a"], ["c"], [("GUARANTEE", ["rises(c)", *["a -> c U a"] * 25])])
+        told = self.tool("tlsf", self.file("it.tlsf", text.encode())).stderr.decode().splitlines()
+        self.assertEqual(len(told), 21)
+        self.assertTrue(told[-1].endswith("it.tlsf: 5 more mixes of operators are read as TLSF groups them"), told)
+
+
 class Meanings(unittest.TestCase):
     """Formulas have in the basic form the meaning that they have by the precedences of the full form."""
 
@@ -230,7 +309,7 @@ class Meanings(unittest.TestCase):
             formula = drawn(draw, 4)
             text = said(draw, formula)
             with self.subTest(text):
-                made = expanding.expanded(specification(["a", "b"], ["c", "d"], [("GUARANTEE", [text])]), {})
+                made = expanded_as_said(text)
                 read = tlsf_reader.read(made.encode())
                 those = [lassos.drawn(draw, 4) for _ in range(12)]
                 both = ("true",)

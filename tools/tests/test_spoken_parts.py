@@ -152,7 +152,7 @@ class OfTheTool(OnFiles):
         )
         for order in (b"Mealy", b"Moore"):
             self.file("s.tlsf", PERSISTENT.replace(b"Mealy", order))
-            self.assertEqual(self.tool("synth", "--force", "-o", "s", "s.tlsf").returncode, 10)
+            self.assertEqual(self.tool("synth", "--automaton", "--force", "-o", "s", "s.tlsf").returncode, 10)
             for words in (["page", "s.tlsf"], ["page", "s", "s.tlsf"], ["page", "--circuit", "s.aag", "s.tlsf"]):
                 done = self.tool(*words)
                 wanted = "" if words == ["page", "s", "s.tlsf"] else said  # synth has written the automaton

@@ -12,6 +12,8 @@ def run(request):
     [text] = request.texts()
     outputs.refuse_read(request, paths)
     made = (text.basic or specifying.basic(text, settings)).text().encode(ENCODING)
+    if not request.quiet:
+        console.tell(*text.told)
     if paths:
         outputs.write_all({paths[0]: made})
     else:

@@ -210,8 +210,9 @@ def take_specification(text, reader, wishes):
     """Adds the parts that the sentences of a specification in temporal logic are."""
     from psyntool import specifying
 
-    name = text.name
-    refused_behind(name, take_sentences, specifying.read(reader.specification(text)), wishes)
+    name, basic = text.name, specifying.read(reader.specification(text))
+    reader.tell(text)
+    refused_behind(name, take_sentences, basic, wishes)
 
 
 def take_sentences(basic, wishes):

@@ -15,6 +15,7 @@ def automaton_of(reader, text, request=None):
     """The automaton's text, and the composer if all sentences are parts, else None. If the controller moves first, a
     given request has the flag that says so."""
     wishes, basic = specification.Wishes(), specifying.read(reader.specification(text))
+    reader.tell(text)
     wishes.is_moore = basic.is_moore
     try:
         specification.take_sentences(basic, wishes)

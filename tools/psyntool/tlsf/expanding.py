@@ -60,6 +60,8 @@ class Basic:
     is_strict: bool
     is_moore: bool
     sentences: tuple
+    # expressions that other tools group differently: their offsets, and how each was read
+    grouped: tuple = ()
 
     def of(self, word: str) -> list:
         """The sentences of a section."""
@@ -127,7 +129,8 @@ def written(specification: Specification, text: str, settings: dict) -> Basic:
         for those in (definitions.inputs, definitions.outputs)
     ]
     order = specification.is_strict, specification.target == "Moore"
-    return Basic((*head, *info(specification)), *names, *order, tuple(sentences(text, specification, definitions)))
+    those = tuple(sentences(text, specification, definitions))
+    return Basic((*head, *info(specification)), *names, *order, those, tuple(specification.grouped))
 
 
 def refuse_unknown(specification: Specification, settings: dict):

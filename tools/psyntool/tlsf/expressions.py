@@ -2,7 +2,7 @@
 (`until`, `weak until`, `unless`) bind as Spot's operators do: more than `&&`, and less than `!`, `X`, `F` and `G`."""
 import re
 
-from psyntool.tlsf import elsewhere
+from psyntool.tlsf import elsewhere, grouping
 from psyntool.tlsf.syntax import (
     Between, Big, Bounded, Call, Chain, Choice, Listed, Member, Name, Number, Prefix, Range, Repeated, Truth, Within,
 )  # fmt: skip
@@ -93,6 +93,11 @@ class Parser:
         self.closed = set()
         # whether a bar ends a size `|set|`
         self.in_bars = False
+        # the operators outermost in what was parsed last; parts that tools group differently, by the places of tokens,
+        # and parts of which a reader may doubt it
+        self.kinds = frozenset()
+        self.apart = []
+        self.alike = []
 
     # ---- tokens
 
@@ -148,10 +153,12 @@ class Parser:
         self.depth += 1
         if self.depth > MOST_NESTED:
             raise Wrong(self.now.start, f"parentheses and operators nest more than {MOST_NESTED} deep here")
+        begin = self.at
         left = self.prefix(loosest, is_bare)
         self.depth -= 1
+        self.kinds = frozenset()
         while (level := self.level()) is not None and level >= loosest:
-            left = self.chain(left, level)
+            left = self.chain(left, level, begin)
         return left
 
     def level(self):
@@ -171,20 +178,34 @@ class Parser:
         """The sign of an operator between operands, which stands at a level."""
         return LEVELS[level][0][token.text]
 
-    def chain(self, left, level: int):
-        """Parses the operators of a level with the operands behind them; `left` is the operand before them."""
-        signs, places, operands = [], [], [left]
+    def above(self, level):
+        """The level of the operators that bind more than those of a level, but least of these."""
+        return level + 1
+
+    def is_right(self, level) -> bool:
+        """Whether the operators of a level group to the right."""
+        return LEVELS[level][1] == "right"
+
+    def chain(self, left, level, begin: int):
+        """Parses the operators of a level with the operands behind them; `left` is the operand before them, and `begin`
+        the place of its first token."""
+        signs, tokens, operands, spans = [], [], [left], [(begin, self.at, self.kinds)]
         while self.level() == level:
             token = self.advance()
             if token.text == "weak":
                 self.advance()
-            sign = self.sign_of(token, level)
-            signs.append(sign)
-            places.append(token.start)
-            operands.append(self.binary(level + 1))
+            signs.append(self.sign_of(token, level))
+            tokens.append(token)
+            start = self.at
+            operands.append(self.binary(self.above(level)))
+            spans.append((start, self.at, self.kinds))
+        words, places = [token.text for token in tokens], [token.start for token in tokens]
+        self.kinds = grouping.kinds_of(words)
+        self.apart += grouping.spans_apart(words, spans, self.is_right(level))
+        self.alike += grouping.spans_alike(words, spans)
         if "unless" in signs:
             return self.with_unless(signs, places, operands)
-        return Chain(left.at, tuple(signs), tuple(places), tuple(operands), LEVELS[level][1] == "right")
+        return Chain(left.at, tuple(signs), tuple(places), tuple(operands), self.is_right(level))
 
     def with_unless(self, signs: list, places: list, operands: list):
         """Operands with `until`, `weak until` and `unless` between them, which group to the right. Directly behind

@@ -1,6 +1,7 @@
 """Parses a specification in TLSF's full form: INFO, GLOBAL if it is there, and MAIN."""
 import re
 
+from psyntool.tlsf import grouping, readings
 from psyntool.tlsf.expressions import KEYWORDS, LETTERS, MOST_VARIABLES, WORDS, Parser
 from psyntool.tlsf.syntax import Clause, Definition, Enumeration, EnumValue, Match, Name, Section, Signal, Specification
 from psyntool.tlsf.tokens import Token, Wrong, tokens_of
@@ -203,6 +204,21 @@ class Reader(Parser):
                 f"or `SEMANTICS: {want}` if that is meant",
             )
 
+    # ---- expressions
+
+    def whole(self):
+        """Parses an expression that is no part of another one. If other tools group its operators differently, it is noted
+        how it was read, or it is refused if it has words of sentences, which only a text for psyn has."""
+        begin, self.apart, self.alike = self.at, [], []
+        made = self.expression()
+        if self.apart:
+            tokens, spans = self.tokens[begin : self.at], [*self.apart, *self.alike]
+            here = grouping.with_parentheses(tokens, [(first - begin, last - begin) for first, last in spans])
+            if readings.has_words(tokens, self.declared):
+                readings.refuse(tokens, self.declared, here)
+            self.made.grouped.append((tokens[0].start, here))
+        return made
+
     # ---- declarations
 
     def block(self, token: Token):
@@ -226,7 +242,7 @@ class Reader(Parser):
         name = self.name("a parameter" if block == "PARAMETERS" else "a definition")
         arguments = self.head() if self.is_sign("(") and block != "PARAMETERS" else None
         self.take("=")
-        clauses = self.clauses() if block != "PARAMETERS" else [Clause(None, self.expression())]
+        clauses = self.clauses() if block != "PARAMETERS" else [Clause(None, self.whole())]
         return Definition(name.start, name.text, arguments, tuple(clauses))
 
     def head(self) -> tuple:
@@ -257,17 +273,17 @@ class Reader(Parser):
         if self.is_word("otherwise"):
             self.advance()
             self.take(":")
-            return Clause(None, self.expression())
-        guard = self.expression()
+            return Clause(None, self.whole())
+        guard = self.whole()
         if self.is_sign("~"):
             place = self.advance().start
-            guard = Match(place, guard, self.expression())
+            guard = Match(place, guard, self.whole())
             self.take(":", " behind a pattern")
         elif self.is_sign(":"):
             self.advance()
         else:
             return Clause(None, guard)
-        return Clause(guard, self.expression())
+        return Clause(guard, self.whole())
 
     def enumeration(self) -> Enumeration:
         """Parses `enum name = value : bits, bits value : bits ..`."""
@@ -314,7 +330,7 @@ class Reader(Parser):
 
     def placed(self) -> tuple:
         """Parses an expression; returns the offsets of its begin and its end, and the expression."""
-        begin, made = self.now.start, self.expression()
+        begin, made = self.now.start, self.whole()
         return begin, self.tokens[self.at - 1].stop, made
 
     def listed(self, one):

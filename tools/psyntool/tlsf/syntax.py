@@ -217,3 +217,5 @@ class Specification:
     inputs: list = field(default_factory=list)
     outputs: list = field(default_factory=list)
     sections: list = field(default_factory=list)
+    # expressions that other tools group differently: their offsets, and how each was read
+    grouped: list = field(default_factory=list)
