@@ -1,0 +1,9 @@
+pub mod TableLemmas
+pub mod CopyLemmas
+pub mod LayerLemmas
+pub mod ShapeLemmas
+pub mod SplitLemmas
+pub mod ConjunctLemmas
+pub mod OwingLemmas
+pub mod ListingLemmas
+pub mod ResultLemmas

@@ -1,0 +1,6 @@
+-- Definitions that only private contracts use; no public clause refers to them.
+
+pub mod Layers
+pub mod Shapes
+pub mod Conjuncts
+pub mod Owing

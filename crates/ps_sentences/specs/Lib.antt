@@ -1,0 +1,4 @@
+pub mod Sentences
+pub mod Tables
+pub mod Partings
+pub mod Inner
