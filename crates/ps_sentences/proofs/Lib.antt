@@ -7,3 +7,4 @@ pub mod ConjunctLemmas
 pub mod OwingLemmas
 pub mod ListingLemmas
 pub mod ResultLemmas
+pub mod MentionLemmas

@@ -4,3 +4,4 @@ pub mod Layers
 pub mod Shapes
 pub mod Conjuncts
 pub mod Owing
+pub mod MentionedBefore

@@ -1,4 +1,5 @@
 pub mod Sentences
 pub mod Tables
 pub mod Partings
+pub mod Mentions
 pub mod Inner

@@ -6,6 +6,8 @@
 //! | Call | What it gives |
 //! |---|---|
 //! | `parted(formulas, root)` | a [`Parting`]: sentences whose conjunction is the formula |
+//! | `mentioned(formulas, root)` | the propositions that a formula mentions, as a letter |
+//! | `truth_depends_on_mentions` | a law: a formula's truth depends on the propositions that it mentions alone |
 //!
 //! A consequent is taken apart through `&&`, `G`, `X`, the right side of `->`, `<->` (two implications), the left side
 //! of `W`, and through negations of `||`, `F` and `X`. The left side of an implication becomes an antecedent where the
@@ -16,8 +18,10 @@
 mod conjuncts;
 mod copying;
 mod layers;
+mod mentions;
 mod parting;
 mod shapes;
 mod splitting;
 
+pub use mentions::{mentioned, truth_depends_on_mentions};
 pub use parting::{Parting, Sentence, parted};
