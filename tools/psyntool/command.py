@@ -45,7 +45,8 @@ OF_THE_PROGRAM = {flag.name: flag for flag in (FULL, CERT, MOORE, COMPACT, ENV, 
 TO_FILES = Flag(
     "-o",
     "circuit, game and certificate go to PREFIX.aag, PREFIX.pg and PREFIX.cert (then the first line alone is printed), "
-    "the automaton of parts to PREFIX.hoa; of sentences the circuit alone, and those of the command line to PREFIX.tlsf",
+    "the automaton of parts to PREFIX.hoa; of sentences the circuit alone, "
+    "and those of the command line to PREFIX.tlsf",
     "PREFIX",
 )
 AUTOMATON = Flag("--automaton", "with -o, of sentences too: their automaton, its game and its certificate")

@@ -12,6 +12,8 @@ from psyntool.texts import Unreadable, automaton, circuit, labels, specification
 # The numbers of three faults that the functions below treat as special cases. Fault 25 (the input could not be read)
 # means here that the input is too long, because the tool itself passes the input to the program.
 READ_FAULT, SYNTAX, OTHER_GAME, SYMBOLS = 25, 53, 54, 72
+# Faults of specifications of which the tool's own reader tells more.
+BROKEN = (80, 81)
 # A text of more bytes than this is not parsed to explain a fault, because parsing it in Python would take longer than
 # the program's own run.
 LONGEST = 1 << 21
@@ -30,6 +32,10 @@ def lines(request, texts, answer):
     if wrong:
         return [wrong]
     told = []
+    if number in BROKEN and texts[0].kind is Kind.SPECIFICATION:
+        told = of_reader(texts[0], number, int(found[4]))
+        if told:
+            return told
     if number == READ_FAULT:
         return [f"cause: the files have more than {MOST_BYTES:,} bytes together, the most that psyn reads"]
     if fault and fault.kind and found[4]:
@@ -46,6 +52,15 @@ def lines(request, texts, answer):
     if number is None:
         return [*told, "cause: this program knows no such command line: it is not of the same version as this tool"]
     return told + [f"{word.lower()}: {entries[word]}" for word in ("Cause", "Place", "Mend") if word in entries]
+
+
+def of_reader(text, number, offset):
+    """What the tool's own reader finds wrong with a specification, at its place; nothing for a long text."""
+    from psyntool.tlsf import broken
+    from psyntool.tlsf.tokens import ENCODING
+
+    found = None if len(text.bytes) > LONGEST else broken.told(text.bytes.decode(ENCODING), number, offset)
+    return placed(text, *found) if found else []
 
 
 def place_of(fault, text, offset):

@@ -18,11 +18,80 @@ LATE = b"aag 6 1 2 1 3\n2\n4 2\n6 4\n12\n8 3 5\n10 8 7\n12 11 11\ni0 r\no0 g\n"
 # A circuit with an input that nothing reads, as yosys adds a clock.
 CLOCKED = b"aag 2 2 0 1 0\n2\n4\n4\ni0 clk\ni1 r\no0 g\n"
 WRONG = {
-    b"G (r U g -> g)": ("80 Syntax", "5:24", "correct the text"),
-    b"G (r -> F h)": ("81 Name", "5:25", "declare each name once"),
+    b"G (r U g -> g)": ("80 Syntax", "5:24", ""),
+    b"G (r -> F h)": ("81 Name", "5:25", ""),
     b"true; } INPUTS { x; } ASSUME { g": ("82 Twice", "5:23", "keep one of the two"),
     b"!" * 257 + b"r": ("84 Limit", "5:271", "divide the specification"),
 }
+
+
+# A specification, careless changes of it (a part and what stands in its place), and the first line that tells of each:
+# what the tool's own reader expects at a place.
+CAREFUL = """INFO { SEMANTICS: Mealy TARGET: Mealy }
+MAIN {
+  INPUTS { r; s; }
+  OUTPUTS { g; h; }
+  GUARANTEE {
+    G (r -> F g);
+    G !(g && h);
+  }
+}
+"""
+SENTENCE = "G (r -> F g)"
+OF_MAIN = "`}` or INPUTS, OUTPUTS or a section of formulas is expected here, and this is"
+OF_INFO = "`}` or TITLE, DESCRIPTION, SEMANTICS, TARGET, TAGS is expected here, and this is"
+MIXED = "these operators want parentheses: write"
+CARELESS = (
+    ("F g);", "F g)", "7:5: `;` or an operator is expected here, and this is `G`"),
+    ("h);", "h;", "7:15: `)` is expected here, and this is `;`"),
+    ("  }\n}", "  }", f"9:1: {OF_MAIN} the end of the text"),
+    ("GUARANTEE", "GUARANTE", f"5:3: {OF_MAIN} `GUARANTE`"),
+    (CAREFUL, "", "1:1: `INFO` is expected here, and this is the end of the text"),
+    ("r; s;", "r, s;", "3:13: `;` or an operator is expected here, and this is `,`"),
+    ("g; h;", "g h;", "4:15: `;` is expected here, and this is `h`"),
+    ("INFO", "INF", "1:1: `INFO` is expected here, and this is `INF`"),
+    ("TARGET:", "TARGETS:", f"1:25: {OF_INFO} `TARGETS`"),
+    ("Mealy }", "Mealy; }", f"1:38: {OF_INFO} `;`"),
+    (" Mealy T", " mealy T", "1:19: `Mealy` or `Moore`, with `,Strict` or without, is expected here, and this is `mealy`"),
+    ("MAIN {", "MAIN", "3:3: `{` is expected here, and this is `INPUTS`"),
+    ("r; s;", "r; r;", "3:15: `r` is declared before"),
+    ("g; h;", "g; r;", "4:16: `r` is declared before"),
+    ("r; s;", "r; X;", "3:15: `X` is a word of TLSF, and can't be the name of a signal"),
+    ("F g", "F gg", "6:15: there is no `gg` (did you mean g?)"),
+    ("F g", "F G", "6:16: an operand is expected here, and this is `)`"),
+    ("F g", "next g", "6:13: there is no `next`; for `next` write `X`"),
+    ("F g", "F $g", "6:15: no word, number or sign of TLSF begins with `$`"),
+    ("r ->", "r", "6:10: `)` is expected here, and this is `F`"),
+    ("F g)", "F g))", "6:17: `;` or an operator is expected here, and this is `)`"),
+    (SENTENCE, f"/* {SENTENCE}", "6:5: this comment is not closed"),
+    ("INFO {", 'INFO { TITLE: "x', "1:15: this string is not closed"),
+    (SENTENCE, "r -> g U h", f"6:12: {MIXED} `(r -> g) U h` or `r -> (g U h)`"),
+    (SENTENCE, "G (r W g R h && s)", f"6:14: {MIXED} `G ((r W g) R (h && s))` or `G ((r W (g R h)) && s)`"),
+    (SENTENCE, "r U g U h", f"6:11: {MIXED} `r U (g U h)`"),
+    (SENTENCE, "r -> g <-> h", f"6:12: {MIXED} `r -> (g <-> h)` or `(r -> g) <-> h`"),
+    (SENTENCE, "F k; r U g -> h", "6:7: there is no `k`"),
+    ("OUTPUTS { g; h; }\n", "ASSUME { g; } OUTPUTS { g; }", "4:12: `g` is declared only below: put INPUTS and OUTPUTS before the formulas"),
+)
+
+
+class Careless(OnFiles):
+    """Faults 80 and 81 are told by the tool's own reader."""
+
+    def test_each_slip_is_told_at_its_place(self):
+        for part, other, told in CARELESS:
+            self.file("it.tlsf", CAREFUL.replace(part, other, 1).encode())
+            done = self.tool("synth", "it.tlsf")
+            with self.subTest(part=part, other=other):
+                self.assertRegex(done.stdout, rb"\Afault 8[01] (Syntax|Name) at \d+\n\Z")
+                first, _, mark = done.stderr.decode().splitlines()
+                self.assertEqual((first, done.returncode), (f"it.tlsf:{told}", 1))
+                self.assertEqual(mark.strip(), "^")
+
+    def test_each_way_to_write_a_mix_is_accepted(self):
+        for part, other, told in CARELESS:
+            for one in told.split(MIXED)[1].split("`")[1::2] if MIXED in told else ():
+                self.file("it.tlsf", CAREFUL.replace(part, one, 1).encode())
+                self.assertIn(self.tool("synth", "it.tlsf").returncode, (10, 20), one)
 
 
 class Specifications(OnFiles):
@@ -101,7 +170,8 @@ class Specifications(OnFiles):
                 self.assertTrue(answer.startswith(f"fault {fault} at "), answer)
                 self.assertEqual(status, 1)
                 self.assertIn(f"wrong.tlsf:{place}", told[0])
-                self.assertTrue([line for line in told if line.startswith(f"mend: {mend}")], told)
+                mending = [line for line in told if line.startswith(f"mend: {mend}")]
+                self.assertEqual(len(mending), bool(mend), told)
         self.file("wrong.tlsf", HEAD.replace(b"TARGET: Mealy", b"TARGET: Moore") + MAIN)
         answer, told, _ = self.asked("wrong.tlsf", "grant.aag", "l.stim")
         self.assertIn("wrong.tlsf:2:1", told[0])

@@ -55,8 +55,8 @@ def board_of(text, *printed, name="", known_by="synth"):
 
 
 def automaton_beside(request):
-    """The text of the automaton in PREFIX.hoa, with the sentences of SPEC, if its game and its certificate are there too,
-    and `agree` finds that it accepts exactly the words that satisfy SPEC, a specification in temporal logic; else
+    """The text of the automaton in PREFIX.hoa, with the sentences of SPEC, if its game and its certificate are there
+    too, and `agree` finds that it accepts exactly the words that satisfy SPEC, a specification in temporal logic; else
     None."""
     prefix, path = request.words
     if not all(os.path.exists(prefix + ending) for ending in (".hoa", *ENDINGS[1:])):

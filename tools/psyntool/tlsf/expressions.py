@@ -98,6 +98,7 @@ class Parser:
         self.kinds = frozenset()
         self.apart = []
         self.alike = []
+        self.spans_of = grouping.spans_apart
 
     # ---- tokens
 
@@ -201,7 +202,7 @@ class Parser:
             spans.append((start, self.at, self.kinds))
         words, places = [token.text for token in tokens], [token.start for token in tokens]
         self.kinds = grouping.kinds_of(words)
-        self.apart += grouping.spans_apart(words, spans, self.is_right(level))
+        self.apart += self.spans_of(words, spans, self.is_right(level))
         self.alike += grouping.spans_alike(words, spans)
         if "unless" in signs:
             return self.with_unless(signs, places, operands)

@@ -2,7 +2,7 @@
 and `W` beside other operators, `->` beside `<->`, and `xor` beside `||`."""
 from psyntool.tlsf.tokens import Token
 
-# The operators of formulas, by their signs and words. `U`, `R` and `W` bind least in TLSF, and elsewhere more than `&&`.
+# The operators of formulas, by their signs and words. `U`, `R` and `W` bind least in TLSF, elsewhere more than `&&`.
 KINDS = {
     **dict.fromkeys(("U", "R", "W"), "letter"),
     **dict.fromkeys(("until", "weak", "unless"), "word"),
@@ -32,6 +32,20 @@ def spans_apart(signs: list, spans: list, is_right: bool) -> list:
         found += [(begin, spans[last][1]) for begin, _, _ in spans[1:last]]
     elif "R" in signs:
         found += [(spans[0][0], end) for _, end, _ in spans[1:last]]
+    return found
+
+
+def spans_wanted(signs: list, spans: list, is_right: bool) -> list:
+    """The same for the operands and the ends that the program wants in parentheses: also where all group them alike."""
+    kinds = kinds_of(signs)
+    found = [
+        (begin, end)
+        for begin, end, inner in spans
+        if inner and ("letter" in kinds | inner or are_apart(kinds, inner, False))
+    ]
+    if len(signs) > 1 and ("letter" in kinds or "<->" in kinds):
+        outer = [(begin, spans[-1][1]) for begin, _, _ in spans[1:-1]]
+        found += outer if is_right else [(spans[0][0], end) for _, end, _ in spans[1:-1]]
     return found
 
 

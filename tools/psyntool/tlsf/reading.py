@@ -6,6 +6,7 @@ from psyntool.tlsf.expressions import KEYWORDS, LETTERS, MOST_VARIABLES, WORDS, 
 from psyntool.tlsf.syntax import Clause, Definition, Enumeration, EnumValue, Match, Name, Section, Signal, Specification
 from psyntool.tlsf.tokens import Token, Wrong, tokens_of
 
+LISTS = ("INPUTS", "OUTPUTS")
 ITEMS = ("TITLE", "DESCRIPTION", "SEMANTICS", "TARGET", "TAGS")
 NAME = re.compile("[A-Za-z_][A-Za-z0-9_'@]*")
 ORDERS = ("Mealy", "Moore")
@@ -64,9 +65,9 @@ def declared_by(tokens: list[Token]) -> frozenset:
     found, block, depth = set(), "", 0
     for place, token in enumerate(tokens):
         depth += {"{": 1, "}": -1}.get(token.kind, 0)
-        if token.kind == "word" and token.text in ("INPUTS", "OUTPUTS", "PARAMETERS", "DEFINITIONS", "MAIN", *SECTIONS):
+        if token.kind == "word" and token.text in (*LISTS, "PARAMETERS", "DEFINITIONS", "MAIN", *SECTIONS):
             block = token.text
-        elif token.kind == "word" and block in ("INPUTS", "OUTPUTS"):
+        elif token.kind == "word" and block in LISTS:
             found.add(token.text)
         elif token.kind == "word" and block in ("PARAMETERS", "DEFINITIONS") and tokens[place - 1].kind in ("{", ";"):
             found |= head_of(tokens, place)
@@ -92,6 +93,8 @@ class Reader(Parser):
         self.read_words = {}
         self.made = Specification()
         self.semantics = None
+        # expressions that mix operators: the places of their tokens, and of the parts that want parentheses
+        self.mixed = []
 
     def read(self) -> Specification:
         self.open("INFO")
@@ -105,7 +108,7 @@ class Reader(Parser):
                 self.block(self.once())
             self.take_end("}", "PARAMETERS, DEFINITIONS")
         self.open("MAIN")
-        while self.is_word("INPUTS", "OUTPUTS", *SECTIONS):
+        while self.is_word(*LISTS, *SECTIONS):
             self.section()
         self.take_end("}", "INPUTS, OUTPUTS or a section of formulas")
         if not self.is_sign("end"):
@@ -207,16 +210,17 @@ class Reader(Parser):
     # ---- expressions
 
     def whole(self):
-        """Parses an expression that is no part of another one. If other tools group its operators differently, it is noted
-        how it was read, or it is refused if it has words of sentences, which only a text for psyn has."""
+        """Parses an expression that is no part of another one. If other tools group its operators differently, it is
+        noted how it was read, or it is refused if it has words of sentences, which only a text for psyn has."""
         begin, self.apart, self.alike = self.at, [], []
         made = self.expression()
         if self.apart:
-            tokens, spans = self.tokens[begin : self.at], [*self.apart, *self.alike]
-            here = grouping.with_parentheses(tokens, [(first - begin, last - begin) for first, last in spans])
+            spans = [(first - begin, last - begin) for first, last in (*self.apart, *self.alike)]
+            self.mixed.append((begin, self.at, spans))
+            tokens = self.tokens[begin : self.at]
             if readings.has_words(tokens, self.declared):
-                readings.refuse(tokens, self.declared, here)
-            self.made.grouped.append((tokens[0].start, here))
+                readings.refuse(tokens, self.declared, spans)
+            self.made.grouped.append((tokens[0].start, grouping.with_parentheses(tokens, spans)))
         return made
 
     # ---- declarations
@@ -320,7 +324,7 @@ class Reader(Parser):
     # ---- MAIN
 
     def section(self):
-        if self.is_word("INPUTS", "OUTPUTS"):
+        if self.is_word(*LISTS):
             signals = self.made.inputs if self.once().text == "INPUTS" else self.made.outputs
             self.listed(lambda: signals.append(self.signal()))
         else:

@@ -1,4 +1,4 @@
-"""How other tools read an expression that mixes operators without parentheses."""
+"""Both readings of an expression that mixes operators without parentheses."""
 from psyntool.tlsf import grouping
 from psyntool.tlsf.expressions import LEVEL_OF, WORDS, Parser
 from psyntool.tlsf.sentences import CALLED
@@ -41,15 +41,17 @@ def has_words(tokens: list[Token], declared: frozenset) -> bool:
     return repeats or any(one.kind == "word" and one.text in OF_SENTENCES - declared for one in tokens)
 
 
-def elsewhere(tokens: list[Token], declared: frozenset) -> str:
-    """The text of an expression, with parentheses as other tools would put them."""
-    end = tokens[-1].stop
-    parser = Elsewhere([*tokens, Token("end", "", end, end)], declared)
+def both(tokens: list[Token], declared: frozenset, spans: list, spans_of=grouping.spans_apart) -> str:
+    """The texts of an expression with parentheses, as TLSF and as other tools group it, where its parts are given that
+    TLSF groups."""
+    parser = Elsewhere([*tokens, Token("end", "", tokens[-1].stop, tokens[-1].stop)], declared)
+    parser.spans_of = spans_of
     parser.expression()
-    return grouping.with_parentheses(tokens, [*parser.apart, *parser.alike])
+    texts = [grouping.with_parentheses(tokens, those) for those in (spans, [*parser.apart, *parser.alike])]
+    return " or ".join(f"`{one}`" for one in dict.fromkeys(texts))
 
 
-def refuse(tokens: list[Token], declared: frozenset, here: str):
+def refuse(tokens: list[Token], declared: frozenset, spans: list):
     """Refuses an expression with words of sentences, with both readings."""
-    readings = " or ".join(f"`{one}`" for one in dict.fromkeys((here, elsewhere(tokens, declared))))
-    raise Wrong(tokens[0].start, f"tools group this mix of words and operators differently: write {readings}")
+    found = both(tokens, declared, spans)
+    raise Wrong(tokens[0].start, f"tools group this mix of words and operators differently: write {found}")
