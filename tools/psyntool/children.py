@@ -14,7 +14,7 @@ def run(words, **streams):
         signals.hold()
         child = subprocess.Popen(words, process_group=0, preexec_fn=program.before_it_runs(), **streams)
         signals.let_go()
-        program.waited_for(child, None)
+        program.waited_for(child, None, os.path.basename(words[0]))
     finally:
         signals.let_go()
         if child:

@@ -117,11 +117,12 @@ JSON = Flag("--json", "one line of JSON in place of the answer, with the fields 
 TIME = Flag("--time", "end a program, or a solver of --by, that is at work after so many seconds", "SECONDS")
 MEMORY = Flag("--memory", "so many MiB at most for the program, and for the solver of --by", "MIB")
 QUIET = Flag("--quiet", "explain nothing")
+PROGRESS = Flag("--progress", "tell the stages that are begun, and their seconds, also where no terminal is")
 KEEP_RETURNS = Flag("--keep-returns", "leave carriage returns where they are")
 ZERO_RESETS = Flag("--zero-resets", "unset latches of a circuit (their own literal as reset) begin with 0")
 HELP = Flag("--help", "how the command is used")
 VERSION = Flag("--version", "which psyn this is")
-EVERYWHERE = (KEEP_RETURNS, ZERO_RESETS, JSON, TIME, MEMORY, QUIET, HELP, VERSION)
+EVERYWHERE = (KEEP_RETURNS, ZERO_RESETS, JSON, TIME, MEMORY, QUIET, PROGRESS, HELP, VERSION)
 SHORT = {"-h": "--help", "-V": "--version"}
 
 

@@ -2,7 +2,6 @@
 ends."""
 import errno
 import os
-import time
 
 from psyntool.ends import Refused, Unwritten
 
@@ -40,20 +39,6 @@ def put(text):
         os.write(ERROR, text.encode("utf-8", "backslashreplace"))
     except OSError:
         pass
-
-
-def counted(what, things):
-    """The things one after another; on a terminal, a line says after each second how many are done."""
-    if not is_terminal():
-        yield from things
-        return
-    shown = began = time.monotonic()
-    for done, one in enumerate(things):
-        if time.monotonic() - shown > 1:
-            shown = time.monotonic()
-            put(f"\r{what}: {done:,} of {len(things):,}")
-        yield one
-    put("\r" + " " * (len(what) + 24) + "\r" if shown > began else "")
 
 
 def write(answer):

@@ -22,6 +22,10 @@ class Unwritten(Exception):
     the reader of standard output has closed the pipe."""
 
 
+class TimeUp(Unwritten):
+    """The seconds of --time are over."""
+
+
 class Stopped(KeyboardInterrupt):
     """The signal INT (Ctrl-C), TERM or HUP ends the run."""
 

@@ -14,6 +14,8 @@ def main(line):
     except Stopped as stop:
         console.tell(f"psyn: {signals.WORDS[stop.number]}")
         return signals.end_by(stop.number)
+    if signals.pending:
+        return signals.end_by(signals.pending.number)
     if message:
         console.tell(f"psyn: {message}")
     return status

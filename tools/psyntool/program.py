@@ -6,8 +6,8 @@ import subprocess
 import time
 from dataclasses import dataclass
 
-from psyntool import console, places, signals
-from psyntool.ends import Refused, Unwritten
+from psyntool import places, progress, signals
+from psyntool.ends import Refused, TimeUp
 
 PR_SET_PDEATHSIG = 1
 # The largest input that the program accepts; it answers fault 25 to a longer one.
@@ -29,7 +29,6 @@ ANSWERS = {
     "game": rb"parity \d",
     "cert": rb"psyncert \d",
 }
-CLOCK_FROM = 2
 # The most bytes of memory of each program that is started, or None; the most seconds of processor time of each, or
 # None; and the last moment of the run, or None.
 most_memory = most_processor = last_moment = None
@@ -133,38 +132,38 @@ def started():
         raise Refused(f"{title()} can't be run: {error.strerror}") from None
 
 
-def waited_for(child, given):
-    """Waits for the child until the last moment of the run, and returns its output; on a terminal, the seconds so far
-    are shown."""
-    began, shown, is_terminal = time.monotonic(), False, console.is_terminal()
+def waited_for(child, given, title):
+    """Waits for the child until the last moment of the run, and returns its output; meanwhile the title and the seconds
+    so far are shown."""
+    stage = progress.Stage(title)
+    stage.begin()
     try:
         while True:
-            left = [1] * is_terminal + ([max(0, last_moment.at - time.monotonic())] if last_moment else [])
+            left = [stage.step] * bool(stage.step)
+            left += [max(0, last_moment.at - time.monotonic())] if last_moment else []
             try:
                 return child.communicate(given, timeout=min(left, default=None))[0]
             except subprocess.TimeoutExpired:
-                given, now = None, time.monotonic()
-            if last_moment and now >= last_moment.at:
-                raise Unwritten(last_moment.message)
-            shown = is_terminal and now - began >= CLOCK_FROM
-            console.put(f"\r{now - began:.0f} s" if shown else "")
+                given = None
+            if last_moment and time.monotonic() >= last_moment.at:
+                raise TimeUp(last_moment.message)
+            stage.look()
     finally:
-        console.put("\r      \r" if shown else "")
+        stage.end()
 
 
-def ask(given):
-    """The program's answer to an input."""
-    child = None
+def ask(given, title=""):
+    """The program's answer to an input. The title is that of the stage, without it the command."""
+    child, command = None, given.split(maxsplit=1)[0].decode()
     try:
         signals.hold()
         child = started()
         signals.let_go()
-        written = waited_for(child, given)
+        written = waited_for(child, given, title or command)
     finally:
         signals.let_go()
         if child:
             end(child)
-    command = given.split(maxsplit=1)[0].decode()
     return Answer(written, child.returncode, why_died(command, written, child.returncode))
 
 

@@ -49,7 +49,7 @@ def defeat(automaton, answer, passed):
 
     if answer.status != 20 or len(answer.bytes) > LONGEST:
         return []
-    found = limits.briefly(MOST_SECONDS, shrinking.of_answer, automaton, answer, passed)[0]
+    found = limits.briefly(MOST_SECONDS, shrinking.of_answer, automaton, answer, passed)
     return words_of(circuit.read(found.text)) if shrinking.is_circuit(found) else []
 
 

@@ -3,7 +3,7 @@ import time
 from dataclasses import dataclass
 
 from psyntool import console
-from psyntool.command import MEMORY, TIME
+from psyntool.command import MEMORY, PROGRESS, TIME
 from psyntool.ends import FAULT, REFUSED, Refused, Unwritten
 from psyntool.texts import Unreadable
 
@@ -34,6 +34,10 @@ def ended(function, *values):
 
 def run(request):
     """Runs a command, and returns the exit status."""
+    if request.has(PROGRESS):
+        from psyntool import progress
+
+        progress.is_asked = True
     if not request.has(TIME) and not request.has(MEMORY):
         return request.command.run(request)
     from psyntool import limits

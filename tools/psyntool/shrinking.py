@@ -2,11 +2,11 @@
 import os
 import shutil
 import tempfile
-from dataclasses import replace
+from dataclasses import dataclass, replace
 
-from psyntool import asking, children, console, files, program
+from psyntool import asking, children, console, files, program, signals
 from psyntool.command import ABC, ENV, MOORE, TLSF
-from psyntool.ends import Refused, Unwritten
+from psyntool.ends import Refused, Stopped, TimeUp, Unwritten
 from psyntool.files import Text
 from psyntool.kinds import Kind
 from psyntool.texts import binary, circuit, report
@@ -64,15 +64,19 @@ def sizes_told(before, after):
     return f"gates: {gates} before, {fewer} after; latches: {latches} before, {left} after"
 
 
-def of_answer(specified, answer, passed):
-    """The program's answer to `shrink` of the circuit that an answer of `synth` has, and that circuit's text. The flags
-    are those that were passed to `synth`, for an automaton or for a specification."""
+def circuit_of(answer, passed):
+    """The text of the circuit that an answer of `synth` has, and the flags by which `shrink` reads it; `passed` are
+    those of `synth`, for an automaton or for a specification."""
     printed = report.read(answer.bytes.decode("utf-8", "surrogateescape")).parts[0]
     given = Text(Kind.CIRCUIT, "the circuit", printed.encode("utf-8", "surrogateescape"))
-    flags = [
-        *([ENV.name] if answer.status == 20 else []), *(name for name in passed if name in (MOORE.name, TLSF.name))
-    ]
-    return program.ask(files.joined("shrink", flags, [specified, given])), given
+    flags = [name for name in passed if name in (MOORE.name, TLSF.name)]
+    return given, [*([ENV.name] if answer.status == 20 else []), *flags]
+
+
+def of_answer(specified, answer, passed):
+    """The program's answer to `shrink` of the circuit that an answer of `synth` has."""
+    given, flags = circuit_of(answer, passed)
+    return program.ask(files.joined("shrink", flags, [specified, given]))
 
 
 def is_circuit(answer):
@@ -80,19 +84,58 @@ def is_circuit(answer):
     return asking.is_had(answer) and answer.bytes.startswith(b"aag ")
 
 
+# ---- rounds
+
+
+@dataclass(frozen=True)
+class Found:
+    """What rounds of `shrink` made of a circuit: its text, their number, and why they ended early, or nothing."""
+
+    text: Text
+    rounds: int
+    why: str
+
+
+def in_rounds(flags, specified, given):
+    """The circuit that `shrink` makes of a circuit that wins, in rounds, each from what the one before it made. They end
+    if one makes it no smaller; if no time is left or a signal stops them, what is there is kept."""
+    now, count, is_smaller, why = given, 0, True, ""
+    try:
+        while is_smaller:
+            answer = program.ask(files.joined("shrink", flags, [specified, now]), f"shrink, round {count + 1}")
+            if not is_circuit(answer):
+                why = f"shrink: {answer.died or answer.text.partition(chr(10))[0]}"
+                break
+            is_smaller = sizes(answer.bytes) < sizes(now.bytes)
+            if is_smaller or not count:
+                now, count = Text(Kind.CIRCUIT, given.name, answer.bytes), count + 1
+    except TimeUp as error:
+        why = str(error)
+    except Stopped as stop:
+        signals.pending = stop
+        why = signals.WORDS[stop.number]
+    return Found(now, count, why)
+
+
+def sizes(text):
+    return size(circuit.read(text.decode("utf-8", "surrogateescape")))
+
+
+def tell(request, given, found):
+    """Tells what the rounds made of a circuit, and whether they ended early."""
+    if found.why:
+        which = f"is that of round {found.rounds}" if found.rounds else "stays as it is"
+        console.tell(f"psyn: the circuit {which}: {found.why}")
+    if found.rounds and not request.quiet:
+        console.tell(sizes_told(given.bytes, found.text.bytes) + f"; rounds: {found.rounds}" * (found.rounds > 1))
+
+
 def in_answer(request, specified, answer, passed):
     """An answer of `synth` with a smaller circuit in place of its own; `passed` are the flags of `synth`. If the
     program gives none, standard error says why, and the answer stays as it is."""
     if not asking.is_had(answer):
         return answer
-    return with_smaller(request, answer, *of_answer(specified, answer, passed))
-
-
-def with_smaller(request, answer, found, given):
-    """An answer of `synth` with the circuit of an answer of `shrink`, if that is one, in place of its own."""
-    if not is_circuit(found):
-        console.tell(f"psyn: the circuit stays as it is: shrink: {found.died or found.text.partition(chr(10))[0]}")
-        return answer
-    if not request.quiet:
-        console.tell(sizes_told(given.bytes, found.bytes))
-    return replace(answer, bytes=answer.bytes.replace(given.bytes, found.bytes, 1))
+    given, flags = circuit_of(answer, passed)
+    found = in_rounds(flags, specified, given)
+    tell(request, given, found)
+    return replace(answer, bytes=answer.bytes.replace(given.bytes, found.text.bytes, 1))

@@ -6,6 +6,8 @@ from psyntool.ends import BY_SIGNAL, Stopped
 
 KILL = signal.SIGKILL
 TAKEN = (signal.SIGINT, signal.SIGTERM, signal.SIGHUP)
+# The `Stopped` of a signal that ended a search; what it found is written before the tool ends by the signal.
+pending = None
 WORDS = {signal.SIGINT: "stopped by Ctrl-C", signal.SIGTERM: "ended by TERM", signal.SIGHUP: "ended by HUP"}
 
 

@@ -3,12 +3,13 @@ memory, and wrong solutions that are kept."""
 import json
 import os
 import shlex
+import subprocess
 import sys
 import unittest
 
-from psyntool import families, reporting
+from psyntool import families, progress, reporting
 from psyntool.program import path as program
-from tests.tool import AUTOMATON, GAME, OnFiles
+from tests.tool import AUTOMATON, GAME, TOOL, OnFiles
 
 ERRING = os.path.join(os.path.dirname(os.path.abspath(__file__)), "erring.py")
 GRANT = b"aag 1 1 0 1 0\n2\n2\ni0 r\no0 g\n"
@@ -220,6 +221,41 @@ class Limits(Running):
         for flag, unit in (("--time", "SECONDS"), ("--memory", "MIB")):
             self.assertEqual(self.said("solve", flag, "0", "game")[1], [f"psyn: {flag} {unit}: at least 1 is wanted"])
             self.assertEqual(self.said("solve", flag, "1.5", "game")[1], [f"psyn: {flag} {unit}: '1.5' is no number"])
+
+
+# A program that thinks for a while before it answers.
+THINKING = b"#!/bin/sh\ncat > /dev/null\nsleep 2.5\necho wins\n"
+
+
+class Progress(Running):
+    def setUp(self):
+        super().setUp()
+        self.file("thinking", THINKING)
+        os.chmod(os.path.join(self.room, "thinking"), 0o755)
+        self.thinking = {"PSYN": "./thinking"}
+
+    def test_a_terminal_shows_the_stage_and_its_seconds(self):
+        terminal, behind = os.openpty()
+        words = [sys.executable, TOOL, "verify", "spec", "grant"]
+        environment = {**os.environ, **self.thinking}
+        done = subprocess.run(words, cwd=self.room, env=environment, stdout=subprocess.PIPE, stderr=behind, check=False)
+        os.close(behind)
+        told = os.read(terminal, 1000)
+        os.close(terminal)
+        self.assertEqual((done.stdout, done.returncode), (b"wins\n", 0))
+        self.assertEqual(told, b"\rverify: 2 s\r           \r")
+
+    def test_elsewhere_lines_are_asked_for(self):
+        self.assertEqual(self.said("verify", "spec", "grant", environment=self.thinking), (["wins"], [], 0))
+        told = self.said("verify", "--progress", "--quiet", "spec", "grant", environment=self.thinking)
+        self.assertEqual(told, (["wins"], ["verify: 0 s"], 0))
+        lines = self.said("solve", "--progress", "--by", "cp right {solution}", "game")[1]
+        self.assertEqual(lines, ["cp: 0 s", "judge: 0 s"])
+
+    def test_the_thing_among_many_is_named(self):
+        titles = [progress.Stage("synth").title for _ in progress.counted("guarantees", "ab")]
+        self.assertEqual(titles, ["guarantees 1 of 2, synth", "guarantees 2 of 2, synth"])
+        self.assertEqual(progress.Stage("synth").title, "synth")
 
 
 class Kept(Running):

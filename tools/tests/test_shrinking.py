@@ -2,6 +2,9 @@
 smaller."""
 import os
 import shutil
+import signal
+import subprocess
+import sys
 import time
 import unittest
 
@@ -11,7 +14,7 @@ from psyntool.equations import telling
 from psyntool.texts import circuit, report
 from tests.test_cores import CONFLICT
 from tests.test_parts import PARTS
-from tests.tool import AUTOMATON, OnFiles
+from tests.tool import AUTOMATON, TOOL, OnFiles
 from upkeep.sweeps import TOP
 
 GALLERY = os.path.join(TOP, "examples", "gallery")
@@ -170,6 +173,85 @@ class Small(OnCircuits):
     def test_a_fault_of_synth_is_its_fault(self):
         done, wanted = (self.tool("synth", *flags, self.file("it", b"HOA: v2\n")) for flags in (["--small"], []))
         self.assertEqual((done.stdout, done.stderr, done.returncode), (wanted.stdout, wanted.stderr, 1))
+
+
+# A program that answers the first `shrink` of a folder with what SAID has, and hangs in the second one.
+HANGING = """\
+#!/bin/bash
+read -r line
+case $line in
+  shrink*) cat > /dev/null
+    if [ -e begun ] || [ -z "$SAID" ]; then echo $$ > hangs; exec sleep 60; fi
+    touch begun; printf '%b' "$SAID" ;;
+  *) (echo "$line"; cat) | 'PROGRAM' ;;
+esac
+"""
+BEFORE = b"aag 3 1 0 1 2\n2\n6\n4 2 2\n6 4 2\ni0 r\no0 g\n"
+SMALLER = "aag 2 1 0 1 1\n2\n4\n4 2 2\ni0 r\no0 g\n"
+
+
+class Stopped(OnCircuits):
+    """What is known is kept where the time ends or a signal comes."""
+
+    def setUp(self):
+        super().setUp()
+        self.file("psyn", HANGING.replace("PROGRAM", program.path()).encode())
+        os.chmod(os.path.join(self.room, "psyn"), 0o755)
+        self.file("it.hoa", AUTOMATON)
+        self.file("it.aag", BEFORE)
+        os.symlink(os.path.join(TOP, "examples", "files", "arbiter.hoa"), os.path.join(self.room, "arbiter.hoa"))
+
+    def ended(self, said, *words, by=None):
+        """The output, the lines on standard error, and the status of a run that is ended in a hanging `shrink`."""
+        for name in ("begun", "hangs"):
+            if os.path.exists(os.path.join(self.room, name)):
+                os.remove(os.path.join(self.room, name))
+        environment = {**os.environ, "PSYN": "./psyn", "SAID": said.replace("\n", "\\n")}
+        command = [sys.executable, TOOL, *words, *([] if by else ["--time", "2"])]
+        streams = {"stdout": subprocess.PIPE, "stderr": subprocess.PIPE}
+        with subprocess.Popen(command, cwd=self.room, env=environment, **streams) as child:
+            until = time.monotonic() + 60
+            while by and not os.path.exists(os.path.join(self.room, "hangs")) and time.monotonic() < until:
+                time.sleep(0.02)
+            if by:
+                child.send_signal(by)
+            out, told = child.communicate(timeout=60)
+        return out.decode(), told.decode().splitlines(), child.returncode
+
+    def test_synth_prints_the_circuit_of_the_last_round(self):
+        late, plain = "no answer within 2 s (--time)", self.tool("synth", "--quiet", "arbiter.hoa").stdout.decode()
+        tiny = "aag 1 1 0 1 0\n2\n1\ni0 r\no0 g\n"
+        for by, why, status in ((None, late, 10), (signal.SIGINT, "stopped by Ctrl-C", -signal.SIGINT)):
+            out, told, ended = self.ended("", "synth", "--small", "arbiter.hoa", by=by)
+            self.assertEqual((out, told[:1], ended), (plain, [f"psyn: the circuit stays as it is: {why}"], status))
+            out, told, ended = self.ended(tiny, "synth", "--small", "arbiter.hoa", "-o", "it", "--force", by=by)
+            self.assertEqual((out, ended), ("REALIZABLE\n", status))
+            self.assertEqual(told[0], f"psyn: the circuit is that of round 1: {why}")
+            with open(os.path.join(self.room, "it.aag"), encoding="utf-8") as file:
+                self.assertEqual(file.read(), f"{tiny}c\nwritten by psyn\n")
+
+    def test_shrink_does_so_too(self):
+        for by, why, status in (
+            (None, "no answer within 2 s (--time)", 0),
+            (signal.SIGTERM, "ended by TERM", -signal.SIGTERM),
+        ):
+            out, told, ended = self.ended("", "shrink", "it.hoa", "it.aag", by=by)
+            self.assertEqual((out, told, ended), (BEFORE.decode(), [f"psyn: the circuit stays as it is: {why}"], status))
+            out, told, ended = self.ended(SMALLER, "shrink", "it.hoa", "it.aag", by=by)
+            self.assertEqual((out, told[0], ended), (SMALLER, f"psyn: the circuit is that of round 1: {why}", status))
+            self.assertEqual(told[1], "gates: 2 before, 1 after; latches: 0 before, 0 after")
+
+    def test_each_and_json_print_their_lines(self):
+        out, _, ended = self.ended("", "each", "synth", "--small", "--quiet", "it.hoa", "it.hoa", by=signal.SIGINT)
+        self.assertEqual((out, ended), ("it.hoa: REALIZABLE\n", -signal.SIGINT))
+        out, _, _ = self.ended("", "--json", "shrink", "it.hoa", "it.aag", by=signal.SIGINT)
+        self.assertIn('"verdict": "wins"', out)
+
+    def test_rounds_end_where_one_makes_it_no_smaller(self):
+        stages = self.tool("shrink", "--progress", "it.hoa", "it.aag").stderr.decode().splitlines()
+        titles = [line.removesuffix(": 0 s") for line in stages if line.endswith(" s")]
+        self.assertEqual(titles, ["verify", "shrink, round 1", "shrink, round 2"])
+        self.assertEqual(stages[-1], "gates: 2 before, 0 after; latches: 0 before, 0 after")
 
 
 class Told(OnCircuits):

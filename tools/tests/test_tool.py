@@ -283,7 +283,7 @@ class Start(OnFiles):
 
     def test_only_what_a_command_needs_is_imported(self):
         parsing = set("main running words command table kinds usages places console signals ends texts".split())
-        asking = parsing | set("asking files program unmentioned texts.binary".split())
+        asking = parsing | set("asking files program progress unmentioned texts.binary".split())
         self.assertEqual(self.modules("chek"), parsing)
         self.assertEqual(self.modules("help"), parsing | {"commands", "commands.help"})
         self.assertEqual(self.modules("check", self.file("game", GAME), self.file("certificate", CERTIFICATE)), asking)

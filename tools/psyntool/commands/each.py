@@ -1,6 +1,6 @@
 """`each`: runs a command on several files, one after another or as many at a time as it reads, and prints a line for
 each run."""
-from psyntool import console, running, words
+from psyntool import console, running, signals, words
 from psyntool.command import JSON, KEEP, PICTURE, STIMULUS, TO_FILES, WAVE, Request
 from psyntool.ends import Refused
 from psyntool.kinds import Kind
@@ -24,6 +24,8 @@ def run(request):
         outcome = running.captured(one)
         console.write_text(line_of(one, outcome))
         status = status or (0 if outcome.status in ANSWERED else outcome.status)
+        if signals.pending:
+            break
     return status
 
 

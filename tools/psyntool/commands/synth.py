@@ -1,9 +1,9 @@
 """`synth`: a circuit for an automaton, for a specification in parts, or for one in temporal logic. With -o, the
 circuit, the game and the certificate go to separate files, of temporal logic the circuit alone or, with --automaton,
 all; with --small, the circuit is made smaller; with --by, another solver solves the game."""
-from psyntool import asking, console, files, outputs, program
+from psyntool import asking, console, files, outputs, program, signals
 from psyntool.command import AUTOMATON, BY, CERT, FULL, KEEP, MOORE, OF_PARTS, PARTS, PICTURE, SMALL, TLSF, TO_FILES
-from psyntool.ends import FAULT, Refused
+from psyntool.ends import FAULT, Refused, TimeUp
 from psyntool.kinds import Kind
 from psyntool.texts import Unreadable, report
 
@@ -68,9 +68,7 @@ def with_automaton(request, texts, paths, others):
 
 
 def run_on_parts(request):
-    """Runs `synth` on a specification in parts. If a controller can make assumptions fail, lines on standard error say
-    so."""
-    from psyntool import remarks
+    """Runs `synth` on a specification in parts."""
     from psyntool.parts import specification
     from psyntool.parts.composing import Composer
 
@@ -87,22 +85,18 @@ def run_on_parts(request):
     ]
     others = {path: whole.text() for path in paths[-1:]}
     if solving:
-        status = solving.run(texts, paths[:-1], others)
-    elif paths:
-        status = to_files(request, texts, paths[:-1], others)
-    else:
-        status = hand_on(request, texts)
-    if status == 10 and not request.quiet:
-        console.tell(*remarks.failing(composer, request.passed))
-    return status
+        return solving.run(texts, paths[:-1], others, composer)
+    if paths:
+        return to_files(request, texts, paths[:-1], others, composer=composer)
+    return hand_on(request, texts, composer=composer)
 
 
-def hand_on(request, texts, flags=None):
-    """Prints the program's answer, and remarks on it."""
+def hand_on(request, texts, flags=None, composer=None):
+    """Prints the program's answer, and remarks on it; of parts, with their composer."""
     given = files.joined("synth", request.passed if flags is None else flags, texts)
     answer = smaller(request, texts[0], program.ask(given), request.passed)
     status = asking.hand_on(request, texts, answer)
-    remark(request, texts[0], answer)
+    remark(request, texts[0], answer, composer)
     return status
 
 
@@ -115,16 +109,26 @@ def smaller(request, text, answer, passed):
     return shrinking.in_answer(request, text, answer, passed)
 
 
-def remark(request, text, answer):
-    """Names outputs of a controller that never change, and inputs that a smaller one does not need; of parts, tells
-    what an environment does, and of sentences, which names look like slips."""
-    if request.quiet or not asking.is_had(answer):
+def remark(request, text, answer, composer=None):
+    """Remarks on an answer. Where no time is left for one, the answer is without it."""
+    if request.quiet or signals.pending or not asking.is_had(answer):
         return
+    try:
+        tell_remarks(request, text, answer, composer)
+    except TimeUp:
+        pass
+
+
+def tell_remarks(request, text, answer, composer):
+    """Names outputs of a controller that never change, and inputs that a smaller one does not need; of parts, tells
+    whether a controller can make assumptions fail, or what an environment does, and of sentences, which names look like
+    slips."""
     from psyntool import remarks
 
-    is_of_parts = any(request.has(flag) for flag in (PARTS, *OF_PARTS)) and not request.has(TLSF)
+    if composer and answer.status == 10:
+        console.tell(*remarks.failing(composer, request.passed))
     console.tell(*remarks.constants(answer), *(remarks.unread(answer) if request.has(SMALL) else []))
-    console.tell(*(remarks.defeat(text, answer, request.passed) if is_of_parts else []))
+    console.tell(*(remarks.defeat(text, answer, request.passed) if composer else []))
     if request.has(TLSF):
         from psyntool import specifying
         from psyntool.tlsf import sanity
@@ -148,7 +152,7 @@ class Solving:
         self.picture = judging.path_of(request)
         self.solver = solvers.Solver(request)
 
-    def run(self, texts, paths, others):
+    def run(self, texts, paths, others, composer=None):
         """Prints the answer of `synth` for the certificate that is made from the other solver's solution; explains the
         error of a wrong solution."""
         request = self.request
@@ -166,8 +170,8 @@ class Solving:
         given = [*texts, files.Text(Kind.CERTIFICATE, f"the certificate of {self.solver.name}", certificate.bytes)]
         flags = [CERT.name, *request.passed]
         if paths:
-            return to_files(request, given, paths, others, flags)
-        return hand_on(request, given, flags)
+            return to_files(request, given, paths, others, flags, composer=composer)
+        return hand_on(request, given, flags, composer)
 
 
 def paths_of(request, endings):
@@ -175,7 +179,7 @@ def paths_of(request, endings):
     return outputs.own(request, [prefix + ending for ending in endings], TO_FILES.shown, prefix)
 
 
-def to_files(request, texts, paths, others, passed=None, spec=None):
+def to_files(request, texts, paths, others, passed=None, spec=None, composer=None):
     """Writes the circuit, the game, the certificate and other given texts to files, and then prints the first line of
     the answer. The automaton may be that of a specification, which is then given too."""
     passed = request.passed if passed is None else passed
@@ -187,7 +191,7 @@ def to_files(request, texts, paths, others, passed=None, spec=None):
     if answer.died:
         return asking.told(request, texts, answer)
     status = stored(answer, paths, others)
-    remark(request, spec or texts[0], answer)
+    remark(request, spec or texts[0], answer, composer)
     return status
 
 

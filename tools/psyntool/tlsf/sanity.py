@@ -2,7 +2,7 @@
 guarantees that contradict each other or follow from the others, and names that look like slips."""
 from dataclasses import replace
 
-from psyntool import console
+from psyntool import progress
 from psyntool.ends import Unwritten
 from psyntool.parts.cores import shrunk
 from psyntool.parts.slips import is_slip
@@ -129,7 +129,7 @@ class Sanity:
     def of_guarantees(self) -> list:
         """Guarantees that follow from the others and from the assumptions."""
         found, those = [], self.sides.guarantees
-        for one in console.counted("guarantees", those if len(those) > 1 or self.sides.assumptions else ()):
+        for one in progress.counted("guarantees", those if len(those) > 1 or self.sides.assumptions else ()):
             others = [other for other in those if other is not one]
             left = self.formulas.joined(
                 0,
