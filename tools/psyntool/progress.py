@@ -4,7 +4,7 @@ import time
 
 from psyntool import console
 
-# On a terminal, a stage is shown from so many seconds on, each second; elsewhere at its begin, and each so many seconds.
+# On a terminal, a stage is shown from so many seconds on, each second; elsewhere at its begin, and each so many.
 FIRST, EVERY = 2, 10
 # Whether --progress is given; and of which things a stage is about one.
 is_asked = False

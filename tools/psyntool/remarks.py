@@ -21,6 +21,13 @@ def constants(answer):
     return [f"in this controller some outputs never change: {', '.join(said)}"] if said else []
 
 
+def breaking(basic, made):
+    """Lines on the assumptions of sentences that a controller's circuit breaks."""
+    from psyntool.tlsf import breaking as of_sentences
+
+    return of_sentences.lines(basic, made) if basic and made else []
+
+
 def unread(answer):
     """A line that names the inputs on which no output depends, if the answer is a controller and has such inputs."""
     made = controller_of(answer)

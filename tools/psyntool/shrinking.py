@@ -97,8 +97,8 @@ class Found:
 
 
 def in_rounds(flags, specified, given):
-    """The circuit that `shrink` makes of a circuit that wins, in rounds, each from what the one before it made. They end
-    if one makes it no smaller; if no time is left or a signal stops them, what is there is kept."""
+    """The circuit that `shrink` makes of a circuit that wins, in rounds, each from what the one before it made. They
+    end if one makes it no smaller; if no time is left or a signal stops them, what is there is kept."""
     now, count, is_smaller, why = given, 0, True, ""
     try:
         while is_smaller:

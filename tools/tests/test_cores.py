@@ -130,7 +130,7 @@ class Circuits(OnFiles):
                 *([self.file("it.parts", " ".join(words).encode() + b"\n")] if "page" in command else words),
             )
             self.assertEqual(
-                (done.returncode % 10, done.stderr.decode().split("change: it is 0\n")[-1]), (0, FAILS), command
+                (done.returncode % 10, done.stderr.decode().split("in this controller")[0]), (0, FAILS), command
             )
         for command in ("synth", "core"):
             self.assertEqual(self.tool(command, "--quiet", *words).stderr, b"")

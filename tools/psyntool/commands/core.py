@@ -54,9 +54,11 @@ def run_on_sentences(request):
     if paths:
         outputs.write_all({paths[0]: found.specification.text().encode(ENCODING)})
     console.write_text("\n".join([WORD[found.has_controller], head(found), *sentences(found.parts), ""]))
-    if not request.quiet and not found.has_controller:
+    if not request.quiet:
         answer = asking.answer(found.specification.assumptions, found.specification.guarantees)
-        console.tell(*remarks.words_of(circuit.read(report.read(answer.text).parts[0])))
+        made = circuit.read(report.read(answer.text).parts[0])
+        whole = found.specification.whole
+        console.tell(*(remarks.breaking(whole, made) if found.has_controller else remarks.words_of(made)))
     return STATUS[found.has_controller]
 
 

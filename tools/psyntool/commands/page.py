@@ -84,7 +84,7 @@ def of_parts(request):
         writing.page(name, given.board, [*texts_of(given, name), ("specification", f"{name}.hoa", whole.bytes)])
     )
     if answer.status == 10 and not request.quiet:
-        console.tell(*remarks.constants(answer), *(remarks.failing(composer, request.passed) if composer else ()))
+        console.tell(*(remarks.failing(composer, request.passed) if composer else ()), *remarks.constants(answer))
     return 0
 
 

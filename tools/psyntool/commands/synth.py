@@ -120,21 +120,25 @@ def remark(request, text, answer, composer=None):
 
 
 def tell_remarks(request, text, answer, composer):
-    """Names outputs of a controller that never change, and inputs that a smaller one does not need; of parts, tells
-    whether a controller can make assumptions fail, or what an environment does, and of sentences, which names look like
-    slips."""
+    """Tells first whether a controller can make assumptions fail; then names outputs of a controller that never change,
+    and inputs that a smaller one does not need; of parts, tells what an environment does, and of sentences, which names
+    look like slips."""
     from psyntool import remarks
 
+    basic = None
+    if request.has(TLSF):
+        from psyntool import specifying
+
+        basic = specifying.basic_of(text)
+        console.tell(*remarks.breaking(basic, remarks.controller_of(answer)))
     if composer and answer.status == 10:
         console.tell(*remarks.failing(composer, request.passed))
     console.tell(*remarks.constants(answer), *(remarks.unread(answer) if request.has(SMALL) else []))
     console.tell(*(remarks.defeat(text, answer, request.passed) if composer else []))
-    if request.has(TLSF):
-        from psyntool import specifying
+    if basic:
         from psyntool.tlsf import sanity
 
-        basic = specifying.basic_of(text)
-        console.tell(*(sanity.Sanity(basic).of_names() if basic else []))
+        console.tell(*sanity.Sanity(basic).of_names())
 
 
 class Solving:

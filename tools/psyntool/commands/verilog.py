@@ -2,7 +2,7 @@
 and each output has the sentences that mention it."""
 import os
 
-from psyntool import asking, console, files, program, unmentioned
+from psyntool import asking, console, files, program, remarks, unmentioned
 from psyntool.command import ENV, MOORE, TLSF, wrong_kinds
 from psyntool.ends import FAULT, Refused
 from psyntool.files import Reader, Text
@@ -28,7 +28,10 @@ def run(request):
     name = os.path.basename(given.circuit.name)
     title = "circuit" if request.words[0] == "-" else os.path.splitext(name)[0]
     about = [f"Written by psyn verilog from {name}.", *given.judgement()]
-    console.write_text(verilog.module(circuit.read(given.circuit.string), title, about, given.sentences()))
+    made = circuit.read(given.circuit.string)
+    console.write_text(verilog.module(made, title, about, given.sentences()))
+    if not request.quiet and not request.has(ENV):
+        console.tell(*given.breaking(made))
     return 0
 
 
@@ -37,7 +40,7 @@ class Given:
 
     def __init__(self, request):
         self.request = request
-        self.automaton = None
+        self.automaton = self.composer = None
         if request.words.count("-") > 1:
             raise Refused("standard input can be one of the files only")
         if not request.words[1:] and request.passed:
@@ -49,7 +52,7 @@ class Given:
             raise Refused(wrong)
         for path in request.words[1:]:
             self.specification = reader.text(Kind.FILE, path)
-            self.automaton = specification_of(self.specification, reader, request)
+            self.automaton, self.composer = specification_of(self.specification, reader, request)
             unmentioned.drop([self.automaton, self.circuit])
             reader.tell(self.circuit)
 
@@ -72,6 +75,16 @@ class Given:
             "psyn verify says that this circuit wins, "
             f"by {os.path.basename(self.specification.name).removesuffix(WRITTEN_OUT)}."
         ]
+
+    def breaking(self, made):
+        """Lines on the assumptions that the controller breaks, or of a list of parts, that a controller can break."""
+        if self.composer:
+            return remarks.failing(self.composer, self.request.passed)
+        if not self.automaton or self.automaton.kind is not Kind.SPECIFICATION:
+            return []
+        from psyntool import specifying
+
+        return remarks.breaking(specifying.basic_of(self.automaton), made)
 
     def sentences(self):
         """For each proposition that a sentence mentions, these sentences, as lines: of a controller the guarantees, and
@@ -101,17 +114,18 @@ class Given:
 
 def specification_of(text, reader, request):
     """The text by which the circuit is judged: an automaton, that of a list of parts, or a specification in temporal
-    logic."""
+    logic; and of a list its composer."""
     if text.looks_like is Kind.SPECIFICATION:
         if request.has(MOORE):
             raise Refused(f"{text.name} says itself who moves first, without {MOORE.name}")
-        return reader.specification(text)
+        return reader.specification(text), None
     if text.looks_like is Kind.LIST:
-        made = Composer(specification.of_list(text, reader, request)).composed().text()
-        return Text(Kind.AUTOMATON, text.name, made.encode("utf-8", "surrogateescape"))
+        composer = Composer(specification.of_list(text, reader, request))
+        made = composer.composed().text()
+        return Text(Kind.AUTOMATON, text.name, made.encode("utf-8", "surrogateescape")), composer
     if text.looks_like is not Kind.AUTOMATON:
         what = text.looks_like.with_article if text.looks_like else "no automaton" if text.bytes.strip() else "empty"
         raise Refused(
             f"{text.name} is {what}; SPEC is an automaton, a list of parts or a specification in temporal logic"
         )
-    return text
+    return text, None

@@ -26,8 +26,12 @@ class Sides:
         )
         return replace(self, assumptions=sides[0], guarantees=sides[1])
 
+    @property
+    def whole(self) -> Basic:
+        return self.basic.having((*self.assumptions, *self.guarantees))
+
     def text(self) -> str:
-        return self.basic.having((*self.assumptions, *self.guarantees)).text()
+        return self.whole.text()
 
 
 def sides_of(basic: Basic) -> Sides:

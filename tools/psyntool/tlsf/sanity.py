@@ -64,7 +64,7 @@ class Sanity:
     def lines(self) -> list:
         try:
             with deep_calls():
-                found = self.of_impossible() or [*self.of_breakable(), *(self.of_contradicting() or self.of_guarantees())]
+                found = self.of_impossible() or [*self.of_breakable(), *self.of_guarantees()]
                 return [*found, *self.of_names(), *(f"not found out: {what}" for what in dict.fromkeys(self.unknown))]
         except Wrong as error:
             return [f"not found out: {error}"]
@@ -117,6 +117,9 @@ class Sanity:
             ends = [f"{play.looping}, which does not keep {of_those(those, 'assumption')}"]
         return ["so it can play:", *(f"  {line}" for line in [*play.table(), *ends])]
 
+    def of_guarantees(self) -> list:
+        return self.of_contradicting() or self.of_following()
+
     def of_contradicting(self) -> list:
         """Guarantees that nothing keeps together, or that nothing keeps while the assumptions are kept."""
         those, what = self.sides.guarantees, "whether the guarantees can be kept"
@@ -126,7 +129,7 @@ class Sanity:
         few = shrunk(those, lambda some: not self.is_possible(self.demand([*kept, *some]), f"{what} by fewer"))
         return [f"{contradiction(few, bool(kept))}:", *said(few)]
 
-    def of_guarantees(self) -> list:
+    def of_following(self) -> list:
         """Guarantees that follow from the others and from the assumptions."""
         found, those = [], self.sides.guarantees
         for one in progress.counted("guarantees", those if len(those) > 1 or self.sides.assumptions else ()):
