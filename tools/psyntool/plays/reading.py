@@ -1,9 +1,10 @@
 """Reads the files of an interactive play (`tools/psyn play`): PREFIX.aag, PREFIX.pg and PREFIX.cert, which psyn
 printed, and the specification."""
 import os
-from dataclasses import dataclass
+from dataclasses import dataclass, replace
 
 from psyntool import program
+from psyntool.command import QUIET
 from psyntool.ends import Refused
 from psyntool.files import Reader, Text, joined
 from psyntool.kinds import Kind, kind_of_file
@@ -64,7 +65,9 @@ def automaton_beside(request):
     from psyntool import specifying
     from psyntool.parts import translated
 
-    texts = Reader(request).texts((Kind.SPECIFICATION, Kind.AUTOMATON), (path, f"{prefix}.hoa"))
+    # the files are read again, and what is changed in them is told then
+    quiet = replace(request, given={**request.given, QUIET.name: True})
+    texts = Reader(quiet).texts((Kind.SPECIFICATION, Kind.AUTOMATON), (path, f"{prefix}.hoa"))
     if program.ask(joined("agree", [], texts)).bytes != b"agrees\n":
         return None
     return translated.with_sentences(texts[1].string, specifying.read(texts[0]))

@@ -18,7 +18,7 @@ from psyntool.tlsf.obligations import Obligations, TooLong, limited
 from psyntool.tlsf.plays import Play
 
 # Inputs on which a circuit depends, and names of all assumptions; steps, and gates that are computed.
-MOST_INPUTS, MOST_NAMES, MOST_STEPS, MOST_GATES = 8, 10, 100_000, 2_000_000
+MOST_INPUTS, MOST_NAMES, MOST_STEPS, MOST_GATES = 8, 10, 100_000, 1_000_000
 # A longer play is not shown.
 LONGEST = 30
 
@@ -101,18 +101,15 @@ class Table:
 
 
 class Graph:
-    """Positions that can be reached from one, with their steps to others; `steps` gives pairs of what is said in a step
-    and the position behind it, which is None if it breaks an assumption, with the assumptions that it meets."""
+    """Positions that can be reached from one, with their steps to others; `steps` gives what is said in a step, the
+    position behind it, which is None if it breaks an assumption, and the assumptions that it meets."""
 
-    def __init__(self, start, steps, left: int = MOST_STEPS):
+    def __init__(self, start, steps):
         self.start, self.edges, waiting = start, {}, [start]
         while waiting:
-            now = waiting.pop(0)
+            now = waiting.pop()
             if now not in self.edges:
                 self.edges[now] = steps(now)
-                left -= len(self.edges[now])
-                if left < 0:
-                    raise TooLong
                 waiting += [after for _, after, _ in self.edges[now] if after is not None]
 
     def keeping(self, count: int) -> set:
@@ -186,9 +183,13 @@ class Breaking:
             raise TooLong
         self.watched = {one: Watched(one) for one in self.assumptions}
         self.table = Table(made, self.names)
+        self.left = MOST_STEPS
 
     def moved(self, those: tuple, states: tuple, letter: frozenset):
         """The states of assumptions behind a letter, or None if it breaks one; and those that it meets."""
+        self.left -= 1
+        if self.left < 0:
+            raise TooLong
         moves = [self.watched[one].move(state, letter) for one, state in zip(those, states)]
         if None in moves:
             return None, frozenset()
@@ -260,14 +261,18 @@ class Breaking:
         return tuple(one for one, move in moves if move is None)
 
     def fewest(self, those: tuple, position: tuple) -> tuple:
-        """As few of the assumptions as possible that the environment can't keep from a position on."""
+        """As few of the assumptions as possible, and as few steps allow, that the environment can't keep from a position
+        on."""
         states = dict(zip(those, position[1]))
 
         def is_broken(some):
             graph = self.on_circuit(some, position[0], tuple(states[one] for one in some))
             return graph.start not in graph.keeping(len(some))
 
-        return shrunk(those, is_broken)
+        try:
+            return shrunk(those, is_broken)
+        except TooLong:
+            return those
 
 
 def lines(basic: Basic, made) -> list:
