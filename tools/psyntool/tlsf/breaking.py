@@ -261,8 +261,8 @@ class Breaking:
         return tuple(one for one, move in moves if move is None)
 
     def fewest(self, those: tuple, position: tuple) -> tuple:
-        """As few of the assumptions as possible, and as few steps allow, that the environment can't keep from a position
-        on."""
+        """As few of the assumptions as possible, as far as the steps suffice, that the environment can't keep from a
+        position on."""
         states = dict(zip(those, position[1]))
 
         def is_broken(some):
