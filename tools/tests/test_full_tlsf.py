@@ -147,6 +147,11 @@ def without_comments(text):
     return [line for line in text.split("\n") if not line.strip().startswith("//")]
 
 
+def guarantees(text):
+    """The formulas of the last section of a text in the basic form."""
+    return [line.strip()[:-1] for line in without_comments(text.split(" {\n")[-1]) if line.endswith(";")]
+
+
 def drawn(draw, depth):
     """A random formula: names, operators, and words of sentences."""
     if not depth or draw.random() < 0.1:
@@ -551,6 +556,43 @@ class Limits(unittest.TestCase):
         long = "a" * 1_000
         self.assertIn("16,777,216 bytes", self.wrong(" || ".join([long] * 17_000), inputs=f"{long};"))
         self.assertIn("1,001 bytes", self.wrong("a" * 1_001))
+
+    def test_so_many_steps_are_written_out(self):
+        for formula, most in (("G (a -> within {} b)", 254), ("G (a[*{}] -> b)", 255), ("G (a -> X[{}] b)", 254)):
+            with self.subTest(formula):
+                text = specification(["a"], ["b"], [("GUARANTEE", [formula.format(most)])])
+                tlsf_reader.read(expanding.expanded(text, {}).encode())
+                self.assertIn(
+                    "n steps, as in `within n f`, nest n deep", self.wrong(formula.format(most + 1), inputs="a; b;")
+                )
+        # of many sentences, which have more operators than psyn reads, each is written in short
+        many = [f"G (a -> within {number} b)" for number in range(100, 128)]
+        text = expanding.expanded(specification(["a"], ["b"], [("GUARANTEE", many)]), {})
+        self.assertIn("b || X (b || X (b", text)
+        tlsf_reader.read(text.encode())
+        self.assertIn(
+            "65,535 operators and operands up to here",
+            self.wrong("; ".join([*many, "G (a -> within 128 b)"]), inputs="a; b;"),
+        )
+
+    def test_a_range_without_steps(self):
+        text = specification(["r[n]"], ["g"], [("GUARANTEE", ["g || G[0:n-1] r[n-1]", "F[n-2:n-1] g", "G[3:2] g"])])
+        text = text.replace("MAIN", "GLOBAL { PARAMETERS { n = 0; } } MAIN")
+        self.assertEqual(guarantees(expanding.expanded(text, {})), ["true", "false", "true"])
+        self.assertEqual(guarantees(expanding.expanded(text, {"n": 2})), ["g || r_1 && X r_1", "g || X g", "true"])
+
+    def test_a_value_of_another_enumeration(self):
+        enums = "GLOBAL { DEFINITIONS { enum L = O: 0 P: 1; enum M = Q: 0 S: 1; } } MAIN"
+        wrong = "`l` has values of `L`, and `S` is one of `M`"
+        for formula, said in (("l == P", ""), ("b == P", ""), ("l != S", wrong), ("S == l", wrong)):
+            text = specification(["L l", "b[1]"], [], [("GUARANTEE", [f"G ({formula})"])]).replace("MAIN", enums)
+            with self.subTest(formula):
+                if not said:
+                    tlsf_reader.read(expanding.expanded(text, {}).encode())
+                    continue
+                with self.assertRaises(Wrong) as caught:
+                    expanding.expanded(text, {})
+                self.assertEqual(str(caught.exception), said)
 
     def test_deep_texts_end_in_one_line(self):
         for formula, said in (

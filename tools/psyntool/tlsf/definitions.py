@@ -13,10 +13,11 @@ MOST_BITS = 6
 
 
 class Definitions:
-    """The declarations of a specification. `settings` has the values of parameters that a user sets."""
+    """The declarations of a specification. `settings` has the values of parameters that a user sets; `are_short` says
+    which formulas are made."""
 
-    def __init__(self, read: Specification, settings: dict):
-        self.evaluator = Evaluator(self.declared, self.called)
+    def __init__(self, read: Specification, settings: dict, are_short: bool):
+        self.evaluator = Evaluator(self.declared, self.called, are_short)
         self.places = {}
         self.written = {}
         # values that are known, and definitions; and those that are being evaluated, with what they need
@@ -66,7 +67,7 @@ class Definitions:
                 if other:
                     raise Wrong(at, f"`{other}` and `{value.name}` have bits in common")
                 seen.append((value.name, pattern))
-            self.values[value.name] = Bits(value.name, tuple(pattern for _, pattern in value.patterns))
+            self.values[value.name] = Bits(value.name, tuple(pattern for _, pattern in value.patterns), made.name)
         self.enumerations[made.name] = [self.values[value.name] for value in made.values]
 
     def signal(self, made: Signal):

@@ -19,8 +19,8 @@ UNITED = ("&&", "||")
 class Evaluator:
     """Evaluates expressions. `declared` maps a name to its value, `called` calls a definition."""
 
-    def __init__(self, declared, called):
-        self.formulas = Formulas()
+    def __init__(self, declared, called, are_short: bool):
+        self.formulas = Formulas(are_short)
         self.sets = Sets()
         self.declared = declared
         self.called = called
@@ -173,6 +173,11 @@ class Evaluator:
         return (min if it.sign == "MIN" else max)(elements)
 
     def bounded(self, it, scope: dict):
+        if it.high is not None:
+            low, high = self.number(it.low, scope), self.number(it.high, scope)
+            if high < max(low, 0):
+                # no step is meant, so there may be no value at one
+                return it.sign == "G"
         low = self.step(it.low, scope)
         high = low if it.high is None else self.step(it.high, scope)
         part = self.formula(it.operand, scope)

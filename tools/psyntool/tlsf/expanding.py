@@ -6,7 +6,9 @@ import sys
 from dataclasses import dataclass, replace
 
 from psyntool.tlsf.definitions import Definitions
-from psyntool.tlsf.formulas import MOST_BYTES, MOST_OPERATORS, Formula, names_in, sentences_of, text_of
+from psyntool.tlsf.formulas import (
+    MOST_BYTES, MOST_OPERATORS, Formula, TooLarge, names_in, sentences_of, text_of
+)
 from psyntool.tlsf.reading import read
 from psyntool.tlsf.syntax import Specification
 from psyntool.tlsf.tokens import Wrong
@@ -95,7 +97,10 @@ def basic(text: str, settings: dict) -> Basic:
 def of_specification(specification: Specification, text: str, settings: dict) -> Basic:
     """The basic form of a parsed text."""
     with deep_calls():
-        made = written(specification, text, settings)
+        try:
+            made = written(specification, text, settings, False)
+        except TooLarge as error:
+            made = written_shortly(specification, text, settings, error)
         length = len(made.text())
     if length > MOST_BYTES:
         raise Wrong(0, f"written out, this specification has {length:,} bytes, and psyn reads at most {MOST_BYTES:,}")
@@ -113,9 +118,18 @@ def deep_calls():
         sys.setrecursionlimit(before)
 
 
-def written(specification: Specification, text: str, settings: dict) -> Basic:
+def written_shortly(specification: Specification, text: str, settings: dict, error: TooLarge) -> Basic:
+    """The basic form in short formulas, of a text whose other formulas are too large. If these are too large as well,
+    the error is that of the others."""
+    try:
+        return written(specification, text, settings, True)
+    except TooLarge:
+        raise error from None
+
+
+def written(specification: Specification, text: str, settings: dict, are_short: bool) -> Basic:
     refuse_unknown(specification, settings)
-    definitions = Definitions(specification, settings)
+    definitions = Definitions(specification, settings, are_short)
     head = [
         f"{SIGN}\n",
         *(
@@ -151,13 +165,13 @@ def sentences(text: str, specification: Specification, definitions: Definitions)
         size += formula.size if isinstance(formula, Formula) else 1
         length += formula.length if isinstance(formula, Formula) else len("false")
         if size > MOST_OPERATORS:
-            raise Wrong(
+            raise TooLarge(
                 at,
                 f"written out, the specification has more than {MOST_OPERATORS:,} operators and operands up to here, "
                 "the most that psyn reads",
             )
         if length > MOST_BYTES:
-            raise Wrong(
+            raise TooLarge(
                 at,
                 f"written out, the specification has more than {MOST_BYTES:,} bytes up to here, "
                 "the most that psyn reads",

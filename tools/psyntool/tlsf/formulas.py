@@ -19,6 +19,10 @@ BARE = {"&&": (), "||": ("&&",), "<->": ("&&", "||"), "->": ("&&", "||")}
 UNIT = {"&&": True, "||": False}
 
 
+class TooLarge(Wrong):
+    """A formula that is larger, written out, than psyn reads."""
+
+
 @dataclass(frozen=True, slots=True, eq=False)
 class Formula:
     """A formula: its operator and operands, or its name (whose operator is empty); the number of its operators and
@@ -42,11 +46,13 @@ class Formula:
 
 class Formulas:
     """Makes formulas, and counts the steps of doing so. Each function takes the offset at which the expression stands
-    for which the formula is made."""
+    for which the formula is made. Where they are short, a formula at many steps is written in few operators, though
+    psyn takes longer then."""
 
-    def __init__(self):
+    def __init__(self, are_short: bool = False):
         self.made = {}
         self.steps = 0
+        self.are_short = are_short
 
     def spend(self, at: int, steps: int):
         self.steps += steps
@@ -79,14 +85,18 @@ class Formulas:
             )
         nesting += len(parts) == 1
         if size > MOST_OPERATORS:
-            raise Wrong(
+            raise TooLarge(
                 at,
                 f"written out, this has more than {MOST_OPERATORS:,} operators and operands, the most that psyn reads",
             )
         if nesting > MOST_NESTED:
-            raise Wrong(at, f"written out, this nests more than {MOST_NESTED} deep, the most that psyn reads")
+            raise TooLarge(
+                at,
+                f"written out, this nests more than {MOST_NESTED} deep, the most that psyn reads: "
+                "n steps, as in `within n f`, nest n deep",
+            )
         if length > MOST_BYTES:
-            raise Wrong(at, f"written out, this has more than {MOST_BYTES:,} bytes, the most that psyn reads")
+            raise TooLarge(at, f"written out, this has more than {MOST_BYTES:,} bytes, the most that psyn reads")
         return self.kept(sign, tuple(parts), size, nesting, length)
 
     def negation(self, at: int, part):
@@ -126,14 +136,19 @@ class Formulas:
         return part
 
     def between(self, at: int, sign: str, low: int, high: int, part):
-        """The disjunction (`||`) or conjunction (`&&`) of a formula at the steps from `low` to `high`, as
-        `X (f || X (f || X f))` for 1 and 3."""
-        if high < low:
-            return UNIT[sign]
-        made = part
-        for _ in range(0 if isinstance(part, bool) else high - low):
-            made = self.joined(at, sign, (part, self.before(at, "X", made)))
-        return self.next(at, low, made)
+        """The disjunction (`||`) or conjunction (`&&`) of a formula at the steps from `low` to `high`: for 1 and 3
+        `X f || X X f || X X X f`, which psyn translates fastest, or in short `X (f || X (f || X f))`."""
+        if high < low or isinstance(part, bool):
+            return UNIT[sign] if high < low else part
+        if self.are_short:
+            made = part
+            for _ in range(high - low):
+                made = self.joined(at, sign, (part, self.before(at, "X", made)))
+            return self.next(at, low, made)
+        found = [self.next(at, low, part)]
+        for _ in range(high - low):
+            found.append(self.of(at, "X", (found[-1],)))
+        return self.joined(at, sign, found)
 
 
 def needs_parentheses(sign: str, part: Formula, is_last: bool) -> bool:

@@ -71,6 +71,10 @@ def called(formulas: Formulas, it, values: list):
 
 def has_bits(formulas: Formulas, at: int, bus: Bus, bits: Bits):
     """The formula that a bus has a value of an enumeration: bit 0 is the first one of the value."""
+    if bus.enumeration not in ("", bits.enumeration):
+        raise Wrong(
+            at, f"`{bus.name}` has values of `{bus.enumeration}`, and `{bits.name}` is one of `{bits.enumeration}`"
+        )
     if len(bus.signals) != bits.width:
         raise Wrong(
             at,

@@ -16,10 +16,12 @@ class Bus:
 
 @dataclass(frozen=True)
 class Bits:
-    """A value of an enumeration: its name, and the bits by which a bus has it, as strings of `0`, `1` and `*`."""
+    """A value of an enumeration: its name, the bits by which a bus has it, as strings of `0`, `1` and `*`, and the
+    enumeration."""
 
     name: str
     patterns: tuple
+    enumeration: str
 
     @property
     def width(self) -> int:
