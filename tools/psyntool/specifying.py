@@ -35,6 +35,7 @@ def basic(text, settings):
     column. The text is to tell how its mixes of operators were read."""
     try:
         made = expanding.basic(text.bytes.decode(ENCODING), settings)
+        text.told += [f"{text.name}: {made.rewritten}"] if made.rewritten else []
         text.told += [f"{text.name}:{line}" for line in groupings(text, made.grouped)]
         return made
     except Wrong as error:

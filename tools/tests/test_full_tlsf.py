@@ -8,6 +8,7 @@ import tomllib
 import unittest
 
 from psyntool.tlsf import expanding, formulas
+from psyntool.tlsf.reading import is_in_full_form
 from psyntool.tlsf.tokens import Wrong
 from tests import lassos, tlsf_reader
 from tests.tool import OnFiles
@@ -581,6 +582,20 @@ class Limits(unittest.TestCase):
         self.assertEqual(guarantees(expanding.expanded(text, {})), ["true", "false", "true"])
         self.assertEqual(guarantees(expanding.expanded(text, {"n": 2})), ["g || r_1 && X r_1", "g || X g", "true"])
 
+    def test_formulas_for_another_order_of_moves(self):
+        for have, want, formula, said in (
+            ("Mealy", "Moore", "G (g <-> r && F g)", "G (X g <-> r && F X g)"),
+            ("Moore", "Mealy", "G (X g <-> (r W g))", "G (X g <-> (X r W g))"),
+            ("Moore", "Moore", "G (X g <-> r)", "G (X g <-> r)"),
+        ):
+            text = specification(["r"], ["g"], [("GUARANTEE", [formula])], want).replace(want, have, 1)
+            made = expanding.basic(text, {})
+            with self.subTest(have + want):
+                self.assertEqual((guarantees(made.text()), made.is_moore), ([said], want == "Moore"))
+                tlsf_reader.read(made.text().encode())
+                self.assertEqual(bool(made.rewritten), have != want)
+                self.assertEqual(is_in_full_form(text), have != want)
+
     def test_a_value_of_another_enumeration(self):
         enums = "GLOBAL { DEFINITIONS { enum L = O: 0 P: 1; enum M = Q: 0 S: 1; } } MAIN"
         wrong = "`l` has values of `L`, and `S` is one of `M`"
@@ -718,6 +733,32 @@ class Commands(OnFiles):
         )
         self.assertEqual(without_comments(made)[-5:], ["    not || GF;", "    rises || or;", "  }", "}", ""])
         self.assertIn("    (until -> within) U stable;\n", made)
+
+    def test_words_of_the_full_form_are_names_in_the_basic_form(self):
+        inputs, outputs = ["IN", "_", "MIN", "AND", "NOT"], ["OR", "enum", "SIZEOF", "otherwise", "xor", "GF"]
+        those = ["G (IN -> F OR)", "_ && MIN -> enum || !otherwise", "G !(SIZEOF && xor)"]
+        text = specification(inputs, outputs, [("GUARANTEE", those)])
+        self.assertFalse(is_in_full_form(text))
+        self.assertEqual(guarantees(expanding.expanded(text, {})), those)
+        self.file("names.tlsf", text.encode())
+        for command in ("synth", "core", "sane", "translate", "show"):
+            done = self.tool(command, "--quiet", "names.tlsf")
+            self.assertEqual((done.stderr, done.returncode in (0, 10)), (b"", True), command)
+        # beside a word or a sign of the full form they are words
+        with self.assertRaises(Wrong) as caught:
+            expanding.expanded(text.replace("F OR", "F[0:1] OR"), {})
+        self.assertEqual(str(caught.exception), "`IN` is a word of TLSF, and can't be the name of a signal")
+
+    def test_a_name_that_hides_a_word_is_told(self):
+        for name, formula, said in (
+            ("at", "G at most one of (a, b)", "this is `most`; `at`"),
+            ("within", "G (a -> within 3 b)", "this is `3`; `within`"),
+            ("until", "a until b", "this is `until`; `until`"),
+            ("not", "G not a", "this is `a`; `not`"),
+        ):
+            with self.subTest(name), self.assertRaises(Wrong) as caught:
+                expanding.expanded(specification(["a", "b"], [name], [("GUARANTEE", [formula])]), {})
+            self.assertIn(f"{said} is declared as a name, and so it is no word here", str(caught.exception))
 
 
 if __name__ == "__main__":

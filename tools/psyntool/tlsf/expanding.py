@@ -64,6 +64,8 @@ class Basic:
     sentences: tuple
     # expressions that other tools group differently: their offsets, and how each was read
     grouped: tuple = ()
+    # how a text was read whose formulas are written for another order of moves, or nothing
+    rewritten: str = ""
 
     def of(self, word: str) -> list:
         """The sentences of a section."""
@@ -143,8 +145,21 @@ def written(specification: Specification, text: str, settings: dict, are_short: 
         for those in (definitions.inputs, definitions.outputs)
     ]
     order = specification.is_strict, specification.target == "Moore"
-    those = tuple(sentences(text, specification, definitions))
-    return Basic((*head, *info(specification)), *names, *order, those, tuple(specification.grouped))
+    late, said = delay(specification, *names)
+    those = tuple(sentences(text, specification, definitions, late))
+    return Basic((*head, *info(specification)), *names, *order, those, tuple(specification.grouped), said)
+
+
+def delay(specification: Specification, inputs: tuple, outputs: tuple) -> tuple:
+    """The names that are taken one step later where SEMANTICS and TARGET differ, and a message that says so: an output
+    that may answer the input of its step is one step late if it moves first, and the other way round."""
+    have, want = specification.semantics, specification.target
+    if have == want:
+        return frozenset(), ""
+    names, kind, one = (outputs, "output", "o") if want == "Moore" else (inputs, "input", "i")
+    return (
+        frozenset(names), f"SEMANTICS is {have} and TARGET {want}: each {kind} {one} is read as X {one}, as TLSF does"
+    )
 
 
 def refuse_unknown(specification: Specification, settings: dict):
@@ -157,11 +172,12 @@ def refuse_unknown(specification: Specification, settings: dict):
             )
 
 
-def sentences(text: str, specification: Specification, definitions: Definitions) -> list:
-    """The sentences. A conjunction is written as several of them."""
-    found, size, length = [], 0, 0
+def sentences(text: str, specification: Specification, definitions: Definitions, late: frozenset) -> list:
+    """The sentences, in which some names are taken one step later. A conjunction is written as several of them."""
+    found, size, length, known = [], 0, 0, {}
     starts = [0, *(at.end() for at in re.finditer("\n", text))]
     for at, stop, word, formula in formulas_of(specification, definitions):
+        formula = definitions.evaluator.formulas.delayed(at, formula, late, known) if late else formula
         size += formula.size if isinstance(formula, Formula) else 1
         length += formula.length if isinstance(formula, Formula) else len("false")
         if size > MOST_OPERATORS:
@@ -177,7 +193,7 @@ def sentences(text: str, specification: Specification, definitions: Definitions)
                 "the most that psyn reads",
             )
         parts, row = sentences_of(formula), bisect.bisect_right(starts, at)
-        source = shown(text[at:stop]) if len(parts) == 1 else ""
+        source = shown(text[at:stop]) if len(parts) == 1 and not late else ""
         found += [Sentence(word, one, row, source) for one in parts]
     return found
 
@@ -210,7 +226,7 @@ def info(specification: Specification):
         yield f"  DESCRIPTION: {specification.description}\n"
     if specification.tags:
         yield f"  TAGS:        {', '.join(specification.tags)}\n"
-    yield f"  SEMANTICS:   {specification.semantics}{',Strict' * specification.is_strict}\n"
+    yield f"  SEMANTICS:   {specification.target}{',Strict' * specification.is_strict}\n"
     yield f"  TARGET:      {specification.target}\n"
     yield "}\n"
 

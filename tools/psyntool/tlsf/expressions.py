@@ -133,13 +133,20 @@ class Parser:
             for token in (self.now, *self.tokens[max(0, self.at - 1) : self.at])
             if token.kind == "word" and token.text not in self.declared
         ]
-        raise Wrong(self.now.start, f"{what} is expected here, and this is {self.now.shown}{elsewhere.hint(*near)}")
+        hint = self.hidden() or elsewhere.hint(*near)
+        raise Wrong(self.now.start, f"{what} is expected here, and this is {self.now.shown}{hint}")
+
+    def hidden(self) -> str:
+        """A hint at a word of sentences that stands here, and that the text declares as a name."""
+        near = [token.text for token in (*self.tokens[max(0, self.at - 1) : self.at], self.now) if token.kind == "word"]
+        found = next((text for text in near if text in WORDS and text in self.declared), None)
+        return f"; `{found}` is declared as a name, and so it is no word here" if found else ""
 
     def name(self, of: str) -> Token:
         """Takes a word that becomes a name."""
         if not self.is_word():
             self.expected(f"the name of {of}")
-        if self.now.text in KEYWORDS:
+        if self.now.text in KEYWORDS - self.declared:
             raise Wrong(self.now.start, f"`{self.now.text}` is a word of TLSF, and can't be the name of {of}")
         return self.advance()
 
@@ -167,11 +174,7 @@ class Parser:
         text, kind = self.now.text, self.now.kind
         if text not in LEVEL_OF or kind in ("string", "number") or text == "|" and self.in_bars:
             return None
-        if (
-            kind == "word"
-            and text in WORDS
-            and (text in self.declared or text == "weak" and self.next().text != "until")
-        ):
+        if kind == "word" and (text in self.declared or text == "weak" and self.next().text != "until"):
             return None
         return LEVEL_OF[text]
 
@@ -247,7 +250,7 @@ class Parser:
             return self.bounded(token, sign) if self.is_sign("[") else Prefix(token.start, sign, self.binary(UNARY))
         if token.text in BIG_OTHERS and token.kind not in ("number", "string") and self.next().kind == "[":
             return self.big(BIG_OTHERS[token.text], SUM if BIG_OTHERS[token.text] in ("(+)", "(*)") else len(LEVELS))
-        if self.is_word(*OF_NUMBERS):
+        if self.is_word(*OF_NUMBERS) and token.text not in self.declared:
             self.advance()
             return Prefix(token.start, OF_NUMBERS[token.text], self.binary(len(LEVELS)))
         return self.behind(self.operand(), is_bare)
@@ -348,7 +351,7 @@ class Parser:
             return Truth(token.start, CONSTANTS[self.advance().text])
         if self.is_word("_"):
             return Name(token.start, self.advance().text)
-        if self.is_word() and token.text not in KEYWORDS and self.level() is None:
+        if self.is_word() and token.text not in KEYWORDS - self.declared and self.level() is None:
             return self.named()
         return self.expected("an operand")
 

@@ -135,6 +135,18 @@ class Formulas:
             part = self.of(at, "X", (part,))
         return part
 
+    def delayed(self, at: int, part, names: frozenset, known: dict):
+        """The formula with the given names one step later; `known` has those of parts."""
+        if isinstance(part, bool):
+            return part
+        if part not in known:
+            if part.sign:
+                those = tuple(self.delayed(at, one, names, known) for one in part.operands)
+                known[part] = self.of(at, part.sign, those)
+            else:
+                known[part] = self.of(at, "X", (part,)) if part.operands[0] in names else part
+        return known[part]
+
     def between(self, at: int, sign: str, low: int, high: int, part):
         """The disjunction (`||`) or conjunction (`&&`) of a formula at the steps from `low` to `high`: for 1 and 3
         `X f || X X f || X X X f`, which psyn translates fastest, or in short `X (f || X (f || X f))`."""

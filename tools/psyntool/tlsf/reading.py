@@ -42,8 +42,21 @@ def is_in_full_form(text: str) -> bool:
         tokens = tokens_of(text)
     except Wrong:
         return False
-    declared = declared_by(tokens)
+    return has_full_form(tokens, declared_by(tokens)) or len(set(orders_of(tokens).values())) > 1
+
+
+def has_full_form(tokens: list[Token], declared: frozenset) -> bool:
     return any(is_of_full_form(token, tokens[place + 1], declared) for place, token in enumerate(tokens[:-1]))
+
+
+def orders_of(tokens: list[Token]) -> dict:
+    """The orders of moves that SEMANTICS and TARGET name."""
+    found = {}
+    for place, token in enumerate(tokens[:-1]):
+        if token.text in ("SEMANTICS", "TARGET") and tokens[place + 1].kind == ":":
+            said = [one.text for one in tokens[place + 2 : place + 5] if one.text in ORDERS]
+            found |= {token.text: said[0]} if said else {}
+    return found
 
 
 def is_of_full_form(token: Token, following: Token, declared: frozenset) -> bool:
@@ -61,7 +74,8 @@ def is_of_full_form(token: Token, following: Token, declared: frozenset) -> bool
 
 def declared_by(tokens: list[Token]) -> frozenset:
     """The names that a text declares, as far as a look at its tokens shows them: all words of INPUTS and OUTPUTS, in
-    GLOBAL the words before `=` and `:` and those of a function's head, and each word before `IN`."""
+    GLOBAL the words before `=` and `:` and those of a function's head, and each word before `IN`. In the basic form,
+    words of the full form may be names."""
     found, block, depth = set(), "", 0
     for place, token in enumerate(tokens):
         depth += {"{": 1, "}": -1}.get(token.kind, 0)
@@ -73,7 +87,8 @@ def declared_by(tokens: list[Token]) -> frozenset:
             found |= head_of(tokens, place)
         elif token.kind == "word" and tokens[place + 1].text in ("IN", "ELEM", "<-"):
             found.add(token.text)
-    return frozenset(found) - KEYWORDS
+    names = frozenset(found) - WORDS_OF_BASIC_FORM
+    return names - KEYWORDS if has_full_form(tokens, names) else names
 
 
 def head_of(tokens: list[Token], place: int) -> set:
@@ -193,19 +208,11 @@ class Reader(Parser):
             )
 
     def check_order(self):
-        """Refuses a text that does not say who moves first, or says it in two ways."""
+        """Refuses a text that does not say who moves first."""
         end = self.tokens[self.at - 1].start
         for item, said in (("SEMANTICS", self.made.semantics), ("TARGET", self.made.target)):
             if not said:
                 raise Wrong(end, f"INFO has no {item}: write `{item}: Mealy`, or Moore if outputs come before inputs")
-        if self.made.semantics != self.made.target:
-            have, want = self.made.semantics, self.made.target
-            at = self.read_words["TARGET"].start
-            raise Wrong(
-                at,
-                f"SEMANTICS is {have} and TARGET {want}: psyn reads and plays in one order; write `TARGET: {have}`, "
-                f"or `SEMANTICS: {want}` if that is meant",
-            )
 
     # ---- expressions
 
