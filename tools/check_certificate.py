@@ -35,7 +35,8 @@ def counts_of(said, losing, is_compact):
     """A vertex's count for each priority of the parity by which its winner loses. The certificate lists all these
     counts or, in the compact form, only those other than 0, as `priority:count`."""
     if not is_compact:
-        return dict(zip(losing, map(int, said), strict=True))
+        insist(len(said) == len(losing), f"wrong counts: {said}")
+        return dict(zip(losing, map(int, said)))
     pairs = [tuple(map(int, word.split(":"))) for word in said]
     insist(
         sorted(dict(pairs).items()) == pairs and all(p in losing and count for p, count in pairs),

@@ -3,6 +3,8 @@
 For a command of the program, the program's own table (`usages`) states which flags and which texts the command takes.
 The help, the manual and the completions are made from the commands in `table`.
 """
+from __future__ import annotations
+
 import importlib
 import os
 import re

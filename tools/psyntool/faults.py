@@ -1,4 +1,6 @@
 """The sections of docs/FAULTS.md: for each fault its number, its name, its cause and its remedy."""
+from __future__ import annotations
+
 import re
 from dataclasses import dataclass
 

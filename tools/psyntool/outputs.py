@@ -56,6 +56,8 @@ def checked(paths, flag, prefix):
         raise Refused(f"{flag}: there is no folder {folder}")
     if not os.access(folder or os.curdir, os.W_OK | os.X_OK):
         raise Refused(f"{flag}: nothing can be written to the folder {folder or os.curdir}")
+    if os.path.exists(prefix) and not os.path.isfile(prefix) and not os.path.isdir(prefix):
+        raise Refused(f"{flag}: {prefix} is no plain file")
     for path in paths:
         if os.path.isdir(path):
             raise Refused(f"{flag}: {path} is a folder")

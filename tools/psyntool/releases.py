@@ -54,7 +54,7 @@ def of_text(text):
 def sum_of(path):
     """The SHA-256 sum of a file."""
     with open(path, "rb") as file:
-        return hashlib.file_digest(file, "sha256").hexdigest()
+        return hashlib.sha256(file.read()).hexdigest()
 
 
 def here():

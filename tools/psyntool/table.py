@@ -149,7 +149,7 @@ OF_THE_TOOL = (
         ("FAMILY", "N"),
         own=(SEED, EDGES, PRIORITIES),
     ),
-    Command("help", "what the tool can do, or how a command is used", ("COMMAND",), least=0),
+    Command("help", "what the tool can do, how a command is used, or all of this (`help all`)", ("COMMAND",), least=0),
     Command("version", "which psyn this is", ()),
 )
 COMMANDS = {row.name: row for row in (*OF_THE_PROGRAM, *OF_THE_TOOL)}

@@ -1,7 +1,7 @@
 """The commands of the program by name, with their flags and the kinds of texts that they read. The commands are stored
-in the file program.toml."""
+in the file program.json."""
+import json
 import os
-import tomllib
 from dataclasses import dataclass
 
 from psyntool.kinds import Kind
@@ -19,8 +19,8 @@ class Usage:
 
 
 def read():
-    with open(os.path.join(os.path.dirname(os.path.abspath(__file__)), "program.toml"), "rb") as file:
-        rows = tomllib.load(file)
+    with open(os.path.join(os.path.dirname(os.path.abspath(__file__)), "program.json"), encoding="utf-8") as file:
+        rows = json.load(file)
     kinds = {kind.title: kind for kind in Kind}
     return {
         name: Usage(

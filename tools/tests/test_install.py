@@ -154,7 +154,7 @@ class Tables(unittest.TestCase):
         )
         flag = 'pub const A_FLAG: &str = "a";'
         self.assertIn(
-            '[x]\nflags = ["a"]\ntexts = ["game"]\nadded = { a = "circuit" }\nreplaced = { a = "stimulus" }\n',
+            '"x": {"flags": ["a"], "texts": ["game"], "added": {"a": "circuit"}, "replaced": {"a": "stimulus"}}\n',
             usages.written(flag + row % "A_FLAG"),
         )
         for code in (flag, row % "", flag + row % "B_FLAG", flag + row % "" + 'Usage { name: "y", line: Line::Y }'):

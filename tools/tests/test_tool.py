@@ -159,6 +159,13 @@ class Commands(OnFiles):
             self.assertIn(line, done.stdout)
 
     @unittest.skipUnless(shutil.which("vcd2fst") and shutil.which("fst2vcd"), "no reader of VCD files is installed")
+    def test_names_in_latin_1_are_written_in_utf_8(self):
+        circuit = CIRCUIT.replace(b"push", b"dr\xfcck\x7fen").replace(b"dark", "dunkel\u00e9".encode())
+        names = self.tool("wave", self.file("odd.aag", circuit), self.file("s", b"1\n")).stdout.decode("utf-8")
+        self.assertIn("$var wire 1 \" dr\u00fcck_en $end\n", names)
+        self.assertIn("dunkel\u00e9 $end\n", names)
+        self.assertIn("dr\u00fcck", self.tool("show", "odd.aag").stdout.decode("utf-8"))
+
     def test_a_wave_is_read_by_a_wave_viewers_reader(self):
         done = self.tool("wave", self.file("circuit", CIRCUIT), "-", given=b"1\n1\n0\n")
         wave, packed = self.file("wave.vcd", done.stdout), os.path.join(self.room, "wave.fst")
@@ -263,6 +270,16 @@ class Refusals(OnFiles):
         game = self.file("game", b"0 0 0 0;\n%%\n")
         self.assertIn(b"game:2: a line %%", self.tool("closed", game, self.file("certificate", CERTIFICATE)).stderr)
 
+    def test_standard_input_that_is_a_folder(self):
+        done = subprocess.run(["bash", "-c", '"$0" synth - < /', TOOL], capture_output=True, check=False)
+        self.assertEqual((done.stderr, done.returncode), (b"psyn: standard input: Is a directory\n", 2))
+
+    def test_a_device_is_no_beginning_of_names(self):
+        self.file("automaton", AUTOMATON)
+        done = self.tool("synth", "-o", "/dev/full", "automaton")
+        self.assertEqual((done.stderr, done.returncode), (b"psyn: -o PREFIX: /dev/full is no plain file\n", 2))
+        self.assertFalse(os.path.exists("/dev/full.aag"))
+
     def test_a_program_that_is_not_there(self):
         done = self.tool(
             "sim", self.file("circuit", CIRCUIT), "-", environment={"PSYN": os.path.join(self.room, "none")}
@@ -310,15 +327,31 @@ class Help(OnFiles):
     def test_each_command_and_each_flag_is_told_without_the_program(self):
         pages = {words: self.asked(*words) for words in ((), ("help",), ("--help",), ("-h",))}
         self.assertEqual(len(set(pages.values())), 1)
+        whole = self.asked("help", "all")
         for name, command in COMMANDS.items():
-            self.assertIn(f"\n  {command.usage}\n", pages[()])
+            self.assertRegex(pages[()], rf"\n  ([a-z]+ )*{name} ")
+            self.assertRegex(whole, rf"\n  {name}\b")
             told = {self.asked(name, "--help"), self.asked("help", name), self.asked("--help", name)}
             self.assertEqual(len(told), 1)
             (page,) = told
-            self.assertTrue(page.startswith(command.usage))
-            self.assertEqual([flag.name for flag in command.all_flags if f"  {flag.shown} " not in page], [])
+            self.assertTrue(page.startswith(name))
+            self.assertEqual([flag.name for flag in command.all_flags if f"\n  {flag.shown} " not in page], [])
         flags = {flag for command in COMMANDS.values() for flag in (*command.all_flags, *EVERYWHERE)}
-        self.assertEqual([flag.name for flag in flags if f"\n  {flag.shown} " not in pages[()]], [])
+        self.assertEqual([flag.name for flag in flags if f"\n  {flag.shown}" not in whole], [])
+
+    def test_it_is_one_screen_and_fits_the_terminal(self):
+        lines = self.asked("help").splitlines()
+        self.assertLessEqual((len(lines), max(map(len, lines))), (24, 80))
+        for words in (("help",), ("synth", "-h"), ("help", "all")):
+            for width in (70, 100):
+                done = self.tool(*words, environment={"COLUMNS": str(width)})
+                long = [line for line in done.stdout.decode().splitlines() if len(line) > width]
+                self.assertEqual([line for line in long if not line.startswith("  tools/psyn ")], [], words)
+
+    def test_of_synth_a_specification_comes_first(self):
+        wanted = ["SPECIFICATION", "AUTOMATON [CERTIFICATE]", "--parts LIST"]
+        lines = self.asked("synth", "-h").splitlines()
+        self.assertEqual(lines[:3], [f"synth [FLAGS] {those}" for those in wanted])
 
     def test_the_version(self):
         self.assertEqual({self.asked("--version"), self.asked("-V"), self.asked("version")}, {self.asked("version")})

@@ -14,7 +14,7 @@ from upkeep import completions
 
 DOCUMENTS = "docs/*.md docs/psyn.1 docs/pictures/* README.md VERSION"
 TOOLS = (
-    "tools/psyn tools/install tools/check_certificate.py tools/psyntool/**/*.py tools/psyntool/*.toml "
+    "tools/psyn tools/install tools/check_certificate.py tools/psyntool/**/*.py tools/psyntool/*.json "
     "tools/psyntool/pages/*"
 )
 EXAMPLES = "examples/files/* examples/parts/* examples/gallery/**/*"

@@ -32,7 +32,7 @@ def told(texts, word, is_satisfying):
     if len(rows) > tracing.LONGEST:
         return [f"the word has {len(rows)} letters, and is not shown"]
     names = specification.names(texts[0].string)
-    letters = [{name for name, digit in zip(names, row, strict=True) if digit == "1"} for row in rows]
+    letters = [{name for name, digit in zip(names, row) if digit == "1"} for row in rows]
     broken = violations.of_word(texts[0], letters, stem, is_satisfying)
     return [
         *tracing.run_of(automaton.read(texts[1].string), names, letters, stem),

@@ -4,7 +4,7 @@ from psyntool.command import REACH
 from psyntool.ends import Refused
 from psyntool.kinds import Kind
 from psyntool.pictures import automata, circuits, games
-from psyntool.texts import automaton, certificate, circuit, game, report, solution
+from psyntool.texts import automaton, certificate, circuit, game, in_unicode, report, solution
 
 READERS = {
     Kind.GAME: game.read,
@@ -55,7 +55,7 @@ def run(request):
     if twice:
         raise Refused(f"there is {twice.with_article} twice; {WANTED}")
     found = {kind: READERS[kind](text) for kind, text in parts}
-    console.write_text(drawn(found, request.number(REACH)))
+    console.write_text(in_unicode(drawn(found, request.number(REACH))))
     return 0
 
 

@@ -1,5 +1,7 @@
 """The pictures of a page: as `show` draws them or, if there are many vertices or edges, the graph itself, of which the
 page draws what is around a vertex. Each part of a specification has a small picture of its own."""
+from __future__ import annotations
+
 import re
 import subprocess
 from dataclasses import dataclass

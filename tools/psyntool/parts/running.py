@@ -1,4 +1,6 @@
 """Runs of a specification's parts on the letters of a play or of a trace, and what became of each part."""
+from __future__ import annotations
+
 from dataclasses import dataclass
 
 

@@ -1,4 +1,6 @@
 """Specifications in parts, read from a command line, from a list, or from a composed automaton."""
+from __future__ import annotations
+
 import dataclasses
 import os
 import re

@@ -1,4 +1,6 @@
 """Pictures of parity games, with winning regions and, for the game of an automaton, the automaton's names."""
+from __future__ import annotations
+
 import html
 from dataclasses import dataclass
 

@@ -4,6 +4,8 @@ circuit, and the user's choices at each vertex.
 The circuit moves for the winning player, and the user for the losing player. The user's letters are the circuit's
 inputs.
 """
+from __future__ import annotations
+
 from dataclasses import dataclass, replace
 from functools import cached_property
 

@@ -1,5 +1,7 @@
 """Certificates of parity games: the winner of each vertex, the winners' moves, and counts that prove them right
 (docs/CERTIFICATES.md)."""
+from __future__ import annotations
+
 import re
 from dataclasses import dataclass
 
@@ -46,10 +48,12 @@ def entry_of(words, opposing, is_compact):
     """A vertex's entry, from the words after the vertex's id."""
     winner, move = int(words[0]), None if words[1] == "-" else int(words[1])
     losing = opposing[winner]
+    if not is_compact and len(words) - 2 != len(losing):
+        raise ValueError
     if is_compact:
         counts = dict(tuple(map(int, word.split(":"))) for word in words[2:])
     else:
-        counts = {priority: count for priority, count in zip(losing, map(int, words[2:]), strict=True) if count}
+        counts = {priority: count for priority, count in zip(losing, map(int, words[2:])) if count}
     return Entry(winner, move, counts)
 
 

@@ -1,4 +1,6 @@
 """Parity games, parsed from texts in PGSolver's format."""
+from __future__ import annotations
+
 import re
 from dataclasses import dataclass
 from functools import cached_property

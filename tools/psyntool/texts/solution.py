@@ -1,4 +1,6 @@
 """Solutions of games in the format `paritysol`, which PGSolver and Oink write."""
+from __future__ import annotations
+
 import re
 from dataclasses import dataclass
 

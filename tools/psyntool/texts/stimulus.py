@@ -1,4 +1,6 @@
 """Stimuli: a text with a line for each letter and, for a lasso, a line `-` between the stem and the lap."""
+from __future__ import annotations
+
 from dataclasses import dataclass
 
 from psyntool.texts import Unreadable

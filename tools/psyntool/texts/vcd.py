@@ -1,7 +1,7 @@
 """A VCD file of what `sim` printed, with the circuit's names, for a wave viewer."""
 import re
 
-from psyntool.texts import Unreadable
+from psyntool.texts import Unreadable, in_unicode
 
 SCOPES = (("latches", "l"), ("inputs", "i"), ("outputs", "o"))
 
@@ -17,9 +17,9 @@ def code_of(number):
 
 
 def plain(name):
-    """A name in the form that VCD allows: without blanks, and without `$` at its beginning, which marks VCD's
-    keywords."""
-    return re.sub(r"\s|^\$", "_", name)
+    """A name in the form that VCD allows: without blanks and signs that are not printed, and without `$` at its
+    beginning, which marks VCD's keywords."""
+    return re.sub(r"[\s\x00-\x1f\x7f-\x9f]|^\$", "_", in_unicode(name))
 
 
 def declarations(scopes):

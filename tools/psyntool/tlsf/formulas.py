@@ -23,7 +23,7 @@ class TooLarge(Wrong):
     """A formula that is larger, written out, than psyn reads."""
 
 
-@dataclass(frozen=True, slots=True, eq=False)
+@dataclass(frozen=True, eq=False)
 class Formula:
     """A formula: its operator and operands, or its name (whose operator is empty); the number of its operators and
     operands, the depth to which its parentheses and operators nest, and the number of its bytes.

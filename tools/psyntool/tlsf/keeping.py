@@ -1,4 +1,6 @@
 """Which sentences of a specification a lasso violates, and the steps that break them."""
+from __future__ import annotations
+
 from dataclasses import dataclass
 
 from psyntool.tlsf.expanding import Basic, Sentence

@@ -137,8 +137,7 @@ class Names:
 
 def parts_of(it):
     """The expressions that an expression consists of."""
-    for name in it.__slots__:
-        value = getattr(it, name)
+    for value in vars(it).values():
         yield from (one for one in (value if isinstance(value, tuple) else (value,)) if hasattr(one, "at"))
 
 

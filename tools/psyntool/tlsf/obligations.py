@@ -28,7 +28,7 @@ def limited():
         raise TooLong from None
 
 
-@dataclass(frozen=True, slots=True, eq=False)
+@dataclass(frozen=True, eq=False)
 class Obligation:
     """An obligation: its operator (`true`, `false`, `name`, `not`, `&&`, `||`, `X`, `U`, `R`), its operands, its number
     in the order in which obligations were made, and whether it has `X`, `U` or `R`. The operand of a name, or of a name

@@ -1,15 +1,17 @@
 """Expressions and declarations of a specification as trees. Each has the offset `at` of its first byte, or of its
 operator."""
+from __future__ import annotations
+
 from dataclasses import dataclass, field
 
 
-@dataclass(frozen=True, slots=True)
+@dataclass(frozen=True)
 class Number:
     at: int
     value: int
 
 
-@dataclass(frozen=True, slots=True)
+@dataclass(frozen=True)
 class Truth:
     """`true` or `false`."""
 
@@ -17,13 +19,13 @@ class Truth:
     value: bool
 
 
-@dataclass(frozen=True, slots=True)
+@dataclass(frozen=True)
 class Name:
     at: int
     text: str
 
 
-@dataclass(frozen=True, slots=True)
+@dataclass(frozen=True)
 class Member:
     """A signal of a bus, `bus[index]`."""
 
@@ -32,7 +34,7 @@ class Member:
     index: object
 
 
-@dataclass(frozen=True, slots=True)
+@dataclass(frozen=True)
 class Call:
     """`name(..)`, where the name is one of a definition, or a word of sentences such as `onehot`."""
 
@@ -41,7 +43,7 @@ class Call:
     arguments: tuple
 
 
-@dataclass(frozen=True, slots=True)
+@dataclass(frozen=True)
 class Listed:
     """A set by its elements, `{a, b}`."""
 
@@ -49,7 +51,7 @@ class Listed:
     elements: tuple
 
 
-@dataclass(frozen=True, slots=True)
+@dataclass(frozen=True)
 class Range:
     """A set of numbers, `{first, second .. last}`."""
 
@@ -59,7 +61,7 @@ class Range:
     last: object
 
 
-@dataclass(frozen=True, slots=True)
+@dataclass(frozen=True)
 class Prefix:
     """An operator before its only operand: `!`, `X`, `F`, `G`, `MIN`, `MAX`, `SIZE`, `SIZEOF`."""
 
@@ -68,7 +70,7 @@ class Prefix:
     operand: object
 
 
-@dataclass(frozen=True, slots=True)
+@dataclass(frozen=True)
 class Bounded:
     """`X[low] f` (where `high` is None), `F[low:high] f` or `G[low:high] f`."""
 
@@ -79,7 +81,7 @@ class Bounded:
     operand: object
 
 
-@dataclass(frozen=True, slots=True)
+@dataclass(frozen=True)
 class Within:
     """`within n f`, or `within n f unless end`."""
 
@@ -89,7 +91,7 @@ class Within:
     end: object = None
 
 
-@dataclass(frozen=True, slots=True)
+@dataclass(frozen=True)
 class Repeated:
     """`f[*n]`."""
 
@@ -98,7 +100,7 @@ class Repeated:
     operand: object
 
 
-@dataclass(frozen=True, slots=True)
+@dataclass(frozen=True)
 class Choice:
     """`i IN set`, in the brackets of an operator over sets."""
 
@@ -107,7 +109,7 @@ class Choice:
     elements: object
 
 
-@dataclass(frozen=True, slots=True)
+@dataclass(frozen=True)
 class Between:
     """`low <= i < high`, in the brackets of an operator over sets."""
 
@@ -119,7 +121,7 @@ class Between:
     high: object
 
 
-@dataclass(frozen=True, slots=True)
+@dataclass(frozen=True)
 class Big:
     """An operator over sets: `&&[i IN set, ..] body`; its sign is that of the operator with two operands."""
 
@@ -129,7 +131,7 @@ class Big:
     body: object
 
 
-@dataclass(frozen=True, slots=True)
+@dataclass(frozen=True)
 class Chain:
     """Operands with operators of one precedence between them. `places` has the operators' offsets."""
 
@@ -140,7 +142,7 @@ class Chain:
     is_right: bool
 
 
-@dataclass(frozen=True, slots=True)
+@dataclass(frozen=True)
 class Match:
     """A guard `subject ~ pattern`."""
 
@@ -149,7 +151,7 @@ class Match:
     pattern: object
 
 
-@dataclass(frozen=True, slots=True)
+@dataclass(frozen=True)
 class Clause:
     """A case of a definition: its guard, a `Match`, `None` if the case always holds; and its value."""
 
@@ -157,7 +159,7 @@ class Clause:
     value: object
 
 
-@dataclass(frozen=True, slots=True)
+@dataclass(frozen=True)
 class Definition:
     """A parameter, a constant or a function; `arguments` is None if the name is used without parentheses."""
 
@@ -167,7 +169,7 @@ class Definition:
     clauses: tuple
 
 
-@dataclass(frozen=True, slots=True)
+@dataclass(frozen=True)
 class EnumValue:
     """A value of an enumeration: the bits by which a bus has it, as strings of `0`, `1` and `*`."""
 
@@ -176,14 +178,14 @@ class EnumValue:
     patterns: tuple
 
 
-@dataclass(frozen=True, slots=True)
+@dataclass(frozen=True)
 class Enumeration:
     at: int
     name: str
     values: tuple
 
 
-@dataclass(frozen=True, slots=True)
+@dataclass(frozen=True)
 class Signal:
     """A declared signal; a bus has a width, and a bus of an enumeration the enumeration's name."""
 
@@ -193,7 +195,7 @@ class Signal:
     enumeration: Name | None = None
 
 
-@dataclass(frozen=True, slots=True)
+@dataclass(frozen=True)
 class Section:
     """A section of formulas, by its word in the basic form; each formula with the offsets of its begin and its end."""
 

@@ -28,7 +28,7 @@ class Bits:
         return len(self.patterns[0])
 
 
-@dataclass(frozen=True, slots=True, eq=False)
+@dataclass(frozen=True, eq=False)
 class Elements:
     """A set: its elements, and a number that it shares with the sets of the same elements alone."""
 
