@@ -5,12 +5,14 @@ import random
 import unittest
 import unittest.mock
 
+from psyntool.command import Request
 from psyntool.ends import Refused
-from psyntool.parts import part, specification
+from psyntool.parts import composing, part, specification
 from psyntool.parts.composing import Composer
 from psyntool.parts.diagrams import Diagrams
 from psyntool.parts.specification import Specification
 from psyntool.program import path as program
+from psyntool.table import COMMANDS
 from psyntool.texts import Unreadable, automaton, hoa, labels
 from tests.tool import AUTOMATON, OnFiles
 from upkeep import rows, sweeps
@@ -294,6 +296,17 @@ class Composed(OnFiles):
             self.composed(*words, "--strict").endswith('--BODY--\nState: 0 "a guarantee has broken"\n--END--\n')
         )
         self.assertIn('[0] 0 {0}\nState: 1 "an assumption has broken"\n', self.composed(*words))
+
+    def test_a_text_that_gets_too_long_while_it_is_made(self):
+        pairs = [(one, other) for other in range(8) for one in range(other)]
+        lines = ["--outs " + " ".join(f"g{client}" for client in range(8))]
+        lines += [f"--guarantee {PARTS}/never-together.hoa --as one=g{one} other=g{other}" for one, other in pairs]
+        lines += [f"--guarantee {PARTS}/answered.hoa --as request=r{client} answer=g{client}" for client in range(8)]
+        asked = Request(COMMANDS["compose"], {}, [self.file("it.parts", "\n".join(lines).encode())], COMMANDS)
+        composer = Composer(specification.asked(asked))
+        said = "a text of more than 100,000 bytes, and psyn reads no more"
+        with unittest.mock.patch.object(composing, "MOST_BYTES", 100_000), self.assertRaisesRegex(Refused, said):
+            composer.composed()
 
     def test_more_states_than_the_program_reads(self):
         ring = "".join(f"State: {state} [t] {(state + 1) % count}\n" for count in (41,) for state in range(count))
