@@ -3,6 +3,7 @@ import os
 import shutil
 import subprocess
 import unittest
+import unittest.mock
 
 from psyntool import families
 from psyntool.ends import Refused
@@ -19,13 +20,17 @@ def made_of(dot):
 
 
 class Automata(unittest.TestCase):
-    def test_more_edges_than_a_picture_can_show_are_refused(self):
+    def test_many_edges_are_joined_and_more_are_refused(self):
         states = "".join(
             f"State: {state} " + " ".join(f"[t] {target}" for target in range(26)) + " " for state in range(26)
         )
         read = automaton.read(f"HOA: v1 Start: 0 AP: 0 Acceptance: 0 t --BODY-- {states} --END--")
-        with self.assertRaisesRegex(
-            Refused, "26 vertices and 676 edges, and a picture of more than 600 edges can't be read: --reach 0 draws"
+        dot = made_of(automata.picture(read))
+        self.assertEqual((dot.count(" -> "), dot.count("dir=both")), (1 + 26 + 325, 325))
+        self.assertIn("a line stands for all edges of two states", dot)
+        self.assertIn("  s3 -> s3;\n  s3 -> s4 [dir=both];", dot)
+        with unittest.mock.patch.object(automata, "MOST_JOINED", 675), self.assertRaisesRegex(
+            Refused, "26 vertices and 676 edges, and a picture of more than 675 edges can't be read: --reach 0 draws"
         ):
             automata.picture(read)
         self.assertEqual(made_of(automata.picture(read, 0)).count("  s"), 1)
