@@ -749,6 +749,34 @@ class Commands(OnFiles):
             expanding.expanded(text.replace("F OR", "F[0:1] OR"), {})
         self.assertEqual(str(caught.exception), "`IN` is a word of TLSF, and can't be the name of a signal")
 
+    def test_sentences_are_shown_as_they_were_typed(self):
+        clients = "&&[0 <= i < n] G (req[i] -> {})"
+        for typed, said in (
+            ("G (req[1]   ->\n within 8 gnt[1])", ["G (req[1] -> within 8 gnt[1])"]),
+            (clients.format("within 8 gnt[i]"), ["G (req_0 -> within 8 gnt_0)", "G (req_1 -> within 8 gnt_1)"]),
+            (
+                clients.format("X[2] (within 3 gnt[i] unless (stop && gnt[0]))"),
+                [f"G (req_{i} -> X[2] (within 3 gnt_{i} unless (stop && gnt_0)))" for i in range(2)],
+            ),
+            (clients.format("(!gnt[i])[*4]"), [f"G (req_{i} -> (!gnt_{i})[*4])" for i in range(2)]),
+            (clients.format("F[1:2] rises(gnt[i])"), [f"G (req_{i} -> F[1:2] rises(gnt_{i}))" for i in range(2)]),
+            (clients.format("onehot(gnt)"), [f"G (req_{i} -> onehot(gnt_0, gnt_1))" for i in range(2)]),
+            (clients.format("X gnt[i]") + " && stop", ["G (req_0 -> X gnt_0)", "G (req_1 -> X gnt_1)", "stop"]),
+        ):
+            text = specification(["req[n]", "stop"], ["gnt[n]"], [("GUARANTEE", [typed])])
+            text = text.replace("MAIN", "GLOBAL { PARAMETERS { n = 2; } } MAIN")
+            with self.subTest(typed):
+                self.assertEqual([one.said for one in expanding.basic(text, {}).sentences], said)
+                # what is shown is read again, with the same meaning
+                shown = specification(["req_0", "req_1", "stop"], ["gnt_0", "gnt_1"], [("GUARANTEE", said)])
+                if "[1]" not in typed:
+                    self.assertEqual(
+                        guarantees(expanding.expanded(shown, {})), guarantees(expanding.expanded(text, {}))
+                    )
+        self.file("s.tlsf", text.replace(typed, clients.format("within 2 gnt[i]") + "; G !(gnt[0] || gnt[1])").encode())
+        done = self.tool("core", "s.tlsf").stdout.decode()
+        self.assertRegex(done, r"  line 1  G \(req_[01] -> within 2 gnt_[01]\)\n")
+
     def test_a_name_that_hides_a_word_is_told(self):
         for name, formula, said in (
             ("at", "G at most one of (a, b)", "this is `most`; `at`"),

@@ -181,7 +181,9 @@ class Evaluator:
         low = self.step(it.low, scope)
         high = low if it.high is None else self.step(it.high, scope)
         part = self.formula(it.operand, scope)
-        return self.formulas.between(it.at, "&&" if it.sign == "G" else "||", low, high, part)
+        made = self.formulas.between(it.at, "&&" if it.sign == "G" else "||", low, high, part)
+        steps = str(low) if it.high is None else f"{low}:{high}"
+        return self.formulas.say(made, True, f"{it.sign}[{steps}] ", *self.formulas.closed(part))
 
     def step(self, it, scope: dict) -> int:
         """A number of steps, which is not negative."""
@@ -192,15 +194,20 @@ class Evaluator:
 
     def within(self, it, scope: dict):
         count, part = self.step(it.count, scope), self.formula(it.operand, scope)
+        words, ends = [f"within {count} ", *self.formulas.closed(part)], part
         if it.end is not None:
-            part = self.formulas.joined(it.at, "||", (part, self.formula(it.end, scope)))
-        return self.formulas.between(it.at, "||", 0, count, part)
+            end = self.formula(it.end, scope)
+            words += [" unless ", *self.formulas.closed(end)]
+            ends = self.formulas.joined(it.at, "||", (part, end))
+        return self.formulas.say(self.formulas.between(it.at, "||", 0, count, ends), it.end is None, *words)
 
     def repeated(self, it, scope: dict):
         count, part = self.step(it.count, scope), self.formula(it.operand, scope)
         if not count:
             raise Wrong(it.count.at, "`[*n]` is of at least one step")
-        return self.formulas.between(it.at, "&&", 0, count - 1, part)
+        made = self.formulas.between(it.at, "&&", 0, count - 1, part)
+        words = self.formulas.closed(part) if not isinstance(part, Formula) or not part.sign else ("(", part, ")")
+        return self.formulas.say(made, False, *words, f"[*{count}]")
 
     def big(self, it, scope: dict):
         scopes = self.scopes(it.choices, scope)

@@ -32,8 +32,8 @@ class Unset(Exception):
 @dataclass(frozen=True)
 class Sentence:
     """A sentence: the word of its section, its formula in the basic form, the line of the text on which the formula
-    begins for which it is written (0 if there is none), and that formula as the text has it, if no other sentence is
-    written for it."""
+    begins for which it is written (0 if there is none), and that formula as it was typed or, if several sentences are
+    written for it, this one with the words in which it was typed."""
 
     word: str
     formula: object
@@ -193,8 +193,9 @@ def sentences(text: str, specification: Specification, definitions: Definitions,
                 "the most that psyn reads",
             )
         parts, row = sentences_of(formula), bisect.bisect_right(starts, at)
-        source = shown(text[at:stop]) if len(parts) == 1 and not late else ""
-        found += [Sentence(word, one, row, source) for one in parts]
+        typed = shown(text[at:stop]) if len(parts) == 1 and not late else ""
+        spoken = definitions.evaluator.formulas.spoken
+        found += [Sentence(word, one, row, typed or text_of(one, spoken, MOST_SHOWN)) for one in parts]
     return found
 
 

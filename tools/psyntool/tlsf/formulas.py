@@ -53,6 +53,8 @@ class Formulas:
         self.made = {}
         self.steps = 0
         self.are_short = are_short
+        # formulas that were said in words: whether they need no parentheses, and the texts and formulas of the words
+        self.spoken = {}
 
     def spend(self, at: int, steps: int):
         self.steps += steps
@@ -62,6 +64,17 @@ class Formulas:
                 f"writing this specification out takes more than {MOST_STEPS:,} steps: "
                 "choose smaller parameters or sets",
             )
+
+    def say(self, made, is_closed: bool, *pieces):
+        """Notes the words by which a formula was said: texts, and formulas that are operands in them."""
+        if isinstance(made, Formula) and made.sign and not any(isinstance(piece, bool) for piece in pieces):
+            self.spoken.setdefault(made, (is_closed, pieces))
+        return made
+
+    def closed(self, part) -> tuple:
+        """An operand of words, in parentheses where it needs them."""
+        is_closed = not isinstance(part, Formula) or self.spoken.get(part, (not part.is_between,))[0]
+        return (part,) if is_closed else ("(", part, ")")
 
     def name(self, text: str) -> Formula:
         return self.kept("", (text,), 1, 0, len(text))
@@ -170,28 +183,38 @@ def needs_parentheses(sign: str, part: Formula, is_last: bool) -> bool:
     return part.sign not in BARE.get(sign, ()) and not (sign == part.sign == "->" and is_last)
 
 
-def text_of(formula) -> str:
-    """The text of a formula in the basic form. Long chains of operators need no recursion."""
+def text_of(formula, spoken=None, most: int = 0) -> str:
+    """The text of a formula in the basic form, or with the words by which parts of it were said; empty if it has more
+    than so many signs. Long chains of operators need no recursion."""
     if isinstance(formula, bool):
         return "true" if formula else "false"
-    texts, waiting = [], [formula]
+    texts, waiting, length = [], [formula], 0
     while waiting:
         part = waiting.pop()
         if isinstance(part, str):
             texts.append(part)
+            length += len(part)
+            if most and length > most:
+                return ""
+        elif spoken and part in spoken:
+            waiting += reversed(spoken[part][1])
         elif not part.sign:
             texts.append(part.operands[0])
         else:
-            waiting += reversed(pieces(part))
+            waiting += reversed(pieces(part, spoken or {}))
     return "".join(texts)
 
 
-def pieces(formula: Formula) -> list:
+def pieces(formula: Formula, spoken: dict) -> list:
     """A formula's text as strings and operands."""
     found, last = [], len(formula.operands) - 1
     for place, part in enumerate(formula.operands):
         found += [written(formula.sign)] if place or formula.sign in BEFORE else []
-        found += ["(", part, ")"] if needs_parentheses(formula.sign, part, place == last) else [part]
+        if part in spoken:
+            is_apart = formula.sign in (*BEFORE, *BESIDE) and not spoken[part][0]
+        else:
+            is_apart = needs_parentheses(formula.sign, part, place == last)
+        found += ["(", part, ")"] if is_apart else [part]
     return found
 
 

@@ -66,7 +66,9 @@ def called(formulas: Formulas, it, values: list):
             f"and this is of {len(those) or 'none'}",
         )
     formulas.spend(it.at, len(those))
-    return function(formulas, it.at, those)
+    words = [piece for one in those for piece in (", ", one)][1:]
+    name = it.name if it.name != AT_MOST_ONE else f"{AT_MOST_ONE} "
+    return formulas.say(function(formulas, it.at, those), True, f"{name}(", *words, ")")
 
 
 def has_bits(formulas: Formulas, at: int, bus: Bus, bits: Bits):
