@@ -72,7 +72,7 @@ def words_of(made):
 def failing(composer, passed):
     """If a controller can make the assumptions of a specification fail: lines with the assumptions that it can make
     fail, as few as possible, and with a play in which the environment keeps them as long as it can."""
-    from psyntool.parts import cores
+    from psyntool import cores
 
     of, flags = composer.specification, [name for name in passed if name == MOORE.name]
 
@@ -94,26 +94,23 @@ def example(composer, flags, parts):
     """A play against a controller that makes the assumptions fail."""
     from psyntool.parts import running
     from psyntool.plays import board, reading, telling
+    from psyntool.plays.play import Play
     from psyntool.texts import report
 
     answer = asked("synth --full", flags, composer, parts)
     printed = report.read(answer.bytes.decode("utf-8", "surrogateescape")).parts
-    play = board.Play(
-        reading.board_of(text_of(composer, parts), *printed), printed[0].encode("utf-8", "surrogateescape")
-    )
-    play.hold_out()
-    broken = [
-        found.broke
-        for found in (running.run(moves, play.letters) for moves in play.board.assumed)
-        if found.broke is not None
-    ]
+    made = reading.board_of(text_of(composer, parts), *printed)
+    play = Play(board.Match(made, printed[0].encode("utf-8", "surrogateescape")))
+    play.hold_out(board.LONGEST)
+    runs = [running.run(moves, board.letters_of(play)) for moves in made.assumed]
+    broken = [found.broke for found in runs if found.broke is not None]
     if broken:
         play.end_behind(min(broken))
     rows = telling.table(play) if len(play.steps) <= MOST_STEPS else [f"after {len(play.steps)} steps:"]
     return [
         "so it can play:",
         *rows,
-        *(line for moves in play.board.assumed for line in telling.of_part(play, "assumption", moves)),
+        *(line for moves in made.assumed for line in telling.of_part(play, "assumption", moves)),
     ]
 
 

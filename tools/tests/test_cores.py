@@ -3,7 +3,8 @@ import os
 import random
 import unittest
 
-from psyntool.parts import cores, part
+from psyntool import cores
+from psyntool.parts import part
 from psyntool.parts.composing import ASSUMPTIONS_FAIL, Composer
 from psyntool.parts.specification import Specification
 from psyntool.program import path as program
@@ -199,7 +200,7 @@ class Sets(unittest.TestCase):
                 for _ in range(2)
             ]
             whole = Specification(*map(tuple, sides), tuple(names), frozenset(["a"]), draw.random() < 0.3)
-            found = cores.core_of(cores.Asking(whole))
+            found = cores.core_of(cores.of_parts(Composer(whole)))
             texts = [found.specification, *self.with_one_left_out(found)]
             asked += [rows.Row("a core", ("synth\n" + Composer(it).composed().text()).encode(), 0) for it in texts]
             wanted += [found.has_controller] + [not found.has_controller] * (len(texts) - 1)

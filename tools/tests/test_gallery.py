@@ -10,10 +10,10 @@ import time
 import unittest
 import unittest.mock
 
-from psyntool import program
-from psyntool.commands import core
+from psyntool import cores, program
 from psyntool.command import Request
-from psyntool.parts import cores, specification
+from psyntool.commands import core
+from psyntool.parts import specification
 from psyntool.parts.composing import Composer
 from psyntool.table import COMMANDS
 from tests.test_parts import PARTS
@@ -51,7 +51,7 @@ class Lists(unittest.TestCase):
             os.path.basename(path).removesuffix(".parts"): read(path)
             for path in sorted(glob.glob(os.path.join(GALLERY, "*.parts")))
         }
-        cls.asked = {name: cores.Asking(whole) for name, whole in cls.lists.items()}
+        cls.asked = {name: cores.of_parts(Composer(whole)) for name, whole in cls.lists.items()}
 
     def test_each_part_has_a_sentence_and_each_file_is_used(self):
         used = set()
@@ -210,7 +210,7 @@ class Twelve(OnFiles):
         with unittest.mock.patch("psyntool.program.ask", timed):
             whole = read(self.file("twelve.parts", TWELVE.encode()))
             self.assertGreater(len(Composer(whole).composed().names), 100)
-            found = cores.core_of(cores.Asking(whole))
+            found = cores.core_of(cores.of_parts(Composer(whole)))
         self.assertEqual(core.rows(found.parts)[0].split()[0], "at-most-one-step-after(ready,g0)")
         self.assertEqual(len(found.parts), 2)
         self.assertLess(time.monotonic() - began - sum(asked), SECONDS)

@@ -19,7 +19,8 @@ from psyntool.ends import Refused
 from psyntool.pages import clauses, contents, drawing, writing
 from psyntool.parts import part
 from psyntool.plays import opponents, reading, telling
-from psyntool.plays.board import Board, Play
+from psyntool.plays.board import LONGEST, Board, Match
+from psyntool.plays.play import Play
 from psyntool.table import COMMANDS
 from psyntool.texts import circuit, report
 from tests.test_gallery import GALLERY
@@ -111,8 +112,8 @@ class Rules(unittest.TestCase):
                 self.assertEqual(play["steps"], self.simulated(board, printed, play))
                 self.assertRegex(self.verdict(board, text, printed, play), self.wanted(play))
                 kinds[board.winner, board.am_first, play["loop"] is None] = True
-            longest = Play(board, printed.encode())
-            longest.hold_out()
+            longest = Play(Match(board, printed.encode()))
+            longest.hold_out(LONGEST)
             self.assertEqual((these[0]["text"], these[0]["stimulus"]), (shown(longest), longest.stimulus()))
         self.assertEqual(len(kinds), 6)
         counts.ran("pages", "plays by the rules under node", sum(map(len, said)))
@@ -170,8 +171,8 @@ class Rules(unittest.TestCase):
                 self.assertEqual(play["steps"], self.simulated(board, printed, play))
                 self.assertRegex(self.verdict(board, text, printed, play), self.wanted(play))
             if not board.am_first:
-                longest = Play(board, printed.encode())
-                longest.hold_out()
+                longest = Play(Match(board, printed.encode()))
+                longest.hold_out(LONGEST)
                 self.assertEqual((these[0]["text"], these[0]["stimulus"]), (shown(longest), longest.stimulus()))
             kinds.add((board.winner, board.am_first))
         self.assertEqual(len(kinds), 4)

@@ -15,7 +15,8 @@ from psyntool.parts import part
 from psyntool.parts.composing import Composer
 from psyntool.parts.specification import Specification
 from psyntool.plays import opponents, telling
-from psyntool.plays.board import Board, Play
+from psyntool.plays.board import Board, Match
+from psyntool.plays.play import Play
 from psyntool.texts import automaton, certificate, circuit, game, report
 from tests.test_cores import CONFLICT
 from tests.test_parts import PARTS, Table
@@ -242,10 +243,10 @@ class Drawn(unittest.TestCase):
         draw, ends = random.Random(7), {}
         for text, printed, board in boards(draw, 40):
             for is_longest in (True, False):
-                play = Play(board, printed.encode())
-                self.assertEqual([play.aimed(choice) for choice in play.choices()], play.choices())
-                while not play.is_over and play.loop is None:
-                    play.take((play.longest if is_longest else draw.choice)(play.choices()).letter)
+                play = Play(Match(board, printed.encode()))
+                choices = play.board.choices(play)
+                self.assertEqual([play.board.aimed(play.now, choice) for choice in choices], choices)
+                self.played(play, draw, is_longest)
                 command.judged(play, text)
                 told = telling.ended(play)
                 self.look_at(play, told)
@@ -264,21 +265,33 @@ class Drawn(unittest.TestCase):
                 known_by="shrink",
             )
             for is_longest in (True, False):
-                play = Play(small, answer.bytes)
-                while not play.is_over and play.loop is None:
-                    play.take((play.longest if is_longest else draw.choice)(play.choices()).letter)
+                play = Play(Match(small, answer.bytes))
+                self.played(play, draw, is_longest)
                 command.judged(play, text)
                 self.look_at(play, telling.ended(play))
                 ends[small.winner, small.am_first] = ends.get((small.winner, small.am_first), 0) + 1
             self.assertTrue(contents.of(small)["names"])
         self.assertEqual(len(ends), 4)
 
+    def played(self, play, draw, is_longest):
+        while not play.is_over and play.loop is None:
+            choices = play.board.choices(play)
+            play.take((play.board.best(play, choices) if is_longest else draw.choice(choices)).letter)
+        # the latches and the circuit's letters are those that the program finds
+        match, lines = play.board, [step.digits for step in play.steps]
+        given = match.circuit.text + b"%%\n" + "".join(f"{line}\n" for line in lines).encode()
+        said = program.ask(b"sim\n" + given).text.splitlines()
+        for step, row in zip(play.steps, said, strict=True):
+            latches, _, outputs = row.split("|")
+            letter = "".join("01"[step.letter[number]] for number in match.circuit.outputs)
+            self.assertEqual((step.before.latches, letter), (latches, outputs))
+
     def look_at(self, play, told):
         """The lines about violated parts, which `play` prints at the end, agree with the winner. If the environment
         wins, a guarantee fails; if the controller wins, a guarantee fails only if an assumption fails too."""
         broken = [line for line in told[1:] if " the guarantee " in line]
         failed = [line for line in told[1:] if " the assumption " in line]
-        if play.board.winner == 1:
+        if play.board.board.winner == 1:
             self.assertTrue(broken, told)
         elif broken:
             self.assertTrue(failed, told)

@@ -1,9 +1,9 @@
 """`core`: if a specification in parts, or in sentences, has no controller, the guarantees that conflict; otherwise the
 assumptions that a controller needs."""
-from psyntool import console, files, outputs, program, remarks
+from psyntool import console, cores, files, outputs, program, remarks
 from psyntool.command import TLSF, TO_FILE
 from psyntool.kinds import Kind
-from psyntool.parts import cores, specification
+from psyntool.parts import specification
 from psyntool.parts.composing import Composer
 from psyntool.texts import circuit, report
 
@@ -19,15 +19,15 @@ def run(request):
         paths = outputs.own(request, [f"{prefix}.hoa"], TO_FILE.shown, prefix)
     asked = specification.asked(request)
     outputs.refuse_read(request, paths)
-    asking = cores.Asking(asked, request.passed)
-    found = cores.core_of(asking)
+    composer = Composer(asked)
+    found = cores.core_of(cores.of_parts(composer, request.passed))
     if paths:
         outputs.write_all({paths[0]: Composer(found.specification).composed().text()})
     console.write_text("\n".join([WORD[found.has_controller], head(found), *rows(found.parts), ""]))
     if not request.quiet:
         console.tell(
             *(
-                remarks.failing(asking.composer, request.passed)
+                remarks.failing(composer, request.passed)
                 if found.has_controller
                 else defeat(found.specification, request.passed)
             )
@@ -38,7 +38,7 @@ def run(request):
 def run_on_sentences(request):
     """Runs `core` on a specification in temporal logic. With -o, the sentences that are listed go to PREFIX.tlsf."""
     from psyntool import specifying
-    from psyntool.tlsf import cores as of_sentences
+    from psyntool.tlsf.sides import sides_of
     from psyntool.tlsf.tokens import ENCODING
 
     paths, prefix = [], request.value(TO_FILE)
@@ -49,7 +49,7 @@ def run_on_sentences(request):
     answer, status = specifying.first_answer(request, text)
     if answer is None:
         return status
-    asking = of_sentences.Asking(of_sentences.sides_of(text.basic))
+    asking = cores.of_sentences(sides_of(text.basic))
     found = cores.core_of(asking)
     if paths:
         outputs.write_all({paths[0]: found.specification.text().encode(ENCODING)})

@@ -8,9 +8,8 @@ from __future__ import annotations
 
 from dataclasses import dataclass, replace
 from functools import cached_property
+from typing import NamedTuple
 
-from psyntool import program
-from psyntool.ends import Refused, Unwritten
 from psyntool.parts import running
 from psyntool.parts.diagrams import Diagrams
 from psyntool.parts.part import Moves
@@ -47,16 +46,22 @@ class Choice:
     broken: tuple = ()
 
 
+class Position(NamedTuple):
+    """What a play depends on: the automaton's state (None where it had no edge), and the circuit's latches."""
+
+    state: int | None
+    latches: str
+
+
 @dataclass(frozen=True)
 class Step:
-    """A played step: the state and the latches before it, the letters of both players, and the state and the priority
-    after it."""
+    """A played step: the positions before and after it, the letters of both players, the user's letter as a line of a
+    stimulus, and the priority of the edge."""
 
-    state: int
-    latches: str
+    before: Position
+    after: Position
     letter: dict
     digits: str
-    target: int | None
     priority: int
 
 
@@ -282,7 +287,7 @@ def added(some, more):
 
 
 class Circuit:
-    """The circuit of a play, which the program simulates."""
+    """The circuit of a play."""
 
     def __init__(self, board, text):
         self.board = board
@@ -290,6 +295,7 @@ class Circuit:
         self.made = board.circuit.ordered
         numbers = {name: number for number, name in enumerate(board.automaton.names)}
         self.inputs, self.outputs = ([numbers[name] for name in board.circuit.names(kind)] for kind in "io")
+        self.start = "".join(str(latch.reset if latch.reset < 2 else 0) for latch in self.made.latches)
 
     def values(self, latches, letter):
         """The values of the circuit's variables at given latches and at a letter of the user."""
@@ -311,117 +317,69 @@ class Circuit:
         """The user's letter as a line of a stimulus."""
         return "".join("01"[letter[number]] for number in self.inputs)
 
-    def after(self, lines):
-        """The latches before the last of the given input lines, and the circuit's output letter at this line."""
-        answer = program.ask(b"sim\n" + self.text + b"%%\n" + "".join(f"{line}\n" for line in lines).encode())
-        if answer.died or answer.is_fault:
-            raise Unwritten(f"sim of the circuit: {answer.died or answer.text.rstrip()}")
-        latches, _, said = answer.text.rstrip("\n").rsplit("\n", 1)[-1].split("|")
-        return latches, {number: digit == "1" for number, digit in zip(self.outputs, said)}
 
+class Match:
+    """A board with the circuit that a play is against."""
 
-class Play:
-    """An interactive play: the steps that were played, and the present state."""
+    # what follows a play without a loop is its last letter
+    idle = None
 
     def __init__(self, board, text):
         self.board = board
         self.circuit = Circuit(board, text)
-        self.steps = []
-        self.look()
+        self.players = board.me, board.other
+        self.first = Position(board.automaton.start, self.circuit.start)
 
-    @property
-    def state(self):
-        return self.steps[-1].target if self.steps else self.board.automaton.start
+    def is_over(self, position):
+        return position.state is None
 
-    @property
-    def vertex(self):
-        return self.board.places[self.steps[-1].target, self.steps[-1].priority] if self.steps else self.board.begin
+    def is_lost(self, _position):
+        return False
 
-    @property
-    def letters(self):
-        """The letters that were played, each as the set of the true propositions."""
-        return [{number for number, truth in step.letter.items() if truth} for step in self.steps]
+    def moved(self, position, mine):
+        """A step: the user's letter, the circuit's letter, and the automaton's edge for both letters."""
+        letter = {**mine, **self.circuit.answer(position.latches, mine)}
+        edge = self.board.automaton.edge_at(position.state, {number for number, truth in letter.items() if truth})
+        target = None if edge is None else edge.target
+        priority = 1 if edge is None else self.board.automaton.chain.priority(edge.marks)
+        after = Position(target, self.circuit.behind(position.latches, letter))
+        return Step(position, after, letter, self.circuit.digits(mine), priority)
 
-    @property
-    def lines(self):
-        return [step.digits for step in self.steps]
+    def theirs(self, position):
+        """The letter of a circuit that moves first; None if it moves second."""
+        nothing = {number: False for number, _ in self.board.mine}
+        return None if self.board.am_first else self.circuit.answer(position.latches, nothing)
 
-    def look(self):
-        """Brings the latches, the circuit's letter (if the circuit moves first) and the loop of the play up to date
-        after a step."""
-        nothing = self.circuit.digits({number: False for number, _ in self.board.mine})
-        self.latches, said = self.circuit.after([*self.lines, nothing])
-        self.theirs = None if self.board.am_first else said
-        self.loop = next(
-            (
-                place
-                for place, step in enumerate(self.steps)
-                if (step.state, step.latches) == (self.state, self.latches)
-            ),
-            None,
-        )
+    def vertex(self, play):
+        if not play.steps:
+            return self.board.begin
+        return self.board.places[play.now.state, play.steps[-1].priority]
 
-    @property
-    def is_over(self):
-        """Whether no step can follow. A play with a loop may end, or go on."""
-        return bool(self.steps) and self.state is None
+    def guarantees(self, play):
+        """The present states of the guarantees."""
+        return [running.run(moves, letters_of(play)).state for moves in self.board.guaranteed]
 
-    def aimed(self, choice):
+    def choices(self, play):
+        return self.board.choices(self.vertex(play), self.theirs(play.now), self.guarantees(play))
+
+    def aimed(self, position, choice):
         """The choice with the place to which it leads against this circuit, which need not be the one that was printed
         with the game."""
         if not self.board.am_first:
             return choice
-        theirs = self.circuit.answer(self.latches, choice.letter)
+        theirs = self.circuit.answer(position.latches, choice.letter)
         true = {number for number, truth in {**theirs, **choice.letter}.items() if truth}
-        target, priority = self.board.diagrams.at(self.board.ends(self.state), true)
+        target, priority = self.board.diagrams.at(self.board.ends(position.state), true)
         return replace(choice, target=target, priority=priority)
 
-    def choices(self):
-        return self.board.choices(self.vertex, self.theirs, self.guarantees)
+    def best(self, play, choices):
+        """The choice that should delay the user's loss longest (`Board.longest`)."""
+        return self.board.longest(choices, self.theirs(play.now), self.guarantees(play))
 
-    @property
-    def guarantees(self):
-        """The present states of the guarantees."""
-        return [running.run(moves, self.letters).state for moves in self.board.guaranteed]
+    def longest(self, play):
+        return self.best(play, self.choices(play)).letter
 
-    def longest(self, choices):
-        return self.board.longest(choices, self.theirs, self.guarantees)
 
-    def take(self, mine):
-        """Plays a step: the user's letter, the circuit's letter, and the automaton's edge for both letters."""
-        digits = self.circuit.digits(mine)
-        theirs = self.theirs or self.circuit.after([*self.lines, digits])[1]
-        letter = {**mine, **theirs}
-        edge = self.board.automaton.edge_at(self.state, {number for number, truth in letter.items() if truth})
-        target = None if edge is None else edge.target
-        priority = 1 if edge is None else self.board.automaton.chain.priority(edge.marks)
-        self.steps.append(Step(self.state, self.latches, letter, digits, target, priority))
-        if target is not None:
-            self.look()
-
-    def hold_out(self):
-        """Plays for the user until there is a loop or no edge. Each step takes the choice that should delay the user's
-        loss longest (`Board.longest`)."""
-        while not self.is_over and self.loop is None:
-            if len(self.steps) == LONGEST:
-                raise Refused(f"the play has {LONGEST:,} steps and no end")
-            self.take(self.longest(self.choices()).letter)
-        return True
-
-    def back(self):
-        """Undoes the last step."""
-        if self.steps:
-            self.steps.pop()
-            self.look()
-
-    def end_behind(self, last):
-        """Leaves out what was played behind a step, and the loop."""
-        self.steps = self.steps[: last + 1]
-        self.loop = None
-
-    def stimulus(self):
-        """The user's letters as a lasso stimulus, whose lap (repeated part) is the loop of the play or, without a loop,
-        the last letter."""
-        lines = self.lines
-        lap = len(lines) - 1 if self.loop is None else self.loop
-        return "".join(f"{line}\n" for line in [*lines[:lap], "-", *lines[lap:]])
+def letters_of(play):
+    """The letters that were played, each as the set of the true propositions."""
+    return [{number for number, truth in step.letter.items() if truth} for step in play.steps]

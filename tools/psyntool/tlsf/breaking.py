@@ -8,14 +8,15 @@ suffice.
 import itertools
 from dataclasses import dataclass, replace
 
+from psyntool.cores import shrunk
 from psyntool.ends import Refused
 from psyntool.parts import spoken
-from psyntool.parts.cores import shrunk
+from psyntool.plays.play import Play
 from psyntool.texts import Unreadable
 from psyntool.tlsf import keeping
 from psyntool.tlsf.expanding import Basic
 from psyntool.tlsf.obligations import Obligations, TooLong, limited
-from psyntool.tlsf.plays import Play
+from psyntool.tlsf.plays import Sentences
 
 # Inputs on which a circuit depends, and names of all assumptions; steps, and gates that are computed.
 MOST_INPUTS, MOST_NAMES, MOST_STEPS, MOST_GATES = 8, 10, 100_000, 1_000_000
@@ -298,13 +299,15 @@ def told(basic: Basic, made, found: Break) -> list:
 
 def example(basic: Basic, made, found: Break) -> list:
     """A play in which the controller breaks the assumptions."""
-    play = Play(basic, made, found.assumptions)
+    play = Play(Sentences(basic, made, found.assumptions))
     for mine in found.letters:
         play.take(mine)
     play.hold_out(LONGEST)
-    ends = [f"step {len(play.steps) - 1} breaks the {keeping.titled(one)}" for one in play.broken_at(play.steps[-1])]
+    ends = [
+        f"step {len(play.steps) - 1} breaks the {keeping.titled(one)}" for one in play.board.broken_at(play.steps[-1])
+    ]
     if not ends and play.loop is None:
         return []
     what = "them" if len(found.assumptions) > 1 else "it"
     ends = ends or [f"{play.looping}, which does not keep {what}"]
-    return ["so it can play:", *(f"  {line}" for line in [*play.table(), *ends])]
+    return ["so it can play:", *(f"  {line}" for line in [*play.board.table(play), *ends])]

@@ -5,15 +5,18 @@ from psyntool.command import AUTO, ENV, TLSF
 from psyntool.ends import Refused, Unwritten
 from psyntool.files import Reader
 from psyntool.kinds import Kind
+from psyntool.plays.play import Play, asked
 from psyntool.texts import circuit
+from psyntool.tlsf import playing
 from psyntool.tlsf.keeping import ASSUMED, GUARANTEED, titled
 from psyntool.tlsf.obligations import TooLong
-from psyntool.tlsf.plays import Play
+from psyntool.tlsf.plays import LONGEST, Sentences
 
 HELP = (
     "Type the number of a choice, or the names of your propositions that are to be true, `-` for none;\n"
     "a for the choice that holds out longest; b for one step back; e to end; q to leave."
 )
+NO_END = "nothing is played, so the play has no end yet\n"
 # Of more inputs of the circuit than this, the user's choices are not listed.
 MOST_LISTED = 3
 
@@ -27,17 +30,18 @@ def run(request, text):
     basic = specifying.read(text)
     flags = refuse_losing(basic, text, made)
     try:
-        return played(request, (text, made), Play(basic, circuit.read(made.string), basic.sentences), flags, paths)
+        board = Sentences(basic, circuit.read(made.string), basic.sentences)
+        return played(request, (text, made), Play(board), flags, paths)
     except TooLong:
         raise Refused(f"{text.name}: what is left of these sentences takes too much memory to be told") from None
 
 
 def played(request, texts, play, flags, paths):
     """Plays, and writes and tells the play; the texts are the specification and the circuit."""
+    play.board.watched = mine(play.board)
     if request.has(AUTO):
-        play.watched = mine(play)
-        play.hold_out()
-    elif not asked(play):
+        play.hold_out(LONGEST)
+    elif not asked(play, playing):
         console.write_text("the play is left; no stimulus is written\n")
         return 0
     stimulus = play.stimulus()
@@ -48,9 +52,9 @@ def played(request, texts, play, flags, paths):
         raise Unwritten(f"lasso of this play: {verdict.died or verdict.text.rstrip()}")
     console.write_text("\n".join(
         [
-            *play.table(),
+            *play.board.table(play),
             *ended(play),
-            f"{paths[0]} has these letters of the {play.players[0]}; lasso: {verdict.text.rstrip()}",
+            f"{paths[0]} has these letters of the {play.board.players[0]}; lasso: {verdict.text.rstrip()}",
             "",
         ]
     ))
@@ -71,49 +75,27 @@ def refuse_losing(basic, text, made):
     return flags
 
 
-def mine(play):
+def mine(board):
     """The places of the sentences that the user has to keep."""
-    words = ASSUMED if play.is_controller else GUARANTEED
-    return [place for place, one in enumerate(play.sentences) if one.word in words]
+    words = ASSUMED if board.is_controller else GUARANTEED
+    return [place for place, one in enumerate(board.sentences) if one.word in words]
 
 
 # ---- what is typed
 
 
-def asked(play):
-    """Plays the letters that the user types; returns whether the play came to its end, where it is one of a lasso."""
-    me, other = play.players
-    console.write_text(f"You are the {me}, and the {other} has a circuit that wins.\n{HELP}\n")
-    lines = console.lines()
-    while True:
-        console.write_text("\n".join(["", *standing(play), "> "]))
-        line = next(lines, None)
-        if line in ("q", "quit") or line is None and not play.steps:
-            return False
-        if line is None or line in ("e", "end") and play.steps:
-            console.write_text("\n")
-            return True
-        console.write_text(taken(play, line))
+def can_end(play):
+    return bool(play.steps)
 
 
-def taken(play, line):
-    """Executes a line that the user typed; returns an error message, or an empty string."""
-    if line in ("b", "back"):
-        play.back()
-        return ""
-    letter = letter_of(play, line)
-    if letter is None:
-        return f"{line!r} is no choice. {HELP}\n"
-    play.take(letter)
-    return "".join(f"{told}\n" for told in broken(play, len(play.steps) - 1))
+def behind(play):
+    """Lines on the sentences that the last step breaks."""
+    return broken(play, len(play.steps) - 1)
 
 
-def letter_of(play, line):
+def typed(play, line):
     """The letter that a typed line denotes, or None."""
-    if line in ("a", "auto"):
-        play.watched = mine(play)
-        return play.longest()
-    names, choices = play.machine.inputs, play.letters()
+    names, choices = play.board.machine.inputs, play.board.letters()
     if line.isdecimal() and len(names) <= MOST_LISTED:
         return choices[int(line[:9]) - 1] if 0 < int(line[:9]) <= len(choices) else None
     words = [word for word in line.split() if word != "-"]
@@ -124,36 +106,38 @@ def letter_of(play, line):
 
 def standing(play):
     """The present state of the play: what sentences demand, and the user's choices with what each breaks."""
+    board = play.board
     told = [f"step {len(play.steps)}{tally(play)}"]
-    told += [f"  the {titled(one)} demands {text}" for one, text in play.owed(play.now)]
-    if play.circuit_is_first:
-        told.append(f"the {play.players[1]} says {' '.join(sorted(play.said_first())) or '-'}")
-    if len(play.machine.inputs) <= MOST_LISTED:
-        told += [f" {number:>3}  {choice(play, letter)}" for number, letter in enumerate(play.letters(), 1)]
+    told += [f"  the {titled(one)} demands {text}" for one, text in board.owed(play.now)]
+    if board.circuit_is_first:
+        told.append(f"the {board.players[1]} says {' '.join(sorted(board.said_first(play.now))) or '-'}")
+    if len(board.machine.inputs) <= MOST_LISTED:
+        told += [f" {number:>3}  {choice(play, letter)}" for number, letter in enumerate(board.letters(), 1)]
     return told
 
 
 def tally(play):
     """Which sentences are kept so far, which demand something, and which are broken."""
-    owed = {id(one) for one, _ in play.owed(play.now)}
+    owed = {id(one) for one, _ in play.board.owed(play.now)}
     sides = {"kept so far": [], "owed": [], "broken": []}
-    for one, left in zip(play.sentences, play.now.left):
-        side = "broken" if left == play.remains.never else "owed" if id(one) in owed else "kept so far"
+    for one, left in zip(play.board.sentences, play.now.left):
+        side = "broken" if left == play.board.remains.never else "owed" if id(one) in owed else "kept so far"
         sides[side].append(str(one.row))
     told = [
         f"{side}: line{'s' * (len(set(rows)) > 1)} {', '.join(dict.fromkeys(rows))}"
         for side, rows in sides.items()
         if rows
     ]
-    return f" ({'; '.join(told)})" if play.steps and all(one.row for one in play.sentences) else ""
+    return f" ({'; '.join(told)})" if play.steps and all(one.row for one in play.board.sentences) else ""
 
 
 def choice(play, letter):
     """A choice of the user: the letter, what the circuit answers to it, and what the step breaks."""
-    step = play.moved(play.now, letter)
+    board = play.board
+    step = board.moved(play.now, letter)
     said = " ".join(sorted(letter)) or "-"
-    answer = "" if play.circuit_is_first else f"  -> {' '.join(sorted(step.letter - letter)) or '-'}"
-    those = " and ".join(f"the {titled(one)}" for one in play.broken_at(step))
+    answer = "" if board.circuit_is_first else f"  -> {' '.join(sorted(step.letter - letter)) or '-'}"
+    those = " and ".join(f"the {titled(one)}" for one in board.broken_at(step))
     return said + answer + (f", which breaks {those}" if those else "")
 
 
@@ -161,7 +145,7 @@ def broken(play, place):
     """Lines on the sentences that a step breaks."""
     return [
         line
-        for one in play.broken_at(play.steps[place])
+        for one in play.board.broken_at(play.steps[place])
         for line in (f"step {place} breaks the {titled(one)}", f"  {one.said}")
     ]
 
@@ -175,5 +159,8 @@ def ended(play):
     return [
         *told,
         play.looping,
-        *(line for one in play.unmet() for line in (f"the loop does not keep the {titled(one)}", f"  {one.said}")),
+        *(
+            line
+            for one in play.board.unmet(play) for line in (f"the loop does not keep the {titled(one)}", f"  {one.said}")
+        ),
     ]

@@ -52,10 +52,11 @@ class Step:
     before: Position
     letter: frozenset
     after: Position
+    digits: str
 
 
-class Play:
-    """A play against the circuit of a player. `sentences` are those that are watched."""
+class Sentences:
+    """The board of a play against the circuit of a player (`plays.play`). `sentences` are those that are judged."""
 
     def __init__(self, basic: Basic, made, sentences):
         self.basic = basic
@@ -65,10 +66,10 @@ class Play:
         self.obligations = Obligations()
         self.remains = Remains(self.obligations)
         with limited():
-            self.first = tuple(self.remains.of(self.meant(one)) for one in self.sentences)
-        self.steps = []
-        self.now = Position(self.machine.start, self.first)
-        # the places of the sentences that `hold_out` keeps
+            self.begin = tuple(self.remains.of(self.meant(one)) for one in self.sentences)
+        self.first = Position(self.machine.start, self.begin)
+        self.idle = "0" * len(self.machine.inputs)
+        # the places of the sentences that the user keeps where a play holds out
         self.watched = range(len(self.sentences))
 
     def meant(self, sentence):
@@ -93,19 +94,15 @@ class Play:
         letter = frozenset(mine) | outputs
         with limited():
             left = tuple(self.remains.after(one, letter) for one in position.left)
-        return Step(position, letter, Position(latches, left))
+        digits = "".join("01"[name in letter] for name in self.machine.inputs)
+        return Step(position, letter, Position(latches, left), digits)
 
-    def take(self, mine):
-        self.steps.append(self.moved(self.now, mine))
-        self.now = self.steps[-1].after
+    def is_over(self, _position: Position) -> bool:
+        return False
 
-    def back(self):
-        if self.steps:
-            self.now = self.steps.pop().before
-
-    def said_first(self) -> frozenset:
-        """The letter of a circuit that moves first, at the present position."""
-        return self.machine.step(self.now.latches, ())[0]
+    def said_first(self, position: Position) -> frozenset:
+        """The letter of a circuit that moves first."""
+        return self.machine.step(position.latches, ())[0]
 
     def letters(self) -> list:
         """The user's letters; of many inputs only those with at most one that is true, and the one with all."""
@@ -116,24 +113,9 @@ class Play:
             ]
         return [frozenset(), *(frozenset((name,)) for name in names), frozenset(names)]
 
-    @property
-    def loop(self):
-        """The step whose position before it is the present one, or None."""
-        return next((place for place, step in enumerate(self.steps) if step.before == self.now), None)
-
-    @property
-    def looping(self) -> str:
-        """Which steps come again and again."""
-        last = len(self.steps) - 1
-        return (
-            f"step {last} comes again and again"
-            if self.loop == last
-            else f"steps {self.loop} to {last} come again and again"
-        )
-
     # ---- sentences
 
-    def is_broken(self, position: Position) -> bool:
+    def is_lost(self, position: Position) -> bool:
         """Whether a sentence that is watched is broken."""
         return any(position.left[place] == self.remains.never for place in self.watched)
 
@@ -145,35 +127,26 @@ class Play:
     def owed(self, position: Position) -> list:
         """Pairs of a sentence and what it demands besides what it demanded at first."""
         found = []
-        for one, left, first in zip(self.sentences, position.left, self.first):
+        for one, left, first in zip(self.sentences, position.left, self.begin):
             texts = self.remains.owed(left, first) if left not in (self.remains.never, self.remains.always) else []
             found += [(one, text) for text in texts]
         return found
 
-    def unmet(self) -> list:
-        """The sentences that no step breaks, and that the loop violates."""
+    def unmet(self, play) -> list:
+        """The sentences that no step of a play breaks, and that its loop violates."""
         with limited():
-            word = Word([step.letter for step in self.steps], self.loop)
-            return [
-                one
-                for one, left in zip(self.sentences, self.now.left)
-                if left != self.remains.never and not word.keeps(one)
-            ]
+            word = Word([step.letter for step in play.steps], play.loop)
+            ends = zip(self.sentences, play.now.left)
+            return [one for one, left in ends if left != self.remains.never and not word.keeps(one)]
 
     # ---- holding out
 
-    def hold_out(self, most: int = LONGEST):
-        """Plays the letters with which the sentences stay unbroken longest, until one is broken or a position comes
-        again."""
-        while len(self.steps) < most and not self.is_broken(self.now) and self.loop is None:
-            self.take(self.longest())
-
-    def longest(self) -> frozenset:
+    def longest(self, play) -> frozenset:
         """The letter with which no watched sentence is broken for most steps, as far as it looks ahead. Of equal
         letters, an environment chooses one behind which most is owed, and a controller one behind which least is."""
         self.known, self.gates_left, best, letter = {}, MOST_GATES, None, frozenset()
         for mine in self.letters():
-            after = self.moved(self.now, mine).after
+            after = self.moved(play.now, mine).after
             owed = len(self.owed(after))
             value = self.lasts(after, LOOKAHEAD), owed if self.is_controller else -owed
             if best is None or value > best:
@@ -182,7 +155,7 @@ class Play:
 
     def lasts(self, position: Position, most: int) -> int:
         """For how many further steps, up to a bound, no sentence need be broken."""
-        if self.is_broken(position):
+        if self.is_lost(position):
             return -1
         if most == 0 or self.gates_left < 0:
             return 0
@@ -199,27 +172,13 @@ class Play:
 
     # ---- what is told
 
-    def table(self) -> list:
-        """The steps as the lines of a table."""
-        head = ("step", "environment", "controller", "owed after it")
-        rows = [head]
-        for place, step in enumerate(self.steps):
+    def table(self, play) -> list:
+        """The steps of a play as the lines of a table."""
+        rows = []
+        for place, step in enumerate(play.steps):
             said = [
                 " ".join(name for name in names if name in step.letter) or "-"
                 for names in (self.basic.inputs, self.basic.outputs)
             ]
             rows.append((str(place), *said, "; ".join(dict.fromkeys(text for _, text in self.owed(step.after)))))
-        widths = [max(len(row[column]) for row in rows) for column in range(len(head))]
-        lines = ["  ".join(word.ljust(width) for word, width in zip(row, widths)).rstrip() for row in rows]
-        if self.loop is not None:
-            lines.insert(self.loop + 1, "the loop begins")
-        return lines
-
-    def stimulus(self) -> str:
-        """The user's letters as a stimulus; what is repeated begins with the loop, or else is the last letter."""
-        rows = ["".join("01"[name in step.letter] for name in self.machine.inputs) + "\n" for step in self.steps]
-        begin = self.loop
-        if begin is None:
-            begin = len(rows)
-            rows.append("0" * len(self.machine.inputs) + "\n")
-        return "".join([*rows[:begin], "-\n", *rows[begin:]])
+        return play.table(("step", "environment", "controller", "owed after it"), rows)

@@ -3,17 +3,19 @@ guarantees that contradict each other or follow from the others, and names that 
 from dataclasses import replace
 
 from psyntool import progress
+from psyntool.command import TLSF
+from psyntool.cores import answer_to, shrunk
 from psyntool.ends import Unwritten
-from psyntool.parts.cores import shrunk
 from psyntool.parts.slips import is_slip
+from psyntool.plays.play import Play
 from psyntool.texts import circuit, report
-from psyntool.tlsf.cores import answer_to, sides_of
 from psyntool.tlsf.expanding import Basic, Sentence, deep_calls
 from psyntool.tlsf.formulas import Formulas
 from psyntool.tlsf.keeping import AT_EACH_STEP, titled
 from psyntool.tlsf.obligations import TooLong
-from psyntool.tlsf.plays import Play
-from psyntool.tlsf.tokens import Wrong
+from psyntool.tlsf.plays import Sentences
+from psyntool.tlsf.sides import sides_of
+from psyntool.tlsf.tokens import ENCODING, Wrong
 
 # A longer play is not shown.
 MOST_STEPS = 30
@@ -45,7 +47,7 @@ class Sanity:
         """The program's answer to the specification that guarantees a formula; None if it does not decide."""
         made = basic.having([Sentence("GUARANTEE", formula, 0)])
         try:
-            return answer_to(made.text(), 1)
+            return answer_to(made.text().encode(ENCODING), [TLSF.name], 1, "sentences")
         except Unwritten:
             return None
 
@@ -108,14 +110,14 @@ class Sanity:
         """A play in which an environment keeps the assumptions as long as it can, and a controller breaks them."""
         made = circuit.read(report.read(self.breaking(those).text).parts[0])
         try:
-            play = Play(self.basic, made, those)
+            play = Play(Sentences(self.basic, made, those))
             play.hold_out(MOST_STEPS)
         except TooLong:
             return []
-        ends = [f"step {len(play.steps) - 1} breaks the {titled(one)}" for one in play.broken_at(play.steps[-1])]
+        ends = [f"step {len(play.steps) - 1} breaks the {titled(one)}" for one in play.board.broken_at(play.steps[-1])]
         if play.loop is not None:
             ends = [f"{play.looping}, which does not keep {of_those(those, 'assumption')}"]
-        return ["so it can play:", *(f"  {line}" for line in [*play.table(), *ends])]
+        return ["so it can play:", *(f"  {line}" for line in [*play.board.table(play), *ends])]
 
     def of_guarantees(self) -> list:
         return self.of_contradicting() or self.of_following()

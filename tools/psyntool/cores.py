@@ -1,33 +1,61 @@
-"""Finds a minimal set of parts that decides whether there is a controller, by many runs of the program."""
+"""Finds a minimal set of parts, or of sentences, that decides whether there is a controller, by many runs of the
+program."""
 from dataclasses import dataclass
 
 from psyntool import program
+from psyntool.command import TLSF
 from psyntool.ends import Unwritten
-from psyntool.parts.composing import Composer
 from psyntool.texts import report
+from psyntool.tlsf.tokens import ENCODING
 
 
 class Asking:
-    """Whether a specification has a controller if only some of its parts are used. The program's answers are kept, so
-    that it is asked only once about the same parts."""
+    """Whether a specification has a controller if only some of its parts, or sentences, are used. The program's answers
+    are kept, so that it is asked only once about the same ones."""
 
-    def __init__(self, specification, flags=()):
+    def __init__(self, specification, text, flags, what):
+        """The function `text` gives the specification with some assumptions and guarantees, in bytes; `what` says what
+        these are."""
         self.specification = specification
-        self.composer = Composer(specification)
+        self.text = text
+        self.flags = flags
+        self.what = what
         self.said = {}
-        self.head = " ".join(["synth", *flags]) + "\n"
 
     def has_controller(self, assumptions, guarantees):
         """Whether there is a controller for these assumptions and guarantees, as the program answers."""
-        asked = frozenset(assumptions), frozenset(guarantees)
+        return self.answer(assumptions, guarantees).status == 10
+
+    def answer(self, assumptions, guarantees):
+        """The program's answer for these assumptions and guarantees."""
+        asked = frozenset(map(id, assumptions)), frozenset(map(id, guarantees))
         if asked not in self.said:
-            text = self.composer.composed(assumptions, guarantees).text()
-            answer = program.ask((self.head + text).encode("utf-8", "surrogateescape"))
-            word = answer.text.partition("\n")[0]
-            if answer.died or word not in report.WORDS:
-                raise Unwritten(f"of {len(assumptions) + len(guarantees)} of the parts together: {answer.died or word}")
-            self.said[asked] = word == report.WORDS[0]
+            count = len(assumptions) + len(guarantees)
+            self.said[asked] = answer_to(self.text(assumptions, guarantees), self.flags, count, self.what)
         return self.said[asked]
+
+
+def answer_to(text, flags, count, what):
+    """The program's answer to a specification of so many parts or sentences; it must be a verdict."""
+    answer = program.ask(" ".join(["synth", *flags]).encode() + b"\n" + text)
+    word = answer.text.partition("\n")[0]
+    if answer.died or word not in report.WORDS:
+        raise Unwritten(f"of {count} of the {what} together: {answer.died or word}")
+    return answer
+
+
+def of_parts(composer, flags=()):
+    """Asks about the parts of a composer."""
+
+    def text(*sides):
+        return composer.composed(*sides).text().encode("utf-8", "surrogateescape")
+
+    return Asking(composer.specification, text, flags, "parts")
+
+
+def of_sentences(sides):
+    """Asks about the sentences of a specification, which is given by its sides."""
+    return Asking(sides, lambda *those: sides.having(*those).text().encode(ENCODING), [TLSF.name], "sentences")
 
 
 @dataclass(frozen=True)
