@@ -15,7 +15,9 @@ class Stage:
     """A stage, which has begun."""
 
     def __init__(self, title):
-        self.title, self.began, self.shown = within + title, time.monotonic(), ""
+        self.title = within + title
+        self.began = time.monotonic()
+        self.shown = ""
         self.is_terminal = console.is_terminal()
         self.step = 1 if self.is_terminal else EVERY if is_asked else None
 

@@ -236,7 +236,9 @@ class Stopped(OnCircuits):
             (signal.SIGTERM, "ended by TERM", -signal.SIGTERM),
         ):
             out, told, ended = self.ended("", "shrink", "it.hoa", "it.aag", by=by)
-            self.assertEqual((out, told, ended), (BEFORE.decode(), [f"psyn: the circuit stays as it is: {why}"], status))
+            self.assertEqual(
+                (out, told, ended), (BEFORE.decode(), [f"psyn: the circuit stays as it is: {why}"], status)
+            )
             out, told, ended = self.ended(SMALLER, "shrink", "it.hoa", "it.aag", by=by)
             self.assertEqual((out, told[0], ended), (SMALLER, f"psyn: the circuit is that of round 1: {why}", status))
             self.assertEqual(told[1], "gates: 2 before, 1 after; latches: 0 before, 0 after")

@@ -52,7 +52,11 @@ CARELESS = (
     ("INFO", "INF", "1:1: `INFO` is expected here, and this is `INF`"),
     ("TARGET:", "TARGETS:", f"1:25: {OF_INFO} `TARGETS`"),
     ("Mealy }", "Mealy; }", f"1:38: {OF_INFO} `;`"),
-    (" Mealy T", " mealy T", "1:19: `Mealy` or `Moore`, with `,Strict` or without, is expected here, and this is `mealy`"),
+    (
+        " Mealy T",
+        " mealy T",
+        "1:19: `Mealy` or `Moore`, with `,Strict` or without, is expected here, and this is `mealy`",
+    ),
     ("MAIN {", "MAIN", "3:3: `{` is expected here, and this is `INPUTS`"),
     ("r; s;", "r; r;", "3:15: `r` is declared before"),
     ("g; h;", "g; r;", "4:16: `r` is declared before"),
@@ -70,7 +74,11 @@ CARELESS = (
     (SENTENCE, "r U g U h", f"6:11: {MIXED} `r U (g U h)`"),
     (SENTENCE, "r -> g <-> h", f"6:12: {MIXED} `r -> (g <-> h)` or `(r -> g) <-> h`"),
     (SENTENCE, "F k; r U g -> h", "6:7: there is no `k`"),
-    ("OUTPUTS { g; h; }\n", "ASSUME { g; } OUTPUTS { g; }", "4:12: `g` is declared only below: put INPUTS and OUTPUTS before the formulas"),
+    (
+        "OUTPUTS { g; h; }\n",
+        "ASSUME { g; } OUTPUTS { g; }",
+        "4:12: `g` is declared only below: put INPUTS and OUTPUTS before the formulas",
+    ),
 )
 
 
@@ -147,7 +155,8 @@ class Specifications(OnFiles):
             ),
             (
                 ("agree", "spec.hoa", "s.tlsf"),
-                "spec.hoa is an automaton, s.tlsf is a specification; agree wants SPECIFICATION AUTOMATON, in this order",
+                "spec.hoa is an automaton, s.tlsf is a specification; agree wants SPECIFICATION AUTOMATON, "
+                "in this order",
             ),
             (("synth", "grant.aag"), "grant.aag is a circuit; synth wants AUTOMATON"),
             (("translate", "spec.hoa"), "spec.hoa is an automaton; translate wants SPECIFICATION"),

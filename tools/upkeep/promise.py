@@ -123,7 +123,10 @@ class Module:
     """A file of definitions: what it imports by name, what by a name for a whole module, and its definitions."""
 
     def __init__(self, path, lines):
-        self.path, self.imports, self.aliases, self.items = path, {}, {}, []
+        self.path = path
+        self.imports = {}
+        self.aliases = {}
+        self.items = []
         self.told = told_by(lines)
         for comment, block in blocks_of(lines):
             if found := IMPORT.fullmatch(" ".join(line.strip() for line in block)):
@@ -232,7 +235,10 @@ class Gathered:
     """What a page has: the definitions, and the names of std, the types of the code and the ends that they cite."""
 
     def __init__(self, roots, ends):
-        self.items, self.std, self.types, self.ends = [], {}, {}, {}
+        self.items = []
+        self.std = {}
+        self.types = {}
+        self.ends = {}
         todo = list(roots)
         while todo:
             item = todo.pop(0)

@@ -69,7 +69,8 @@ class Table:
             raise TooLong
         self.letters = list(subsets([name for name, _ in self.inputs]))
         self.full = (1 << len(self.letters)) - 1
-        self.left, self.known = MOST_GATES, {}
+        self.left = MOST_GATES
+        self.known = {}
 
     def steps(self, latches: tuple) -> list:
         """For each letter of the inputs the true names, and the latches behind the step."""
