@@ -79,25 +79,52 @@ class Gate(OnFiles):
         os.chmod(self.file("rt", f"#!/bin/sh\ncat {self.room}/said\nexit 1\n".encode()), 0o755)
         environment = {**os.environ, "PATH": f"{self.room}:{os.environ['PATH']}"}
         command = [sys.executable, os.path.join(TOOLS, "gate-times")]
-        lines = subprocess.run(command, env=environment, capture_output=True, text=True, check=False).stdout.splitlines()
+        lines = subprocess.run(
+            command, env=environment, capture_output=True, text=True, check=False
+        ).stdout.splitlines()
         self.assertEqual(lines[-1], "1 passed, 2 failed")
         return [line for line in lines[:-2] if line.startswith("gate: ")]
 
     def test_a_failure_has_a_reason(self):
-        silent = ("== ps_a", "note: src/a.rt:1:1: long", "rt: ps_a NOT PROVED", "rt: ps_b NOT PROVED: its library ps_a failed", "rt: FAILED: ps_a ps_b")
+        silent = (
+            "== ps_a",
+            "note: src/a.rt:1:1: long",
+            "rt: ps_a NOT PROVED",
+            "rt: ps_b NOT PROVED: its library ps_a failed",
+            "rt: FAILED: ps_a ps_b",
+        )
         self.assertEqual(self.fails(*silent), ["gate: ps_a failed without a reason in its output: run it again"])
-        told = ("== ps_a", "src/a.rt:1:1: error[name]: no `b`", "rt: ps_a NOT PROVED", "== ps_b: its tests", "fn f: not proved", "rt: ps_b: its tests are NOT PROVED")
+        told = (
+            "== ps_a", "src/a.rt:1:1: error[name]: no `b`", "rt: ps_a NOT PROVED", "== ps_b: its tests",
+            "fn f: not proved", "rt: ps_b: its tests are NOT PROVED",
+        )
         self.assertEqual(self.fails(*told), [])
-        self.assertRegex("".join(self.fails(*told[:1], "error: cannot write out/a: No space left on device (os error 28)", *told[2:])), r"\Agate: a disk was full \(\d+ MB")
-        killed = "rt: must-fail ps_c/one.edit: NOT TRIED: its check was killed, most likely for memory, so nothing is known of it"
-        again = ("== ps_a", "rt: the check was killed, most likely for memory: once more", "rt: ps_a NOT PROVED", killed)
-        self.assertEqual(self.fails(*again), [f"gate: the prover of {it} was killed, most likely for memory" for it in ("ps_a", "ps_c")])
+        self.assertRegex(
+            "".join(
+                self.fails(*told[:1], "error: cannot write out/a: No space left on device (os error 28)", *told[2:])
+            ),
+            r"\Agate: a disk was full \(\d+ MB",
+        )
+        killed = (
+            "rt: must-fail ps_c/one.edit: NOT TRIED: its check was killed, most likely for memory, "
+            "so nothing is known of it"
+        )
+        again = (
+            "== ps_a", "rt: the check was killed, most likely for memory: once more", "rt: ps_a NOT PROVED", killed
+        )
+        self.assertEqual(
+            self.fails(*again),
+            [f"gate: the prover of {it} was killed, most likely for memory" for it in ("ps_a", "ps_c")],
+        )
 
     def test_a_disk_that_was_full_is_told(self):
         loader = importlib.machinery.SourceFileLoader("gate_times", os.path.join(TOOLS, "gate-times"))
         tool = importlib.util.module_from_spec(importlib.util.spec_from_loader(loader.name, loader))
         loader.exec_module(tool)
-        said = ["gate: a disk was full (3 MB were left at one time): make room, and run it again", "gate: ps_a failed without a reason in its output: run it again"]
+        said = [
+            "gate: a disk was full (3 MB were left at one time): make room, and run it again",
+            "gate: ps_a failed without a reason in its output: run it again",
+        ]
         self.assertEqual(tool.causes(["== ps_a", "rt: ps_a NOT PROVED"], 3), said)
         self.assertEqual(tool.causes(["== ps_a", "rt: ps_a NOT PROVED"], tool.FULL), said[1:])
 

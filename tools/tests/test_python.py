@@ -1,15 +1,18 @@
-"""Tests that the tool needs no later Python than 3.9."""
+"""Tests that the tool needs no later Python than 3.9, and that no line of Python is too long."""
 import ast
 import glob
 import os
 import unittest
 
+from upkeep.layout import WIDTH
 from upkeep.sweeps import TOP
 
 LEAST = (3, 9)
 # Modules, attributes and arguments that Python 3.9 lacks.
 LATER_MODULES = {"tomllib"}
 LATER_NAMES = {"bit_count", "pairwise", "file_digest", "StrEnum", "aiter", "anext", "batched", "chdir", "walk_up"}
+# Files with longer lines, which are to be broken.
+NOT_YET = ("tools/tests/test_documents.py", "tools/tests/test_edits.py")
 LATER_ARGUMENTS = {("dataclass", "slots"), ("dataclass", "kw_only"), ("zip", "strict")}
 
 
@@ -79,6 +82,16 @@ class Versions(unittest.TestCase):
         ):
             with self.subTest(text):
                 self.assertEqual(len(too_new(text)), count, too_new(text))
+
+
+class Layout(unittest.TestCase):
+    def test_no_line_is_too_long(self):
+        long = [
+            f"{path}:{row}: {len(line)} columns"
+            for path, text in sources("tools/**/*", "bench/**/*") for row, line in enumerate(text.split("\n"), 1)
+            if len(line) > WIDTH and path not in NOT_YET
+        ]
+        self.assertEqual(long, [])
 
 
 if __name__ == "__main__":

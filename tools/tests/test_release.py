@@ -160,10 +160,14 @@ class Gate(unittest.TestCase):
         loader = importlib.machinery.SourceFileLoader("release", os.path.join(TOP, "tools", "release"))
         tool = importlib.util.module_from_spec(importlib.util.spec_from_loader(loader.name, loader))
         loader.exec_module(tool)
-        with tempfile.NamedTemporaryFile("w", encoding="utf-8") as log, mock.patch.object(releases, "of_repository", return_value=RELEASE):
+        with tempfile.NamedTemporaryFile("w", encoding="utf-8") as log, mock.patch.object(
+            releases, "of_repository", return_value=RELEASE
+        ):
             log.write(LOG)
             log.flush()
-            with mock.patch.object(tool.edits, "stale", return_value=[("ps_a", "one")]), self.assertRaisesRegex(tool.Refused, "edits are stale"):
+            with mock.patch.object(tool.edits, "stale", return_value=[("ps_a", "one")]), self.assertRaisesRegex(
+                tool.Refused, "edits are stale"
+            ):
                 tool.checked(log.name)
 
 
