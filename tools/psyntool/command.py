@@ -331,6 +331,10 @@ class Request:
         return texts
 
 
+# Ends what is said of files that are all there, in another order.
+IN_ORDER = ", in this order"
+
+
 def wrong_kinds(command, texts):
     """A message that names the files of another kind than the command expects, or an empty string if there are none."""
     said = ", ".join(
@@ -344,7 +348,7 @@ def wrong_kinds(command, texts):
     if TLSF.name in command.replaced and any(text.looks_like is Kind.SPECIFICATION for text in texts):
         kinds[0] = Kind.SPECIFICATION
     if len(kinds) > 1 and Counter(kinds) == Counter(text.looks_like for text in texts):
-        hint = ", in this order"
+        hint = IN_ORDER
     elif kinds == [Kind.CIRCUIT] and texts[0].looks_like in (Kind.SPECIFICATION, Kind.AUTOMATON):
         hint = "; `synth` makes one"
     return f"{said}; {command.name} wants {' '.join(kind.word for kind in kinds)}{hint}"

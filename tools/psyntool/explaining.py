@@ -3,7 +3,7 @@ import re
 from collections import Counter
 
 from psyntool import faults, judging
-from psyntool.command import ENV, wrong_kinds
+from psyntool.command import ENV, IN_ORDER, wrong_kinds
 from psyntool.kinds import Kind
 from psyntool.marking import placed
 from psyntool.program import MOST_BYTES
@@ -29,9 +29,11 @@ def lines(request, texts, answer):
     number = int(found[2]) if found[2] else None
     fault = next((it for it in faults.read_document() if it.number == number and (number or it.name == found[1])), None)
     wrong = wrong_kinds(request.command, texts)
-    if wrong:
+    # a game with a vertex that lacks something begins as a solution does
+    is_sure = not any(text.kind is Kind.GAME and text.looks_like is Kind.SOLUTION for text in texts)
+    if wrong and (is_sure or wrong.endswith(IN_ORDER)):
         return [wrong]
-    told = []
+    told = [wrong] if wrong else []
     if number in BROKEN and texts[0].kind is Kind.SPECIFICATION:
         told = of_reader(texts[0], number, int(found[4]))
         if told:

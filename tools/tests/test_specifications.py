@@ -167,6 +167,15 @@ class Specifications(OnFiles):
                 self.assertEqual((done.stderr.decode(), done.returncode), (f"{said}\n", 1))
                 self.assertTrue(done.stdout.startswith(b"fault "))
 
+    def test_a_game_that_begins_as_a_solution_is_explained(self):
+        self.file("short.pg", b"0 1;\n")
+        self.file("game.pg", b"0 0 1 0;\n")
+        self.file("game.sol", b"paritysol 0;\n0 1;\n")
+        told = self.tool("solve", "short.pg").stderr.decode().splitlines()
+        self.assertEqual(told[:2], ["short.pg is a solution; solve wants GAME", "short.pg:1:4: Syntax"])
+        told = self.tool("judge", "game.sol", "game.pg").stderr.decode()
+        self.assertEqual(told, "game.sol is a solution, game.pg is a game; judge wants GAME SOLUTION, in this order\n")
+
     def test_it_is_told_as_json(self):
         told = json.loads(self.asked("--json", "s.tlsf", "never.aag", "l.stim")[0])
         self.assertEqual((told["verdict"], told["stem"], told["lap"]), ("violated", 0, 1))
