@@ -212,7 +212,7 @@ class OnATerminal(unittest.TestCase):
             told = os.read(ours, 1000)
             os.close(ours)
         self.assertEqual(answer, b"valid\n")
-        self.assertRegex(told, rb"\r[23] s")
+        self.assertRegex(told, rb"\rcheck: [23] s")
 
 
 if __name__ == "__main__":
