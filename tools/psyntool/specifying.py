@@ -11,8 +11,6 @@ from psyntool.tlsf import expanding, spoken
 from psyntool.tlsf.reading import NAME, is_in_full_form
 from psyntool.tlsf.tokens import ENCODING, Wrong
 
-# Of more sentences that other tools group differently, so many are shown.
-MOST_TOLD = 20
 # Stands behind the name of a file whose text was written out.
 WRITTEN_OUT = " (written out)"
 
@@ -36,21 +34,15 @@ def basic(text, settings):
     try:
         made = expanding.basic(text.bytes.decode(ENCODING), settings)
         text.told += [f"{text.name}: {made.rewritten}"] if made.rewritten else []
-        text.told += [f"{text.name}:{line}" for line in groupings(text, made.grouped)]
+        for offset, said in made.grouped:
+            row, _ = marking.line_and_column(text.original, text.place_in_file(offset))
+            text.told.append(f"{text.name}:{row}: read as TLSF groups it: {said}")
         return made
     except Wrong as error:
         row, column = marking.line_and_column(text.original, text.place_in_file(error.offset))
         raise Refused(f"{text.name}:{row}:{column}: {error}") from None
     except expanding.Unset as error:
         raise Refused(f"{text.name}: {SET.shown}: {error}") from None
-
-
-def groupings(text, grouped):
-    """Lines on the mixes of operators of a text, which other tools group differently: how each was read."""
-    rows = [marking.line_and_column(text.original, text.place_in_file(offset))[0] for offset, _ in grouped]
-    found = [f"{row}: read as TLSF groups it: {said}" for row, (_, said) in zip(rows, grouped)]
-    more = [f" {len(found) - MOST_TOLD:,} more mixes of operators are read as TLSF groups them"]
-    return [*found[:MOST_TOLD], *more * (len(found) > MOST_TOLD)]
 
 
 def write_out(text, request):

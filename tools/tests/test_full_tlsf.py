@@ -299,12 +299,6 @@ class Groupings(OnFiles):
         told += "`G ((a -> within 1 b) U c)` or `G (a -> (within 1 b U c))`\n"
         self.assertEqual((done.stdout, done.stderr.decode(), done.returncode), (b"", told, 2))
 
-    def test_of_many_the_first_are_shown(self):
-        text = specification(["a"], ["c"], [("GUARANTEE", ["rises(c)", *["a -> c U a"] * 25])])
-        told = self.tool("tlsf", self.file("it.tlsf", text.encode())).stderr.decode().splitlines()
-        self.assertEqual(len(told), 21)
-        self.assertTrue(told[-1].endswith("it.tlsf: 5 more mixes of operators are read as TLSF groups them"), told)
-
 
 class Meanings(unittest.TestCase):
     """Formulas have in the basic form the meaning that they have by the precedences of the full form."""
