@@ -29,9 +29,7 @@ def lines(request, texts, answer):
     number = int(found[2]) if found[2] else None
     fault = next((it for it in faults.read_document() if it.number == number and (number or it.name == found[1])), None)
     wrong = wrong_kinds(request.command, texts)
-    # a game with a vertex that lacks something begins as a solution does
-    is_sure = not any(text.kind is Kind.GAME and text.looks_like is Kind.SOLUTION for text in texts)
-    if wrong and (is_sure or wrong.endswith(IN_ORDER)):
+    if wrong and (wrong.endswith(IN_ORDER) or not any(map(is_in_doubt, texts))):
         return [wrong]
     told = [wrong] if wrong else []
     if number in BROKEN and texts[0].kind is Kind.SPECIFICATION:
@@ -54,6 +52,13 @@ def lines(request, texts, answer):
     if number is None:
         return [*told, "cause: this program knows no such command line: it is not of the same version as this tool"]
     return told + [f"{word.lower()}: {entries[word]}" for word in ("Cause", "Place", "Mend") if word in entries]
+
+
+def is_in_doubt(text):
+    """Whether a text is a game or a solution, and begins with numbers as the other kind does, where one is missing or
+    one too many."""
+    kinds = {text.kind, text.looks_like}
+    return kinds == {Kind.GAME, Kind.SOLUTION} and text.bytes.lstrip()[:1].isdigit()
 
 
 def of_reader(text, number, offset):
