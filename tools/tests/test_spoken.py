@@ -72,7 +72,7 @@ class Meanings(unittest.TestCase):
 
     def test_words_of_sentences_and_bounds(self):
         for text, written in (
-            ("G(r -> F[0:2] g)", "G (r -> g || X (g || X g))"),
+            ("G(r -> F[0:2] g)", "G (r -> g || X g || X X g)"),
             ("G(r -> F[0..1] g)", "G (r -> g || X g)"),
             ("G (r -> within 1 g unless r)", "G (r -> g || r || X (g || r))"),
             ("G (r & !g -> X[2] g)", "G (r && !g -> X X g)"),
