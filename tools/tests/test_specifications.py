@@ -204,11 +204,15 @@ class Specifications(OnFiles):
                 self.assertIn(f"wrong.tlsf:{place}", told[0])
                 mending = [line for line in told if line.startswith(f"mend: {mend}")]
                 self.assertEqual(len(mending), bool(mend), told)
-        self.file("wrong.tlsf", HEAD.replace(b"TARGET: Mealy", b"TARGET: Moore") + MAIN)
+        head = HEAD.replace(b" TARGET: Mealy", b"")
+        self.file("wrong.tlsf", head + MAIN)
         answer, told, _ = self.asked("wrong.tlsf", "grant.aag", "l.stim")
         self.assertIn("wrong.tlsf:2:1", told[0])
-        self.assertEqual(answer, f"fault 83 Order at {len(HEAD)}\n")
-        self.assertIn("mend: write the wanted order twice, if the formulas are meant so as they stand.", told)
+        self.assertEqual(answer, f"fault 83 Order at {len(head)}\n")
+        # where the two orders differ, the tool rewrites the formulas
+        self.file("wrong.tlsf", HEAD.replace(b"TARGET: Mealy", b"TARGET: Moore") + MAIN)
+        told = "wrong.tlsf: SEMANTICS is Mealy and TARGET Moore: each output o is read as X o, as TLSF does"
+        self.assertEqual(self.asked("wrong.tlsf", "never.aag", "l.stim"), ("violated stem 0 lap 1\n", [told], 0))
 
     def test_wrong_symbols_are_named(self):
         self.file("other.aag", GRANT.replace(b"i0 r", b"i0 q"))
