@@ -158,7 +158,6 @@ class Commands(OnFiles):
         ):
             self.assertIn(line, done.stdout)
 
-    @unittest.skipUnless(shutil.which("vcd2fst") and shutil.which("fst2vcd"), "no reader of VCD files is installed")
     def test_names_in_latin_1_are_written_in_utf_8(self):
         circuit = CIRCUIT.replace(b"push", b"dr\xfcck\x7fen").replace(b"dark", "dunkel\u00e9".encode())
         names = self.tool("wave", self.file("odd.aag", circuit), self.file("s", b"1\n")).stdout.decode("utf-8")
@@ -166,6 +165,7 @@ class Commands(OnFiles):
         self.assertIn("dunkel\u00e9 $end\n", names)
         self.assertIn("dr\u00fcck", self.tool("show", "odd.aag").stdout.decode("utf-8"))
 
+    @unittest.skipUnless(shutil.which("vcd2fst") and shutil.which("fst2vcd"), "no reader of VCD files is installed")
     def test_a_wave_is_read_by_a_wave_viewers_reader(self):
         done = self.tool("wave", self.file("circuit", CIRCUIT), "-", given=b"1\n1\n0\n")
         wave, packed = self.file("wave.vcd", done.stdout), os.path.join(self.room, "wave.fst")
