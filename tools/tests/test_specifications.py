@@ -209,6 +209,7 @@ class Specifications(OnFiles):
         answer, told, _ = self.asked("wrong.tlsf", "grant.aag", "l.stim")
         self.assertIn("wrong.tlsf:2:1", told[0])
         self.assertEqual(answer, f"fault 83 Order at {len(head)}\n")
+        self.assertTrue(told[-1].startswith("mend: let `tools/psyn` rewrite the formulas; or write one order"), told)
         # where the two orders differ, the tool rewrites the formulas
         self.file("wrong.tlsf", HEAD.replace(b"TARGET: Mealy", b"TARGET: Moore") + MAIN)
         told = "wrong.tlsf: SEMANTICS is Mealy and TARGET Moore: each output o is read as X o, as TLSF does"
