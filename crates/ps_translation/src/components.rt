@@ -1,7 +1,7 @@
 //! Strongly connected components of lists of edges (Tarjan, "Depth-First Search and Linear Graph Algorithms", 1972).
 
 use crate::column::Column;
-use crate::stop::{Stop, index};
+use crate::stop::{Stop, index, number_of};
 use ps_keys::KeyList;
 use std::alloc::Global;
 
@@ -19,13 +19,42 @@ pub(crate) struct Edge {
     pub(crate) marks: u64,
 }
 
-/// The ends of an edge, as numbers of a search.
+/// The ends of an edge, as numbers of vertices.
 #[derive(Clone, Copy)]
 struct Ends {
     source: u32,
     target: u32,
     /// The edge before this one, of those with the same source.
     earlier: u32,
+}
+
+/// Edges whose vertices are numbered.
+#[derive(Drop)]
+struct Graph {
+    vertices: KeyList<u64>,
+    edges: Vec<Ends>,
+    /// For each vertex, its last edge.
+    last: Column,
+}
+
+/// What a search knows of a vertex.
+#[derive(Clone, Copy)]
+struct Vertex {
+    /// When it was met, counted from 1; or 0.
+    met: u32,
+    /// The earliest vertex that it is known to lead back to.
+    low: u32,
+    /// Its component, or `NONE`.
+    component: u32,
+}
+
+impl Vertex {
+    /// A vertex that was not met.
+    const UNMET: Vertex = Vertex {
+        met: 0,
+        low: 0,
+        component: NONE,
+    };
 }
 
 /// A vertex on the way of a search, and the edge that is next to follow.
@@ -38,16 +67,8 @@ struct Visit {
 /// A depth-first search.
 #[derive(Drop)]
 struct Search {
-    vertices: usize,
-    edges: Vec<Ends>,
-    /// For each vertex, its last edge.
-    last: Column,
-    /// For each vertex, when it was met, counted from 1.
-    met: Column,
-    /// For each vertex, the earliest vertex that it is known to lead back to.
-    low: Column,
-    /// For each vertex, its component.
-    component: Column,
+    graph: Graph,
+    vertices: Vec<Vertex>,
     /// The vertices without a component, in the order in which they were met.
     open: Vec<u32>,
     /// The way.
@@ -60,41 +81,53 @@ struct Search {
 
 /// The components that have edges, each as the list of its edges, in their order.
 pub(crate) fn components(alloc: Global, edges: &[Edge]) -> Result<Vec<Vec<Edge>>, Stop> {
-    let mut search = search_of(alloc, edges)?;
-    search.run()?;
-    search.lists(alloc, edges)
+    let mut search = Search::new(alloc);
+    let lists = search.lists(alloc, edges);
+    drop(search);
+    lists
 }
 
 /// The number of the component of each vertex of some edges. No edge leads to a component with a greater number.
 pub(crate) fn component_numbers(alloc: Global, edges: &[Edge]) -> Result<Column, Stop> {
-    let mut search = search_of(alloc, edges)?;
-    search.run()?;
-    search.numbers(alloc, edges)
+    let mut search = Search::new(alloc);
+    let numbers = search.numbers(alloc, edges);
+    drop(search);
+    numbers
 }
 
-/// A search of the graph of some edges, with its vertices numbered.
-fn search_of(alloc: Global, edges: &[Edge]) -> Result<Search, Stop> {
-    let mut vertices = KeyList::new(alloc);
-    let mut search = Search::new(alloc);
-    for edge in edges {
-        let source = vertices.place_of(edge.source as u64)?;
-        let target = vertices.place_of(edge.target as u64)?;
-        search.add(source, target)?;
+impl Graph {
+    /// Adds edges.
+    fn add_all(&mut self, edges: &[Edge]) -> Result<(), Stop> {
+        for edge in edges {
+            self.add(edge)?;
+        }
+        Ok(())
     }
-    search.vertices = vertices.len();
-    Ok(search)
+
+    /// Adds an edge.
+    fn add(&mut self, edge: &Edge) -> Result<(), Stop> {
+        let source = number_of(&mut self.vertices, edge.source as u64)?;
+        let target = number_of(&mut self.vertices, edge.target as u64)?;
+        let number = index(self.edges.len())?;
+        self.edges.push(Ends {
+            source,
+            target,
+            earlier: self.last.get(source),
+        })?;
+        self.last.set(source, number)
+    }
 }
 
 impl Search {
     /// A search of a graph without edges.
     fn new(alloc: Global) -> Self {
         Search {
-            vertices: 0,
-            edges: Vec::new(alloc),
-            last: Column::new(alloc, NONE),
-            met: Column::new(alloc, 0),
-            low: Column::new(alloc, 0),
-            component: Column::new(alloc, NONE),
+            graph: Graph {
+                vertices: KeyList::new(alloc),
+                edges: Vec::new(alloc),
+                last: Column::new(alloc, NONE),
+            },
+            vertices: Vec::new(alloc),
             open: Vec::new(alloc),
             way: Vec::new(alloc),
             count: 0,
@@ -102,21 +135,12 @@ impl Search {
         }
     }
 
-    /// Adds an edge.
-    fn add(&mut self, source: usize, target: usize) -> Result<(), Stop> {
-        let (source, target) = (index(source)?, index(target)?);
-        let edge = index(self.edges.len())?;
-        self.edges.push(Ends {
-            source,
-            target,
-            earlier: self.last.get(source),
-        })?;
-        self.last.set(source, edge)
-    }
-
-    /// Finds all components.
-    fn run(&mut self) -> Result<(), Stop> {
-        for vertex in 0..self.vertices {
+    /// Finds all components of the graph of some edges.
+    fn run(&mut self, edges: &[Edge]) -> Result<(), Stop> {
+        self.graph.add_all(edges)?;
+        let count = self.graph.vertices.len();
+        self.vertices.resize(count, Vertex::UNMET)?;
+        for vertex in 0..count {
             self.visit(index(vertex)?)?;
         }
         Ok(())
@@ -124,115 +148,160 @@ impl Search {
 
     /// Finds the components of the vertices that a vertex leads to.
     fn visit(&mut self, vertex: u32) -> Result<(), Stop> {
-        if self.met.get(vertex) != 0 {
+        if self.vertex(vertex).met != 0 {
             return Ok(());
         }
         self.enter(vertex)?;
-        let most = self.edges.len().saturating_mul(2).saturating_add(2);
+        let most = self.graph.edges.len().saturating_mul(2).saturating_add(2);
         for _ in 0..most {
             let Some(visit) = self.way.pop() else {
-                return Ok(());
+                break;
             };
-            match self.edges.get(visit.edge as usize) {
-                Some(ends) => {
-                    let ends = *ends;
-                    self.way.push(Visit {
-                        vertex: visit.vertex,
-                        edge: ends.earlier,
-                    })?;
-                    self.follow(visit.vertex, ends.target)?;
-                }
-                None => self.leave(visit.vertex)?,
-            }
+            self.go_on(visit)?;
         }
         Ok(())
     }
 
-    /// Goes to a vertex that was not met.
-    fn enter(&mut self, vertex: u32) -> Result<(), Stop> {
-        self.count = self.count.checked_add(1).ok_or(Stop::Limit)?;
-        self.met.set(vertex, self.count)?;
-        self.low.set(vertex, self.count)?;
-        self.open.push(vertex)?;
+    /// Follows the next edge of a vertex, or goes back from it.
+    fn go_on(&mut self, visit: Visit) -> Result<(), Stop> {
+        let Some(ends) = self.graph.edges.get(visit.edge as usize) else {
+            self.leave(visit.vertex);
+            return Ok(());
+        };
+        let Ends {
+            target,
+            earlier,
+            ..
+        } = *ends;
         self.way.push(Visit {
-            vertex,
-            edge: self.last.get(vertex),
+            vertex: visit.vertex,
+            edge: earlier,
+        })?;
+        self.follow(visit.vertex, target)
+    }
+
+    /// What is known of a vertex.
+    fn vertex(&self, number: u32) -> Vertex {
+        match self.vertices.get(number as usize) {
+            Some(vertex) => *vertex,
+            None => Vertex::UNMET,
+        }
+    }
+
+    /// Goes to a vertex that was not met.
+    fn enter(&mut self, number: u32) -> Result<(), Stop> {
+        self.count = self.count.saturating_add(1);
+        if let Some(vertex) = self.vertices.get_mut(number as usize) {
+            vertex.met = self.count;
+            vertex.low = self.count;
+        }
+        self.open.push(number)?;
+        self.way.push(Visit {
+            vertex: number,
+            edge: self.graph.last.get(number),
         })?;
         Ok(())
     }
 
     /// Follows an edge.
-    fn follow(&mut self, vertex: u32, target: u32) -> Result<(), Stop> {
-        if self.met.get(target) == 0 {
+    fn follow(&mut self, source: u32, target: u32) -> Result<(), Stop> {
+        let Vertex { met, component, .. } = self.vertex(target);
+        if met == 0 {
             return self.enter(target);
         }
-        if self.component.get(target) == NONE {
-            let time = self.met.get(target);
-            self.lower(vertex, time)?;
+        if component == NONE {
+            self.lower(source, met);
         }
         Ok(())
     }
 
     /// Notes that a vertex leads back to the vertex that was met at a time.
-    fn lower(&mut self, vertex: u32, time: u32) -> Result<(), Stop> {
-        let low = self.low.get(vertex).min(time);
-        self.low.set(vertex, low)
+    fn lower(&mut self, number: u32, time: u32) {
+        if let Some(vertex) = self.vertices.get_mut(number as usize) {
+            vertex.low = vertex.low.min(time);
+        }
     }
 
     /// Goes back from a vertex whose edges have been followed.
-    fn leave(&mut self, vertex: u32) -> Result<(), Stop> {
-        let low = self.low.get(vertex);
+    fn leave(&mut self, number: u32) {
+        let Vertex { met, low, .. } = self.vertex(number);
         if let Some(before) = self.way.last() {
             let before = before.vertex;
-            self.lower(before, low)?;
+            self.lower(before, low);
         }
-        if low == self.met.get(vertex) {
-            self.close(vertex)?;
+        if low == met {
+            self.close(number);
         }
-        Ok(())
     }
 
     /// Makes a component of the vertices that were met since a vertex.
-    fn close(&mut self, vertex: u32) -> Result<(), Stop> {
+    fn close(&mut self, number: u32) {
         for _ in 0..self.open.len() {
             let Some(member) = self.open.pop() else {
                 break;
             };
-            self.component.set(member, self.components)?;
-            if member == vertex {
+            if let Some(vertex) = self.vertices.get_mut(member as usize) {
+                vertex.component = self.components;
+            }
+            if member == number {
                 break;
             }
         }
-        self.components = self.components.checked_add(1).ok_or(Stop::Limit)?;
-        Ok(())
+        self.components = self.components.saturating_add(1);
     }
 
     /// The number of the component of each vertex.
-    fn numbers(&self, alloc: Global, edges: &[Edge]) -> Result<Column, Stop> {
+    fn numbers(&mut self, alloc: Global, edges: &[Edge]) -> Result<Column, Stop> {
+        self.run(edges)?;
         let mut numbers = Column::new(alloc, NONE);
-        for (ends, edge) in self.edges.iter().zip(edges) {
-            numbers.set(edge.source, self.component.get(ends.source))?;
-            numbers.set(edge.target, self.component.get(ends.target))?;
+        for (ends, edge) in self.graph.edges.iter().zip(edges) {
+            numbers.set(edge.source, self.vertex(ends.source).component)?;
+            numbers.set(edge.target, self.vertex(ends.target).component)?;
         }
         Ok(numbers)
     }
 
     /// The edges of each component that has edges.
-    fn lists(&self, alloc: Global, edges: &[Edge]) -> Result<Vec<Vec<Edge>>, Stop> {
+    fn lists(&mut self, alloc: Global, edges: &[Edge]) -> Result<Vec<Vec<Edge>>, Stop> {
+        self.run(edges)?;
         let mut places = Column::new(alloc, NONE);
+        self.listed(alloc, edges, &mut places)
+    }
+
+    /// The edges of each component that has edges, with a column for the places of their lists.
+    fn listed(
+        &self,
+        alloc: Global,
+        edges: &[Edge],
+        places: &mut Column,
+    ) -> Result<Vec<Vec<Edge>>, Stop> {
         let mut lists = Vec::new(alloc);
-        for (ends, edge) in self.edges.iter().zip(edges) {
-            let component = self.component.get(ends.source);
-            if component == self.component.get(ends.target) {
-                if places.get(component) == NONE {
-                    places.set(component, index(lists.len())?)?;
-                    lists.push(Vec::new(alloc))?;
-                }
-                put(&mut lists, places.get(component), *edge)?;
+        for (ends, edge) in self.graph.edges.iter().zip(edges) {
+            let component = self.vertex(ends.source).component;
+            if component == self.vertex(ends.target).component {
+                let place = place_of(alloc, component, places, &mut lists)?;
+                put(&mut lists, place, *edge)?;
             }
         }
         Ok(lists)
     }
+}
+
+/// The place of the list of a component, which is added if there is none.
+fn place_of(
+    alloc: Global,
+    component: u32,
+    places: &mut Column,
+    lists: &mut Vec<Vec<Edge>>,
+) -> Result<u32, Stop> {
+    let known = places.get(component);
+    if known != NONE {
+        return Ok(known);
+    }
+    let place = index(lists.len())?;
+    places.set(component, place)?;
+    lists.push(Vec::new(alloc))?;
+    Ok(place)
 }
 
 /// Adds an edge to one of some lists.

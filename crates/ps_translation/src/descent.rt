@@ -12,9 +12,10 @@ use crate::components::component_numbers;
 use crate::diagrams::{Diagram, Diagrams};
 use crate::machine::{Arc, Machine, NONE};
 use crate::parity::edges_of;
+use crate::part::Part;
 use crate::product::Product;
-use crate::stop::{Stop, index};
-use ps_keys::{KeyList, KeyMap};
+use crate::stop::{Stop, index, number_of};
+use ps_keys::KeyList;
 use std::alloc::Global;
 
 /// The states of a product by what they accept.
@@ -68,7 +69,6 @@ impl Descent {
         for state in 0..product.machine.rows.len() {
             let state = index(state)?;
             let language = language_of(&mut lists, product, state)?;
-            self.languages.set(state, language)?;
             self.note(language, state)?;
         }
         Ok(())
@@ -76,6 +76,7 @@ impl Descent {
 
     /// Notes a state that accepts something.
     fn note(&mut self, language: u32, state: u32) -> Result<(), Stop> {
+        self.languages.set(state, language)?;
         let known = self.lowest.get(language);
         if known == NONE || self.components.get(state) < self.components.get(known) {
             self.lowest.set(language, state)?;
@@ -103,13 +104,24 @@ impl Descent {
     ) -> Result<Diagram, Stop> {
         let row = machine.row(state);
         let ends = diagrams.ends(row)?;
-        let mut map = KeyMap::new(self.alloc);
-        for end in &ends {
+        let leaves = self.leaves(diagrams, machine, state, &ends)?;
+        diagrams.replaced(row, &ends, &leaves)
+    }
+
+    /// For each end of the row of a state, the leaf of where it leads.
+    fn leaves(
+        &mut self,
+        diagrams: &mut Diagrams,
+        machine: &Machine,
+        state: u32,
+        ends: &[Diagram],
+    ) -> Result<Vec<Diagram>, Stop> {
+        let mut leaves = Vec::new(self.alloc);
+        for end in ends {
             let arc = self.lowered(state, machine.arc(diagrams, *end));
-            let leaf = self.made.leaf(diagrams, arc)?;
-            map.put(*end as u64, leaf)?;
+            leaves.push(self.made.leaf(diagrams, arc)?)?;
         }
-        diagrams.replaced(row, &map)
+        Ok(leaves)
     }
 
     /// Where an arc from a state leads.
@@ -133,9 +145,19 @@ fn language_of(
 ) -> Result<u32, Stop> {
     let (condition, list) = product.state(state)?;
     let states = product.states_of(list)?;
-    let mut made = index(lists.place_of((condition, NONE))?)?;
-    for (part, state) in product.parts.iter().zip(&states) {
-        made = index(lists.place_of((part.lasting(*state)?, made))?)?;
+    list_of(lists, &product.parts, condition, &states)
+}
+
+/// The number of the list of a condition and what is owed in states of parts.
+fn list_of(
+    lists: &mut KeyList<(u32, u32)>,
+    parts: &[Part],
+    condition: Diagram,
+    states: &[u32],
+) -> Result<u32, Stop> {
+    let mut list = number_of(lists, (condition, NONE))?;
+    for (part, state) in parts.iter().zip(states) {
+        list = number_of(lists, (part.lasting(*state)?, list))?;
     }
-    Ok(made)
+    Ok(list)
 }

@@ -8,7 +8,8 @@
 //!
 //! Each step of an operation is taken from a budget; an operation on diagrams stops where the budget ends.
 
-use crate::stop::{Stop, index};
+use crate::met::Met;
+use crate::stop::{Stop, index, number_of};
 use ps_keys::{KeyList, KeyMap};
 use std::alloc::Global;
 
@@ -63,6 +64,29 @@ pub(crate) struct Sides {
     pub(crate) high: Diagram,
 }
 
+/// A choice: the diagram that is `one` where `truth` is true, and `other` elsewhere.
+#[derive(Clone, Copy)]
+struct Choice {
+    truth: Diagram,
+    one: Diagram,
+    other: Diagram,
+}
+
+/// The ends of a row, as far as its nodes were met.
+#[derive(Drop)]
+struct Ends {
+    met: Met,
+    list: Vec<Diagram>,
+}
+
+impl Ends {
+    /// The list of the ends.
+    fn into_list(self) -> Vec<Diagram> {
+        let Ends { list, .. } = self;
+        list
+    }
+}
+
 /// Diagrams, equal ones of which are one node.
 #[derive(Drop)]
 pub(crate) struct Diagrams {
@@ -82,18 +106,18 @@ pub(crate) struct Diagrams {
 impl Diagrams {
     /// The constant diagrams.
     pub(crate) fn new(alloc: Global) -> Result<Self, Stop> {
-        let mut nodes = KeyList::new(alloc);
-        nodes.place_of((LEAF, 0, 0))?;
-        nodes.place_of((LEAF, 1, 1))?;
-        nodes.place_of((LEAF, u32::MAX, u32::MAX))?;
-        Ok(Diagrams {
+        let mut diagrams = Diagrams {
             alloc,
-            nodes,
+            nodes: KeyList::new(alloc),
             choices: KeyMap::new(alloc),
             pairings: KeyMap::new(alloc),
             pairs: KeyList::new(alloc),
             steps: STEPS,
-        })
+        };
+        for number in [0, 1, u32::MAX] {
+            diagrams.leaf(number)?;
+        }
+        Ok(diagrams)
     }
 
     /// Takes a step from the budget.
@@ -111,8 +135,7 @@ impl Diagrams {
 
     /// The diagram that has a number at each letter.
     pub(crate) fn leaf(&mut self, number: u32) -> Result<Diagram, Stop> {
-        let place = self.nodes.place_of((LEAF, number, number))?;
-        index(place)
+        number_of(&mut self.nodes, (LEAF, number, number))
     }
 
     /// The diagram of a test.
@@ -121,8 +144,7 @@ impl Diagrams {
             return Ok(test.low);
         }
         self.step()?;
-        let place = self.nodes.place_of((test.variable, test.low, test.high))?;
-        index(place)
+        number_of(&mut self.nodes, (test.variable, test.low, test.high))
     }
 
     /// The diagram that is true where a variable is.
@@ -181,43 +203,65 @@ impl Diagrams {
         one: Diagram,
         other: Diagram,
     ) -> Result<Diagram, Stop> {
-        self.chosen(DEPTH, truth, one, other)
+        self.chosen(DEPTH, Choice { truth, one, other })
     }
 
-    /// Like `choose`, at a depth.
-    fn chosen(
-        &mut self,
-        depth: u32,
-        truth: Diagram,
-        one: Diagram,
-        other: Diagram,
-    ) -> Result<Diagram, Stop> {
-        if let Some(known) = self.chosen_at_once(truth, one, other) {
+    /// The result of a choice, at a depth.
+    fn chosen(&mut self, depth: u32, choice: Choice) -> Result<Diagram, Stop> {
+        if let Some(known) = self.chosen_at_once(choice) {
             return Ok(known);
         }
         if depth == 0 {
             return Err(Stop::Limit);
         }
-        let variable = self
-            .level(truth)
-            .min(self.level(one))
-            .min(self.level(other));
-        let test = self.sides(truth, variable);
-        let left = self.sides(one, variable);
-        let right = self.sides(other, variable);
-        let low = self.chosen(depth - 1, test.low, left.low, right.low)?;
-        let high = self.chosen(depth - 1, test.high, left.high, right.high)?;
-        let made = self.test(Test {
+        let variable = self.first_variable(choice);
+        let (low, high) = self.parted(choice, variable);
+        let low = self.chosen(depth - 1, low)?;
+        let high = self.chosen(depth - 1, high)?;
+        let test = Test {
             variable,
             low,
             high,
-        })?;
+        };
+        self.keep_choice(choice, test)
+    }
+
+    /// Notes that the result of a choice is a test, and returns it.
+    fn keep_choice(&mut self, choice: Choice, test: Test) -> Result<Diagram, Stop> {
+        let made = self.test(test)?;
+        let Choice { truth, one, other } = choice;
         self.choices.put((truth, one, other), made)?;
         Ok(made)
     }
 
+    /// The first variable that a diagram of a choice tests.
+    fn first_variable(&self, choice: Choice) -> u32 {
+        self.level(choice.truth)
+            .min(self.level(choice.one))
+            .min(self.level(choice.other))
+    }
+
+    /// The choices where a variable is false and where it is true; no diagram tests a variable before it.
+    fn parted(&self, choice: Choice, variable: u32) -> (Choice, Choice) {
+        let truth = self.sides(choice.truth, variable);
+        let one = self.sides(choice.one, variable);
+        let other = self.sides(choice.other, variable);
+        let low = Choice {
+            truth: truth.low,
+            one: one.low,
+            other: other.low,
+        };
+        let high = Choice {
+            truth: truth.high,
+            one: one.high,
+            other: other.high,
+        };
+        (low, high)
+    }
+
     /// The result of a choice, if it is known without looking further down.
-    fn chosen_at_once(&self, truth: Diagram, one: Diagram, other: Diagram) -> Option<Diagram> {
+    fn chosen_at_once(&self, choice: Choice) -> Option<Diagram> {
+        let Choice { truth, one, other } = choice;
         if truth == TRUE || one == other {
             return Some(one);
         }
@@ -228,6 +272,17 @@ impl Diagrams {
             return Some(truth);
         }
         self.choices.get((truth, one, other))
+    }
+
+    /// The diagram that is `low` where a variable is false, and `high` where it is true.
+    pub(crate) fn split(
+        &mut self,
+        variable: u32,
+        low: Diagram,
+        high: Diagram,
+    ) -> Result<Diagram, Stop> {
+        let truth = self.variable(variable)?;
+        self.choose(truth, high, low)
     }
 
     /// The conjunction.
@@ -258,10 +313,7 @@ impl Diagrams {
 
     /// Like `paired`, at a depth.
     fn paired_at(&mut self, depth: u32, first: Diagram, second: Diagram) -> Result<Diagram, Stop> {
-        if first == REFUSED || second == REFUSED {
-            return Ok(REFUSED);
-        }
-        if let Some(known) = self.pairings.get((first, second)) {
+        if let Some(known) = self.paired_at_once(first, second) {
             return Ok(known);
         }
         if depth == 0 || (self.is_end(first) && self.is_end(second)) {
@@ -272,11 +324,30 @@ impl Diagrams {
         let right = self.sides(second, variable);
         let low = self.paired_at(depth - 1, left.low, right.low)?;
         let high = self.paired_at(depth - 1, left.high, right.high)?;
-        let made = self.test(Test {
+        let test = Test {
             variable,
             low,
             high,
-        })?;
+        };
+        self.keep_pairing(first, second, test)
+    }
+
+    /// The row of a pairing, if it is known without looking further down.
+    fn paired_at_once(&self, first: Diagram, second: Diagram) -> Option<Diagram> {
+        if first == REFUSED || second == REFUSED {
+            return Some(REFUSED);
+        }
+        self.pairings.get((first, second))
+    }
+
+    /// Notes that the row of a pairing is a test, and returns it.
+    fn keep_pairing(
+        &mut self,
+        first: Diagram,
+        second: Diagram,
+        test: Test,
+    ) -> Result<Diagram, Stop> {
+        let made = self.test(test)?;
         self.pairings.put((first, second), made)?;
         Ok(made)
     }
@@ -284,73 +355,83 @@ impl Diagrams {
     /// The leaf of a pair of ends.
     fn paired_ends(&mut self, first: Diagram, second: Diagram) -> Result<Diagram, Stop> {
         self.step()?;
-        let place = self.pairs.place_of((first, second))?;
-        let number = index(place)?;
+        let number = number_of(&mut self.pairs, (first, second))?;
         self.leaf(number)
     }
 
-    /// The two ends whose pair has a number.
-    pub(crate) fn pair(&self, number: u32) -> Result<(Diagram, Diagram), Stop> {
-        self.pairs
-            .as_slice()
-            .get(number as usize)
-            .copied()
-            .ok_or(Stop::Limit)
+    /// The two ends for whose pair an end of a paired row stands.
+    pub(crate) fn pair(&self, end: Diagram) -> Result<(Diagram, Diagram), Stop> {
+        match self.view(end) {
+            View::Leaf(number) => {
+                let pair = self.pairs.as_slice().get(number as usize);
+                pair.copied().ok_or(Stop::Limit)
+            }
+            View::Test(_) => Err(Stop::Limit),
+        }
     }
 
     /// The ends of a row but for `REFUSED`, each once.
     pub(crate) fn ends(&self, row: Diagram) -> Result<Vec<Diagram>, Stop> {
-        let mut met = KeyList::new(self.alloc);
-        let mut ends = Vec::new(self.alloc);
-        met.place_of(row as u64)?;
+        let mut ends = Ends {
+            met: Met::new(self.alloc),
+            list: Vec::new(self.alloc),
+        };
+        self.add_ends(&mut ends, row)?;
+        Ok(ends.into_list())
+    }
+
+    /// Adds the ends of a row, none of whose nodes was met.
+    fn add_ends(&self, ends: &mut Ends, row: Diagram) -> Result<(), Stop> {
+        ends.met.add(row)?;
         for place in 0..STEPS as usize {
-            let Some(node) = met.as_slice().get(place) else {
+            let Some(node) = ends.met.at(place) else {
                 break;
             };
-            let node = u32::try_from(*node).unwrap_or(REFUSED);
-            match self.view(node) {
-                View::Test(test) if test.variable < PROPOSITIONS => {
-                    met.place_of(test.low as u64)?;
-                    met.place_of(test.high as u64)?;
-                }
-                _ => {
-                    if node != REFUSED {
-                        ends.push(node)?;
-                    }
-                }
-            }
+            self.look_at(ends, node)?;
         }
-        Ok(ends)
+        Ok(())
+    }
+
+    /// Adds a node if it is an end, and else meets its sides.
+    fn look_at(&self, ends: &mut Ends, node: Diagram) -> Result<(), Stop> {
+        match self.view(node) {
+            View::Test(test) if test.variable < PROPOSITIONS => {
+                ends.met.add_both(test.low, test.high)
+            }
+            _ if node == REFUSED => Ok(()),
+            _ => Ok(ends.list.push(node)?),
+        }
     }
 
     /// The variables that a diagram depends on, of the first 64, one bit for each.
     pub(crate) fn support(&self, diagram: Diagram) -> Result<u64, Stop> {
-        let mut met = KeyList::new(self.alloc);
+        let mut met = Met::new(self.alloc);
         let mut support = 0;
-        met.place_of(diagram as u64)?;
+        met.add(diagram)?;
         for place in 0..NODES {
-            let Some(node) = met.as_slice().get(place) else {
+            let Some(node) = met.at(place) else {
                 return Ok(support);
             };
-            let node = u32::try_from(*node).unwrap_or(FALSE);
             if let View::Test(test) = self.view(node) {
                 support |= 1u64.checked_shl(test.variable).unwrap_or(0);
-                met.place_of(test.low as u64)?;
-                met.place_of(test.high as u64)?;
+                met.add_both(test.low, test.high)?;
             }
         }
         Err(Stop::Limit)
     }
 
-    /// The row in which each end is replaced by the diagram that a map gives it; `REFUSED` stays, as does an end that
-    /// the map lacks.
+    /// The row in which each of its ends is replaced by the diagram at the same place of a list; `REFUSED` stays.
     pub(crate) fn replaced(
         &mut self,
         row: Diagram,
-        map: &KeyMap<u64, Diagram>,
+        ends: &[Diagram],
+        made: &[Diagram],
     ) -> Result<Diagram, Stop> {
         let mut known = KeyMap::new(self.alloc);
-        self.replaced_at(PROPOSITIONS, row, map, &mut known)
+        for (end, made) in ends.iter().zip(made) {
+            known.put(*end as u64, *made)?;
+        }
+        self.replaced_at(PROPOSITIONS, row, &mut known)
     }
 
     /// Like `replaced`, at a depth, with the results for the nodes that were met.
@@ -358,18 +439,17 @@ impl Diagrams {
         &mut self,
         depth: u32,
         row: Diagram,
-        map: &KeyMap<u64, Diagram>,
         known: &mut KeyMap<u64, Diagram>,
     ) -> Result<Diagram, Stop> {
-        let test = match self.view(row) {
-            View::Test(test) if test.variable < PROPOSITIONS && depth > 0 => test,
-            _ => return Ok(map.get(row as u64).unwrap_or(row)),
-        };
         if let Some(made) = known.get(row as u64) {
             return Ok(made);
         }
-        let low = self.replaced_at(depth - 1, test.low, map, known)?;
-        let high = self.replaced_at(depth - 1, test.high, map, known)?;
+        let test = match self.view(row) {
+            View::Test(test) if test.variable < PROPOSITIONS && depth > 0 => test,
+            _ => return Ok(row),
+        };
+        let low = self.replaced_at(depth - 1, test.low, known)?;
+        let high = self.replaced_at(depth - 1, test.high, known)?;
         let made = self.test(Test {
             variable: test.variable,
             low,

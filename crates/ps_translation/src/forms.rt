@@ -7,6 +7,7 @@
 //! safety and no guarantee, a limit comes out of `U` and `R`, `F G f && F G g` is `F G (f && g)`, and so is
 //! `F (G f && G g)`.
 
+use crate::met::Met;
 use crate::stop::{Stop, index};
 use ps_formula::{Node, NormalNode};
 use ps_keys::KeyList;
@@ -77,6 +78,31 @@ impl Class {
 pub(crate) struct Sides {
     pub(crate) left: Form,
     pub(crate) right: Form,
+}
+
+/// The operands of a conjunction, as far as they were found.
+#[derive(Drop)]
+struct Operands {
+    found: Vec<Form>,
+    /// The formulas that are looked at next, the last one first.
+    pending: Vec<Form>,
+}
+
+impl Operands {
+    /// Adds a formula, or makes its operands pending if it is a conjunction.
+    fn add(&mut self, form: Form, node: NormalNode) -> Result<(), Stop> {
+        match node {
+            NormalNode::And(f, g) => self.pending.extend_from_slice(&[g, f])?,
+            _ => self.found.push(form)?,
+        }
+        Ok(())
+    }
+
+    /// The operands that were found.
+    fn into_list(self) -> Vec<Form> {
+        let Operands { found, .. } = self;
+        found
+    }
 }
 
 /// A table of formulas.
@@ -445,38 +471,36 @@ impl Forms {
 
     /// The operands of a conjunction of any number of formulas, or a formula that is none, as the only one.
     pub(crate) fn operands(&self, form: Form) -> Result<Vec<Form>, Stop> {
-        let mut pending = Vec::new(self.alloc);
-        let mut operands = Vec::new(self.alloc);
-        pending.push(form)?;
+        let mut operands = Operands {
+            found: Vec::new(self.alloc),
+            pending: Vec::new(self.alloc),
+        };
+        operands.pending.push(form)?;
         for _ in 0..2 * OPERANDS {
-            let Some(next) = pending.pop() else {
-                return Ok(operands);
+            let Some(next) = operands.pending.pop() else {
+                return Ok(operands.into_list());
             };
-            if let NormalNode::And(f, g) = self.node(next) {
-                pending.push(g)?;
-                pending.push(f)?;
-            } else {
-                operands.push(next)?;
-            }
+            operands.add(next, self.node(next))?;
         }
         Err(Stop::Limit)
     }
 
     /// A formula and the formulas inside it, operands first.
     pub(crate) fn below(&self, form: Form) -> Result<Vec<Form>, Stop> {
-        let mut met = KeyList::new(self.alloc);
-        met.place_of(form as u64)?;
-        let mut below = Vec::new(self.alloc);
+        let mut met = Met::new(self.alloc);
+        self.meet_below(&mut met, form)?;
+        met.sorted(self.alloc)
+    }
+
+    /// Meets a formula and the formulas inside it.
+    fn meet_below(&self, met: &mut Met, form: Form) -> Result<(), Stop> {
+        met.add(form)?;
         for place in 0..FORMULAS {
-            let Some(next) = met.as_slice().get(place) else {
-                below.sort_unstable();
-                return Ok(below);
+            let Some(next) = met.at(place) else {
+                return Ok(());
             };
-            let next = u32::try_from(*next).map_err(|_error| Stop::Limit)?;
-            below.push(next)?;
             let Sides { left, right } = self.sides(next);
-            met.place_of(left as u64)?;
-            met.place_of(right as u64)?;
+            met.add_both(left, right)?;
         }
         Err(Stop::Limit)
     }

@@ -15,7 +15,8 @@
 //! between its components lead as far down as they can (`descent`), and the alternating cycle decomposition (`cycles`,
 //! with `components`, `loops`, `nested`, `turns`) makes the condition a parity condition (`parity`). States that cannot
 //! be told apart are joined (`quotient`, with `classes`, `sources` and `renumbering`), and named by what they owe
-//! (`owing`, `names`). Labels are written as short sums of products (`letters`, `cover`, `labels`, `text`).
+//! (`owing`, `names`). The text (`text`, with `header` and `output`) has short sums of products as labels (`letters`,
+//! `cover`, `labels`).
 #![tactic(auto)]
 
 mod column;
@@ -25,6 +26,7 @@ mod descent;
 mod diagrams;
 mod forms;
 mod machine;
+mod met;
 mod owing;
 mod parity;
 mod part;

@@ -25,9 +25,14 @@ pub(crate) fn standing(
     product: &mut Product,
 ) -> Result<KeyList<u64>, Stop> {
     let first = owing_in(alloc, world, product, 0)?;
+    always_owed(alloc, &world.forms, &first)
+}
+
+/// The formulas `G f` of what is owed.
+fn always_owed(alloc: Global, forms: &Forms, owing: &Owing) -> Result<KeyList<u64>, Stop> {
     let mut standing = KeyList::new(alloc);
-    for form in first.owed.iter().chain(&first.given) {
-        if let NormalNode::Release(FALSE, _) = world.forms.node(*form) {
+    for form in owing.owed.iter().chain(&owing.given) {
+        if let NormalNode::Release(FALSE, _) = forms.node(*form) {
             standing.place_of(*form as u64)?;
         }
     }
@@ -45,13 +50,23 @@ pub(crate) fn owing_in(
         owed: Vec::new(alloc),
         given: Vec::new(alloc),
     };
-    let (condition, list) = product.state(state)?;
-    let states = product.states_of(list)?;
-    owing.add_states(world, product, condition, &states)?;
+    owing.add_state(world, product, state)?;
     Ok(owing)
 }
 
 impl Owing {
+    /// Adds what is owed in a state.
+    fn add_state(
+        &mut self,
+        world: &mut Progression,
+        product: &mut Product,
+        state: u32,
+    ) -> Result<(), Stop> {
+        let (condition, list) = product.state(state)?;
+        let states = product.states_of(list)?;
+        self.add_states(world, product, condition, &states)
+    }
+
     /// Adds what the parts owe on which a condition depends.
     fn add_states(
         &mut self,

@@ -9,7 +9,8 @@
 
 use crate::diagrams::{DEPTH, Diagram, Diagrams, FALSE, PROPOSITIONS, TRUE, View};
 use crate::forms::{self, Form, Forms};
-use crate::stop::{Stop, index};
+use crate::met::Met;
+use crate::stop::{Stop, number_of};
 use ps_formula::NormalNode;
 use ps_keys::{KeyList, KeyMap};
 use std::alloc::Global;
@@ -135,8 +136,7 @@ impl Progression {
         let high = self.settled_at(depth - 1, test.high)?;
         let made = if self.forms.class(atom).is_guarantee {
             let low = self.settled_at(depth - 1, test.low)?;
-            let truth = self.diagrams.variable(test.variable)?;
-            self.diagrams.choose(truth, high, low)?
+            self.diagrams.split(test.variable, low, high)?
         } else {
             high
         };
@@ -189,7 +189,9 @@ impl Progression {
         }
         let below = self.unknown_below(form)?;
         for each in &below {
-            self.add(*each)?;
+            if self.moments.get(*each as u64).is_none() {
+                self.add(*each)?;
+            }
         }
         self.known(form)
     }
@@ -199,23 +201,24 @@ impl Progression {
         self.moments.get(form as u64).ok_or(Stop::Limit)
     }
 
-    /// A formula and the formulas below it whose diagrams are not made, operands first.
+    /// A formula and the formulas below it as far as their diagrams are not made, operands first; and the operands of
+    /// those.
     fn unknown_below(&self, form: Form) -> Result<Vec<Form>, Stop> {
-        let mut met = KeyList::new(self.alloc);
-        met.place_of(form as u64)?;
-        let mut below = Vec::new(self.alloc);
+        let mut met = Met::new(self.alloc);
+        self.meet_unknown(&mut met, form)?;
+        met.sorted(self.alloc)
+    }
+
+    /// Meets these formulas.
+    fn meet_unknown(&self, met: &mut Met, form: Form) -> Result<(), Stop> {
+        met.add(form)?;
         for place in 0..FORMULAS {
-            let Some(next) = met.as_slice().get(place) else {
-                below.sort_unstable();
-                return Ok(below);
+            let Some(next) = met.at(place) else {
+                return Ok(());
             };
-            let next = *next;
-            if self.moments.get(next).is_none() {
-                let next = u32::try_from(next).map_err(|_error| Stop::Limit)?;
-                below.push(next)?;
+            if self.moments.get(next as u64).is_none() {
                 let sides = self.forms.sides(next);
-                met.place_of(sides.left as u64)?;
-                met.place_of(sides.right as u64)?;
+                met.add_both(sides.left, sides.right)?;
             }
         }
         Err(Stop::Limit)
@@ -223,18 +226,23 @@ impl Progression {
 
     /// Makes the diagrams of a formula, from those of its operands.
     fn add(&mut self, form: Form) -> Result<(), Stop> {
-        let moment = match self.forms.node(form) {
-            NormalNode::Constant(value) => constant(value),
-            NormalNode::Proposition(p) => self.literal(form, p, true)?,
-            NormalNode::Negated(p) => self.literal(form, p, false)?,
-            NormalNode::And(f, g) => self.both(f, g)?,
-            NormalNode::Or(f, g) => self.either(f, g)?,
-            NormalNode::Next(f) => self.next(form, f)?,
-            NormalNode::Until(f, g) => self.until(form, f, g)?,
-            NormalNode::Release(f, g) => self.release(form, f, g)?,
-        };
+        let moment = self.made_moment(form)?;
         self.moments.put(form as u64, moment)?;
         Ok(())
+    }
+
+    /// The diagrams of a formula, from those of its operands.
+    fn made_moment(&mut self, form: Form) -> Result<Moment, Stop> {
+        match self.forms.node(form) {
+            NormalNode::Constant(value) => Ok(constant(value)),
+            NormalNode::Proposition(p) => self.literal(form, p, true),
+            NormalNode::Negated(p) => self.literal(form, p, false),
+            NormalNode::And(f, g) => self.both(f, g),
+            NormalNode::Or(f, g) => self.either(f, g),
+            NormalNode::Next(f) => self.next(form, f),
+            NormalNode::Until(f, g) => self.until(form, f, g),
+            NormalNode::Release(f, g) => self.release(form, f, g),
+        }
     }
 
     /// The diagram of an atom that is owed. Of two atoms that are the negations of one another, and depend on finitely
@@ -242,8 +250,8 @@ impl Progression {
     fn owed_atom(&mut self, form: Form) -> Result<Diagram, Stop> {
         let is_negated = form & 1 == 1 && self.forms.class(form).is_bounded();
         let atom = if is_negated { form ^ 1 } else { form };
-        let place = self.atoms.place_of(atom as u64)?;
-        let variable = index(place)?.checked_add(PROPOSITIONS).ok_or(Stop::Limit)?;
+        let place = number_of(&mut self.atoms, atom as u64)?;
+        let variable = place.checked_add(PROPOSITIONS).ok_or(Stop::Limit)?;
         let owed = self.diagrams.variable(variable)?;
         if is_negated {
             self.diagrams.negated(owed)

@@ -12,21 +12,21 @@ pub mod sources;
 
 use crate::column::Column;
 use crate::diagrams::{Diagram, Diagrams};
-use crate::machine::Machine;
+use crate::machine::{Machine, NONE};
 use crate::quotient::classes::Classes;
 use crate::quotient::renumbering::Renumbering;
 use crate::quotient::sources::{Sources, sources_of};
-use crate::stop::{Stop, index};
-use ps_keys::{KeyList, KeyMap};
+use crate::stop::{Stop, index, number_of};
+use ps_keys::KeyList;
 use std::alloc::Global;
 
-/// A part of a class: states that are to be told apart from the others.
+/// Parts of classes: states that are to be told apart from the others.
 #[derive(Drop)]
 struct Groups {
     /// The old class of each group, and what its states lead to.
     keys: KeyList<(u32, u32)>,
     /// How many states each group has.
-    sizes: Vec<u32>,
+    sizes: Column,
     /// The group of each state that was looked at.
     numbers: Vec<u32>,
 }
@@ -43,6 +43,15 @@ struct Share {
 }
 
 impl Share {
+    /// Adds a group with some states.
+    fn add(&mut self, group: u32, size: u32) {
+        self.total = self.total.saturating_add(size);
+        if size > self.size {
+            self.group = group;
+            self.size = size;
+        }
+    }
+
     /// Whether the largest group keeps the number of the class: it is no smaller than the part that was not looked at.
     fn is_kept(&self, classes: &Classes) -> bool {
         self.size >= self.rest(classes)
@@ -54,9 +63,43 @@ impl Share {
     }
 }
 
+/// The classes of some groups.
+#[derive(Drop)]
+struct Shares {
+    classes: KeyList<u64>,
+    list: Vec<Share>,
+}
+
+impl Shares {
+    /// The list of the classes.
+    fn into_list(self) -> Vec<Share> {
+        let Shares { list, .. } = self;
+        list
+    }
+
+    /// Adds a group with some states to the share of its class.
+    fn add(&mut self, class: u32, group: u32, size: u32) -> Result<(), Stop> {
+        let place = self.classes.place_of(class as u64)?;
+        if place >= self.list.len() {
+            self.list.push(Share {
+                class,
+                total: 0,
+                group,
+                size: 0,
+            })?;
+        }
+        if let Some(share) = self.list.get_mut(place) {
+            share.add(group, size);
+        }
+        Ok(())
+    }
+}
+
 /// The classes as states of an automaton.
 #[derive(Drop)]
 struct Numbering {
+    /// The classes, in the order of their first states.
+    classes: KeyList<u64>,
     /// The class of each state.
     numbers: Column,
     /// The first state of each class.
@@ -94,35 +137,50 @@ fn divided(alloc: Global, diagrams: &mut Diagrams, machine: &Machine) -> Result<
         round: 0,
         arcs: Machine::new(alloc),
     };
-    division.run(diagrams, machine)?;
-    numbered(alloc, machine, &division.classes)
+    let numbering = division.numbering(diagrams, machine);
+    drop(division);
+    numbering
 }
 
 impl Division {
+    /// The classes, once all states are divided.
+    fn numbering(&mut self, diagrams: &mut Diagrams, machine: &Machine) -> Result<Numbering, Stop> {
+        self.run(diagrams, machine)?;
+        numbered(self.alloc, machine, &self.classes)
+    }
+
     /// Divides the states, in rounds.
     fn run(&mut self, diagrams: &mut Diagrams, machine: &Machine) -> Result<(), Stop> {
         let sources = sources_of(self.alloc, diagrams, machine)?;
-        let mut pending = self.begin(machine)?;
-        for _ in 0..=machine.rows.len() {
-            if pending.is_empty() {
-                break;
-            }
-            pending = self.divide(diagrams, machine, &sources, &pending)?;
+        self.begin(machine)?;
+        self.divide_all(diagrams, machine, &sources)
+    }
+
+    /// Makes a class of each kind.
+    fn begin(&mut self, machine: &Machine) -> Result<(), Stop> {
+        let mut kinds = KeyList::new(self.alloc);
+        for (state, kind) in machine.kinds.iter().enumerate() {
+            let class = number_of(&mut kinds, *kind as u64)?;
+            self.classes.put(index(state)?, class)?;
         }
         Ok(())
     }
 
-    /// Makes a class of each kind, and returns all states.
-    fn begin(&mut self, machine: &Machine) -> Result<Vec<u32>, Stop> {
-        let mut kinds = KeyList::new(self.alloc);
-        let mut states = Vec::new(self.alloc);
-        for (state, kind) in machine.kinds.iter().enumerate() {
-            let state = index(state)?;
-            let class = index(kinds.place_of(*kind as u64)?)?;
-            self.classes.put(state, class)?;
-            states.push(state)?;
+    /// Divides classes until no state leaves its class.
+    fn divide_all(
+        &mut self,
+        diagrams: &mut Diagrams,
+        machine: &Machine,
+        sources: &Sources,
+    ) -> Result<(), Stop> {
+        let mut pending = states_of(self.alloc, machine)?;
+        for _ in 0..=machine.rows.len() {
+            if pending.is_empty() {
+                break;
+            }
+            pending = self.divide(diagrams, machine, sources, &pending)?;
         }
-        Ok(states)
+        Ok(())
     }
 
     /// Divides the classes of some states, and returns the states that lead to those that left their classes.
@@ -134,8 +192,9 @@ impl Division {
         pending: &[u32],
     ) -> Result<Vec<u32>, Stop> {
         let groups = self.grouped(diagrams, machine, pending)?;
-        let left = self.parted(pending, &groups)?;
-        self.next(sources, &left)
+        let left = self.parted(pending, &groups);
+        drop(groups);
+        self.next(sources, &left?)
     }
 
     /// Gives the groups of some states their numbers, and returns the states that left their classes.
@@ -143,10 +202,7 @@ impl Division {
         let shares = self.shares(groups)?;
         let numbers = self.numbers(groups, &shares)?;
         let mut left = Vec::new(self.alloc);
-        for share in &shares {
-            self.leave_behind(*share, &mut left)?;
-        }
-        self.leave(pending, groups, &numbers, &mut left)?;
+        self.leave(pending, groups, &shares, &numbers, &mut left)?;
         Ok(left)
     }
 
@@ -157,13 +213,25 @@ impl Division {
         machine: &Machine,
         pending: &[u32],
     ) -> Result<Groups, Stop> {
+        self.round = self.round.saturating_add(1);
         let mut groups = Groups {
             keys: KeyList::new(self.alloc),
-            sizes: Vec::new(self.alloc),
+            sizes: Column::new(self.alloc, 0),
             numbers: Vec::new(self.alloc),
         };
+        self.group_all(&mut groups, diagrams, machine, pending)?;
+        Ok(groups)
+    }
+
+    /// Adds states to their groups.
+    fn group_all(
+        &mut self,
+        groups: &mut Groups,
+        diagrams: &mut Diagrams,
+        machine: &Machine,
+        pending: &[u32],
+    ) -> Result<(), Stop> {
         let mut renumbering = Renumbering::new(self.alloc);
-        self.round = self.round.saturating_add(1);
         for state in pending {
             let numbers = &self.classes.numbers;
             let class = numbers.get(*state);
@@ -171,47 +239,56 @@ impl Division {
             groups.add(class, row)?;
             self.rounds.set(*state, self.round)?;
         }
-        Ok(groups)
+        Ok(())
     }
 
     /// The classes of some groups.
     fn shares(&self, groups: &Groups) -> Result<Vec<Share>, Stop> {
-        let mut places = KeyList::new(self.alloc);
-        let mut shares = Vec::new(self.alloc);
+        let mut shares = Shares {
+            classes: KeyList::new(self.alloc),
+            list: Vec::new(self.alloc),
+        };
         for (group, (class, _)) in groups.keys.as_slice().iter().enumerate() {
-            let count = places.len();
-            let place = places.place_of(*class as u64)?;
             let group = index(group)?;
-            if place == count {
-                shares.push(Share {
-                    class: *class,
-                    total: 0,
-                    group,
-                    size: 0,
-                })?;
-            }
-            add_group(&mut shares, place, group, groups.size(group));
+            shares.add(*class, group, groups.sizes.get(group))?;
         }
-        Ok(shares)
+        Ok(shares.into_list())
     }
 
     /// The new class of each group, which is the old one if the group keeps it.
-    fn numbers(&mut self, groups: &Groups, shares: &[Share]) -> Result<Vec<u32>, Stop> {
-        let mut kept = KeyMap::new(self.alloc);
+    fn numbers(&mut self, groups: &Groups, shares: &[Share]) -> Result<Column, Stop> {
+        let mut numbers = Column::new(self.alloc, NONE);
         for share in shares {
             if share.is_kept(&self.classes) {
-                kept.put(share.group as u64, share.class)?;
+                numbers.set(share.group, share.class)?;
             }
         }
-        let mut numbers = Vec::new(self.alloc);
-        for group in 0..groups.sizes.len() {
-            let number = match kept.get(group as u64) {
-                Some(class) => class,
-                None => self.classes.added()?,
-            };
-            numbers.push(number)?;
+        for group in 0..groups.keys.len() {
+            let group = index(group)?;
+            if numbers.get(group) == NONE {
+                numbers.set(group, self.classes.added()?)?;
+            }
         }
         Ok(numbers)
+    }
+
+    /// States leave their classes: those that were not looked at, if a group keeps the number of the class, and those
+    /// of all other groups.
+    fn leave(
+        &mut self,
+        pending: &[u32],
+        groups: &Groups,
+        shares: &[Share],
+        numbers: &Column,
+        left: &mut Vec<u32>,
+    ) -> Result<(), Stop> {
+        for share in shares {
+            self.leave_behind(*share, left)?;
+        }
+        for (state, group) in pending.iter().zip(&groups.numbers) {
+            self.transfer(*state, numbers.get(*group), left)?;
+        }
+        Ok(())
     }
 
     /// If a group keeps the number of its class, the states of the class that were not looked at leave it.
@@ -223,27 +300,17 @@ impl Division {
         let class = self.classes.added()?;
         for state in &states {
             if self.rounds.get(*state) != self.round {
-                self.classes.transfer(*state, class)?;
-                left.push(*state)?;
+                self.transfer(*state, class, left)?;
             }
         }
         Ok(())
     }
 
-    /// The states of groups that do not keep the numbers of their classes leave them.
-    fn leave(
-        &mut self,
-        pending: &[u32],
-        groups: &Groups,
-        numbers: &[u32],
-        left: &mut Vec<u32>,
-    ) -> Result<(), Stop> {
-        for (state, group) in pending.iter().zip(&groups.numbers) {
-            let class = numbers.get(*group as usize).copied().ok_or(Stop::Limit)?;
-            if class != self.classes.numbers.get(*state) {
-                self.classes.transfer(*state, class)?;
-                left.push(*state)?;
-            }
+    /// Moves a state to a class, unless it is there, and notes that it left its own.
+    fn transfer(&mut self, state: u32, class: u32, left: &mut Vec<u32>) -> Result<(), Stop> {
+        if class != self.classes.numbers.get(state) {
+            self.classes.transfer(state, class)?;
+            left.push(state)?;
         }
         Ok(())
     }
@@ -253,70 +320,70 @@ impl Division {
         let mut pending = Vec::new(self.alloc);
         self.round = self.round.saturating_add(1);
         for state in left {
-            for source in &sources.of(self.alloc, *state)? {
-                if self.rounds.get(*source) != self.round {
-                    self.rounds.set(*source, self.round)?;
-                    pending.push(*source)?;
-                }
-            }
+            self.add_sources(sources, *state, &mut pending)?;
         }
         Ok(pending)
     }
-}
 
-impl Groups {
-    /// How many states a group has.
-    fn size(&self, group: u32) -> u32 {
-        self.sizes.get(group as usize).copied().unwrap_or(0)
-    }
-
-    /// Adds a state of a class that has a row to its group.
-    fn add(&mut self, class: u32, row: Diagram) -> Result<(), Stop> {
-        let place = self.keys.place_of((class, row))?;
-        if place >= self.sizes.len() {
-            self.sizes.push(0)?;
+    /// Adds the states that lead to a state, but for those that were added before.
+    fn add_sources(
+        &mut self,
+        sources: &Sources,
+        state: u32,
+        pending: &mut Vec<u32>,
+    ) -> Result<(), Stop> {
+        for source in &sources.of(self.alloc, state)? {
+            if self.rounds.get(*source) != self.round {
+                self.rounds.set(*source, self.round)?;
+                pending.push(*source)?;
+            }
         }
-        if let Some(size) = self.sizes.get_mut(place) {
-            *size = size.saturating_add(1);
-        }
-        self.numbers.push(index(place)?)?;
         Ok(())
     }
 }
 
-/// Adds a group with some states to the share of its class.
-fn add_group(shares: &mut [Share], place: usize, group: u32, size: u32) {
-    if let Some(share) = shares.get_mut(place) {
-        share.total = share.total.saturating_add(size);
-        if size > share.size {
-            share.group = group;
-            share.size = size;
-        }
+impl Groups {
+    /// Adds a state of a class that has a row to its group.
+    fn add(&mut self, class: u32, row: Diagram) -> Result<(), Stop> {
+        let group = number_of(&mut self.keys, (class, row))?;
+        let size = self.sizes.get(group).saturating_add(1);
+        self.sizes.set(group, size)?;
+        self.numbers.push(group)?;
+        Ok(())
     }
+}
+
+/// The states of an automaton.
+fn states_of(alloc: Global, machine: &Machine) -> Result<Vec<u32>, Stop> {
+    let mut states = Vec::new(alloc);
+    for state in 0..machine.rows.len() {
+        states.push(index(state)?)?;
+    }
+    Ok(states)
 }
 
 /// The numbers of the classes, in the order of their first states.
 fn numbered(alloc: Global, machine: &Machine, classes: &Classes) -> Result<Numbering, Stop> {
-    let mut order = KeyList::new(alloc);
     let mut numbering = Numbering {
+        classes: KeyList::new(alloc),
         numbers: Column::new(alloc, 0),
         firsts: Vec::new(alloc),
     };
     for state in 0..machine.rows.len() {
         let state = index(state)?;
-        let place = order.place_of(classes.numbers.get(state) as u64)?;
-        numbering.add(state, place)?;
+        numbering.add(state, classes.numbers.get(state))?;
     }
     Ok(numbering)
 }
 
 impl Numbering {
     /// Gives a state the number of its class.
-    fn add(&mut self, state: u32, place: usize) -> Result<(), Stop> {
-        if place >= self.firsts.len() {
+    fn add(&mut self, state: u32, class: u32) -> Result<(), Stop> {
+        let number = number_of(&mut self.classes, class as u64)?;
+        if number as usize >= self.firsts.len() {
             self.firsts.push(state)?;
         }
-        self.numbers.set(state, index(place)?)
+        self.numbers.set(state, number)
     }
 }
 
@@ -328,10 +395,22 @@ fn joined(
     numbering: &Numbering,
 ) -> Result<Machine, Stop> {
     let mut made = Machine::new(alloc);
+    join(alloc, diagrams, machine, numbering, &mut made)?;
+    Ok(made)
+}
+
+/// Adds the classes as states of an automaton.
+fn join(
+    alloc: Global,
+    diagrams: &mut Diagrams,
+    machine: &Machine,
+    numbering: &Numbering,
+    made: &mut Machine,
+) -> Result<(), Stop> {
     let mut renumbering = Renumbering::new(alloc);
     for state in &numbering.firsts {
-        let row = renumbering.row(diagrams, machine, &numbering.numbers, &mut made, *state)?;
+        let row = renumbering.row(diagrams, machine, &numbering.numbers, made, *state)?;
         made.push(row, machine.kind(*state), machine.origin(*state))?;
     }
-    Ok(made)
+    Ok(())
 }

@@ -7,7 +7,7 @@ pub mod normal;
 pub mod shapes;
 
 use crate::diagrams::{self, Diagram};
-use crate::forms::{FALSE, Form, TRUE};
+use crate::forms::{FALSE, Form, Forms, TRUE};
 use crate::part::{Kind, Part};
 use crate::progression::Progression;
 use crate::split::normal::normalised;
@@ -39,7 +39,7 @@ struct Groups {
     again: Form,
     /// The formulas `F f` of those.
     goals: Vec<Form>,
-    /// The other operands.
+    /// The other operands, and behind them the conjunctions but that of the formulas `G F f`.
     others: Vec<Form>,
 }
 
@@ -195,29 +195,26 @@ impl Split {
         form: Form,
         is_negated: bool,
     ) -> Result<Diagram, Stop> {
-        let operands = world.forms.operands(form)?;
-        let Groups {
-            safety,
-            guarantee,
-            lasting,
-            again,
-            goals,
-            others,
-        } = grouped(self.alloc, world, &operands)?;
-        let mut operands = others;
-        operands.push(safety)?;
-        operands.push(guarantee)?;
-        operands.push(lasting)?;
-        let mut made = if again == TRUE {
-            diagrams::TRUE
-        } else {
-            self.variable(world, Kind::Rounds, again, goals, is_negated)?
-        };
-        for operand in &operands {
+        let groups = grouped(self.alloc, world, form)?;
+        let mut made = self.rounds(world, &groups, is_negated)?;
+        for operand in &groups.others {
             let one = self.function_at(depth, world, *operand, is_negated)?;
             made = world.diagrams.both(made, one)?;
         }
         Ok(made)
+    }
+
+    /// The diagram of the conjunction of the operands `G F f`, which are one part.
+    fn rounds(
+        &mut self,
+        world: &mut Progression,
+        groups: &Groups,
+        is_negated: bool,
+    ) -> Result<Diagram, Stop> {
+        if groups.again == TRUE {
+            return Ok(diagrams::TRUE);
+        }
+        self.variable(world, Kind::Rounds, groups.again, &groups.goals, is_negated)
     }
 
     /// The variable of a part that is a single formula.
@@ -228,12 +225,11 @@ impl Split {
         form: Form,
         is_negated: bool,
     ) -> Result<Diagram, Stop> {
-        let mut forms = Vec::new(self.alloc);
-        forms.push(match (kind, world.forms.again(form)) {
+        let inner = match (kind, world.forms.again(form)) {
             (Kind::Rounds, Some(goal)) => goal,
             _ => form,
-        })?;
-        self.variable(world, kind, form, forms, is_negated)
+        };
+        self.variable(world, kind, form, &[inner], is_negated)
     }
 
     /// The variable of a part.
@@ -242,14 +238,14 @@ impl Split {
         world: &mut Progression,
         kind: Kind,
         form: Form,
-        forms: Vec<Form>,
+        forms: &[Form],
         is_negated: bool,
     ) -> Result<Diagram, Stop> {
         if let Some(known) = self.known.get(form as u64) {
             return Ok(known);
         }
         let number = index(self.parts.len())?;
-        let made = self.diagram(world, kind, &forms, number)?;
+        let made = self.diagram(world, kind, forms, number)?;
         self.known.put(form as u64, made)?;
         if world.diagrams.level(made) == number {
             self.add(kind, forms, is_negated)?;
@@ -273,10 +269,10 @@ impl Split {
     }
 
     /// Adds a part.
-    fn add(&mut self, kind: Kind, forms: Vec<Form>, is_negated: bool) -> Result<(), Stop> {
+    fn add(&mut self, kind: Kind, forms: &[Form], is_negated: bool) -> Result<(), Stop> {
         let is_negative = is_negated != self.way.is_negated;
-        let part = Part::new(self.alloc, kind, forms, is_negative)?;
-        self.parts.push(part)?;
+        self.parts
+            .push(Part::new(self.alloc, kind, forms, is_negative)?)?;
         self.limited()
     }
 }
@@ -290,9 +286,7 @@ fn kind_of(world: &Progression, form: Form) -> Option<Kind> {
     if let NormalNode::And(..) | NormalNode::Or(..) = world.forms.node(form) {
         return None;
     }
-    if let Some(goal) = world.forms.again(form)
-        && world.forms.class(goal).is_guarantee
-    {
+    if rounds_goal(&world.forms, form).is_some() {
         return Some(Kind::Rounds);
     }
     if class.is_recurrence && !class.is_guarantee {
@@ -314,7 +308,7 @@ fn is_negated_first(world: &Progression, form: Form) -> bool {
 }
 
 /// The operands of a conjunction, by groups.
-fn grouped(alloc: Global, world: &mut Progression, operands: &[Form]) -> Result<Groups, Stop> {
+fn grouped(alloc: Global, world: &mut Progression, form: Form) -> Result<Groups, Stop> {
     let mut groups = Groups {
         safety: TRUE,
         guarantee: TRUE,
@@ -323,34 +317,45 @@ fn grouped(alloc: Global, world: &mut Progression, operands: &[Form]) -> Result<
         goals: Vec::new(alloc),
         others: Vec::new(alloc),
     };
-    for operand in operands {
-        add_to(&mut groups, world, *operand)?;
-    }
+    groups.add_all(&mut world.forms, form)?;
     Ok(groups)
 }
 
-/// Adds an operand to its group.
-fn add_to(groups: &mut Groups, world: &mut Progression, operand: Form) -> Result<(), Stop> {
-    let class = world.forms.class(operand);
-    if class.is_safety {
-        groups.safety = world.forms.both(groups.safety, operand)?;
-        return Ok(());
+impl Groups {
+    /// Adds all operands of a conjunction.
+    fn add_all(&mut self, forms: &mut Forms, form: Form) -> Result<(), Stop> {
+        let operands = forms.operands(form)?;
+        for operand in &operands {
+            self.add(forms, *operand)?;
+        }
+        let conjunctions = [self.safety, self.guarantee, self.lasting];
+        self.others.extend_from_slice(&conjunctions)?;
+        Ok(())
     }
-    if class.is_guarantee {
-        groups.guarantee = world.forms.both(groups.guarantee, operand)?;
-        return Ok(());
+
+    /// Adds an operand to its group.
+    fn add(&mut self, forms: &mut Forms, operand: Form) -> Result<(), Stop> {
+        let class = forms.class(operand);
+        if class.is_safety {
+            self.safety = forms.both(self.safety, operand)?;
+        } else if class.is_guarantee {
+            self.guarantee = forms.both(self.guarantee, operand)?;
+        } else if let Some(goal) = rounds_goal(forms, operand) {
+            self.again = forms.both(self.again, operand)?;
+            self.goals.push(goal)?;
+        } else if class.is_persistence && forms.again(operand ^ 1).is_some() {
+            self.lasting = forms.both(self.lasting, operand)?;
+        } else {
+            self.others.push(operand)?;
+        }
+        Ok(())
     }
-    if let Some(goal) = world.forms.again(operand)
-        && world.forms.class(goal).is_guarantee
-    {
-        groups.again = world.forms.both(groups.again, operand)?;
-        groups.goals.push(goal)?;
-        return Ok(());
+}
+
+/// The formula `F f` if a formula is `G F f` where f is a guarantee.
+fn rounds_goal(forms: &Forms, form: Form) -> Option<Form> {
+    match forms.again(form) {
+        Some(goal) if forms.class(goal).is_guarantee => Some(goal),
+        _ => None,
     }
-    if class.is_persistence && world.forms.again(operand ^ 1).is_some() {
-        groups.lasting = world.forms.both(groups.lasting, operand)?;
-        return Ok(());
-    }
-    groups.others.push(operand)?;
-    Ok(())
 }

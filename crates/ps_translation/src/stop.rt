@@ -1,5 +1,6 @@
 //! Why a translation ends without an automaton.
 
+use ps_keys::{Hashed, KeyList};
 use std::alloc::{AllocError, AllocFailed};
 
 /// Why a translation ends without an automaton.
@@ -26,4 +27,14 @@ impl<T: Drop> From<AllocFailed<T>> for Stop {
 /// A number as an index of 32 bits.
 pub(crate) fn index(number: usize) -> Result<u32, Stop> {
     u32::try_from(number).map_err(|_error| Stop::Limit)
+}
+
+/// The index of a key in a list, to which it is appended if it is new.
+pub(crate) fn number_of<K: Hashed + Drop>(keys: &mut KeyList<K>, key: K) -> Result<u32, Stop> {
+    index(keys.place_of(key)?)
+}
+
+/// The index of a key in a list, if it is there.
+pub(crate) fn found<K: Hashed + Drop>(keys: &KeyList<K>, key: K) -> Option<u32> {
+    u32::try_from(keys.find(key)?).ok()
 }

@@ -1,7 +1,7 @@
 //! The largest loops that are accepting, or not.
 
 use crate::components::{Edge, components};
-use crate::diagrams::{Diagram, Diagrams, TRUE, View};
+use crate::diagrams::{Diagram, Diagrams, TRUE, Test, View};
 use crate::machine::Machine;
 use crate::stop::Stop;
 use std::alloc::Global;
@@ -26,35 +26,16 @@ pub(crate) fn largest_loops(
     alloc: Global,
     diagrams: &mut Diagrams,
     edges: &[Edge],
-    wish: &Wish,
+    wish: Wish,
 ) -> Result<Vec<Vec<Edge>>, Stop> {
-    let mut found = Vec::new(alloc);
-    let mut pending = Vec::new(alloc);
-    pending.push(copied(alloc, edges)?)?;
-    for _ in 0..LOOPS {
-        let Some(edges) = pending.pop() else {
-            return Ok(found);
-        };
-        sort_all(alloc, diagrams, &edges, wish, &mut found, &mut pending)?;
-    }
-    Err(Stop::Limit)
-}
-
-/// Puts loops within some edges into one list if they are as wanted, and else into another; each loop that is as wanted
-/// is within one of them.
-fn sort_all(
-    alloc: Global,
-    diagrams: &mut Diagrams,
-    edges: &[Edge],
-    wish: &Wish,
-    found: &mut Vec<Vec<Edge>>,
-    pending: &mut Vec<Vec<Edge>>,
-) -> Result<(), Stop> {
-    let sets = largest_sets(alloc, diagrams, wish, marks_of(edges))?;
-    for set in &sets {
-        sort_loops(alloc, diagrams, edges, *set, wish, found, pending)?;
-    }
-    Ok(())
+    let mut loops = Loops {
+        alloc,
+        wish,
+        found: Vec::new(alloc),
+        pending: Vec::new(alloc),
+    };
+    loops.find(diagrams, edges)?;
+    Ok(loops.into_found())
 }
 
 /// The same edges.
@@ -64,26 +45,58 @@ pub(crate) fn copied(alloc: Global, edges: &[Edge]) -> Result<Vec<Edge>, Stop> {
     Ok(list)
 }
 
-/// Puts the loops of the edges whose marks are in a set into one list if they are as wanted, and else into another.
-fn sort_loops(
+/// Loops that were looked at. Each loop that is as wanted is within one of them.
+#[derive(Drop)]
+struct Loops {
     alloc: Global,
-    diagrams: &mut Diagrams,
-    edges: &[Edge],
-    set: u64,
-    wish: &Wish,
-    found: &mut Vec<Vec<Edge>>,
-    pending: &mut Vec<Vec<Edge>>,
-) -> Result<(), Stop> {
-    diagrams.take(edges.len())?;
-    for part in loops_within(alloc, edges, set)? {
-        let is_accepting = accepts(diagrams, wish.condition, wish.safeties | marks_of(&part));
-        if is_accepting == wish.wanted {
-            found.push(part)?;
-        } else {
-            pending.push(part)?;
-        }
+    wish: Wish,
+    /// Those that are as wanted.
+    found: Vec<Vec<Edge>>,
+    /// Those that are not, and are looked into next.
+    pending: Vec<Vec<Edge>>,
+}
+
+impl Loops {
+    /// The loops that are as wanted.
+    fn into_found(self) -> Vec<Vec<Edge>> {
+        let Loops { found, .. } = self;
+        found
     }
-    Ok(())
+
+    /// Finds the loops within some edges.
+    fn find(&mut self, diagrams: &mut Diagrams, edges: &[Edge]) -> Result<(), Stop> {
+        self.look_into(diagrams, edges)?;
+        for _ in 1..LOOPS {
+            let Some(edges) = self.pending.pop() else {
+                return Ok(());
+            };
+            self.look_into(diagrams, &edges)?;
+        }
+        Err(Stop::Limit)
+    }
+
+    /// Adds loops within some edges.
+    fn look_into(&mut self, diagrams: &mut Diagrams, edges: &[Edge]) -> Result<(), Stop> {
+        let sets = largest_sets(self.alloc, diagrams, self.wish, marks_of(edges))?;
+        for set in &sets {
+            diagrams.take(edges.len())?;
+            self.add_all(diagrams, edges, *set)?;
+        }
+        Ok(())
+    }
+
+    /// Adds the loops of the edges whose marks are in a set.
+    fn add_all(&mut self, diagrams: &Diagrams, edges: &[Edge], set: u64) -> Result<(), Stop> {
+        for edges in loops_within(self.alloc, edges, set)? {
+            let truths = self.wish.safeties | marks_of(&edges);
+            if accepts(diagrams, self.wish.condition, truths) == self.wish.wanted {
+                self.found.push(edges)?;
+            } else {
+                self.pending.push(edges)?;
+            }
+        }
+        Ok(())
+    }
 }
 
 /// The components of the edges whose marks are in a set.
@@ -101,38 +114,78 @@ fn loops_within(alloc: Global, edges: &[Edge], set: u64) -> Result<Vec<Vec<Edge>
 fn largest_sets(
     alloc: Global,
     diagrams: &mut Diagrams,
-    wish: &Wish,
+    wish: Wish,
     present: u64,
 ) -> Result<Vec<u64>, Stop> {
-    let mut sets = Vec::new(alloc);
-    let mut pending = Vec::new(alloc);
-    pending.push((wish.condition, present))?;
-    for _ in 0..SETS {
-        let Some((node, set)) = pending.pop() else {
-            return Ok(sets);
-        };
-        diagrams.take(sets.len().saturating_add(1))?;
-        if sets.iter().any(|other| set & !*other == 0) {
-            continue;
+    let mut sets = Sets {
+        wish,
+        present,
+        found: Vec::new(alloc),
+        pending: Vec::new(alloc),
+    };
+    sets.find(diagrams)?;
+    Ok(sets.into_found())
+}
+
+/// Sets of marks that are looked at.
+#[derive(Drop)]
+struct Sets {
+    wish: Wish,
+    /// The marks.
+    present: u64,
+    /// The sets by which the condition is as wanted.
+    found: Vec<u64>,
+    /// Nodes of the condition, each with the largest set that leads to it.
+    pending: Vec<(Diagram, u64)>,
+}
+
+impl Sets {
+    /// The sets by which the condition is as wanted.
+    fn into_found(self) -> Vec<u64> {
+        let Sets { found, .. } = self;
+        found
+    }
+
+    /// Finds the largest sets.
+    fn find(&mut self, diagrams: &mut Diagrams) -> Result<(), Stop> {
+        self.pending.push((self.wish.condition, self.present))?;
+        for _ in 0..SETS {
+            let Some((node, set)) = self.pending.pop() else {
+                return Ok(());
+            };
+            diagrams.take(self.found.len().saturating_add(1))?;
+            if self.found.iter().all(|other| set & !*other != 0) {
+                self.look_at(diagrams.view(node), node, set)?;
+            }
         }
-        match diagrams.view(node) {
+        Err(Stop::Limit)
+    }
+
+    /// Adds a set, or makes the sides of a node pending.
+    fn look_at(&mut self, view: View, node: Diagram, set: u64) -> Result<(), Stop> {
+        match view {
             View::Leaf(_) => {
-                if (node == TRUE) == wish.wanted {
-                    sets.push(set)?;
+                if (node == TRUE) == self.wish.wanted {
+                    self.found.push(set)?;
                 }
+                Ok(())
             }
-            View::Test(test) => {
-                let bit = 1u64.checked_shl(test.variable).unwrap_or(0);
-                if bit & wish.safeties == 0 {
-                    pending.push((test.low, set & !bit))?;
-                }
-                if bit & (wish.safeties | present) != 0 {
-                    pending.push((test.high, set))?;
-                }
-            }
+            View::Test(test) => self.add_sides(test, set),
         }
     }
-    Err(Stop::Limit)
+
+    /// Makes the sides of a test pending, as far as sets lead to them.
+    fn add_sides(&mut self, test: Test, set: u64) -> Result<(), Stop> {
+        let Wish { safeties, .. } = self.wish;
+        let bit = 1u64.checked_shl(test.variable).unwrap_or(0);
+        if bit & safeties == 0 {
+            self.pending.push((test.low, set & !bit))?;
+        }
+        if bit & (safeties | self.present) != 0 {
+            self.pending.push((test.high, set))?;
+        }
+        Ok(())
+    }
 }
 
 /// The condition of the states of a loop.

@@ -1,9 +1,10 @@
 //! Which of some loops are within others.
 
+use crate::column::Column;
 use crate::components::Edge;
 use crate::diagrams::Diagrams;
 use crate::machine::NONE;
-use crate::stop::{Stop, index};
+use crate::stop::{Stop, found, index, number_of};
 use ps_keys::KeyList;
 use std::alloc::Global;
 
@@ -15,11 +16,26 @@ struct Nested {
     /// The first edges of loops.
     firsts: KeyList<u64>,
     /// The last loop with each of these.
-    last: Vec<u32>,
+    last: Column,
     /// For each loop, the one before it with the same first edge.
-    earlier: Vec<u32>,
+    earlier: Column,
     /// The loops that were found to be within others.
     is_within: Vec<bool>,
+}
+
+/// A loop in which others are sought.
+#[derive(Clone, Copy)]
+struct Around {
+    number: u32,
+    /// How many edges it has.
+    length: usize,
+}
+
+impl Around {
+    /// Whether the loop is longer than another, or as long and comes earlier.
+    fn is_larger(self, number: u32, edges: &[Edge]) -> bool {
+        self.length > edges.len() || (self.length == edges.len() && self.number < number)
+    }
 }
 
 /// For each loop, whether all its edges are in another one, which is longer or comes earlier.
@@ -31,8 +47,8 @@ pub(crate) fn within_others(
     let mut nested = Nested {
         edges: KeyList::new(alloc),
         firsts: KeyList::new(alloc),
-        last: Vec::new(alloc),
-        earlier: Vec::new(alloc),
+        last: Column::new(alloc, NONE),
+        earlier: Column::new(alloc, NONE),
         is_within: Vec::new(alloc),
     };
     nested.look_at_all(diagrams, loops)?;
@@ -62,20 +78,18 @@ impl Nested {
         for edge in edges {
             self.edges.place_of((number, edge.number))?;
         }
-        let first = match edges.first() {
-            Some(edge) => edge.number,
-            None => NONE,
-        };
-        let place = self.firsts.place_of(first as u64)?;
-        if place >= self.last.len() {
-            self.last.push(NONE)?;
-        }
-        if let Some(last) = self.last.get_mut(place) {
-            self.earlier.push(*last)?;
-            *last = number;
-        }
         self.is_within.push(false)?;
-        Ok(())
+        match edges.first() {
+            Some(first) => self.add_first(number, first.number),
+            None => Ok(()),
+        }
+    }
+
+    /// Notes the first edge of a loop.
+    fn add_first(&mut self, number: u32, edge: u32) -> Result<(), Stop> {
+        let place = number_of(&mut self.firsts, edge as u64)?;
+        self.earlier.set(number, self.last.get(place))?;
+        self.last.set(place, number)
     }
 
     /// Notes which loops are within a loop.
@@ -83,47 +97,54 @@ impl Nested {
         &mut self,
         diagrams: &mut Diagrams,
         loops: &[Vec<Edge>],
-        around: u32,
+        number: u32,
         edges: &[Edge],
     ) -> Result<(), Stop> {
-        diagrams.take(edges.len())?;
+        let length = edges.len();
+        let around = Around { number, length };
+        diagrams.take(length)?;
         for edge in edges {
-            if let Some(place) = self.firsts.find(edge.number as u64) {
-                self.look_at(diagrams, loops, around, edges.len(), place)?;
-            }
+            self.look_at(diagrams, loops, around, edge.number)?;
         }
         Ok(())
     }
 
-    /// Notes which of the loops with a first edge are within a loop of a length.
+    /// Notes which of the loops with a first edge are within a loop.
     fn look_at(
         &mut self,
         diagrams: &mut Diagrams,
         loops: &[Vec<Edge>],
-        around: u32,
-        length: usize,
-        place: usize,
+        around: Around,
+        edge: u32,
     ) -> Result<(), Stop> {
-        let mut number = self.last.get(place).copied().unwrap_or(NONE);
+        let mut number = self.last_with(edge);
         for _ in 0..loops.len() {
             let Some(edges) = loops.get(number as usize) else {
                 break;
             };
-            let is_larger = length > edges.len() || (length == edges.len() && around < number);
-            if is_larger {
+            if around.is_larger(number, edges) {
                 diagrams.take(edges.len())?;
                 self.compare(edges, number, around);
             }
-            number = self.earlier.get(number as usize).copied().unwrap_or(NONE);
+            number = self.earlier.get(number);
         }
         Ok(())
     }
 
+    /// The last loop with a first edge, or `NONE`.
+    fn last_with(&self, edge: u32) -> u32 {
+        match found(&self.firsts, edge as u64) {
+            Some(place) => self.last.get(place),
+            None => NONE,
+        }
+    }
+
     /// Notes that a loop is within another, if it is.
-    fn compare(&mut self, edges: &[Edge], number: u32, around: u32) {
-        let is_within = edges
-            .iter()
-            .all(|edge| self.edges.find((around, edge.number)).is_some());
+    fn compare(&mut self, edges: &[Edge], number: u32, around: Around) {
+        let is_within = edges.iter().all(|edge| self
+            .edges
+            .find((around.number, edge.number))
+            .is_some());
         if is_within && let Some(noted) = self.is_within.get_mut(number as usize) {
             *noted = true;
         }

@@ -1,7 +1,8 @@
 //! The children of loops that go through a state.
 
+use crate::column::Column;
 use crate::machine::NONE;
-use crate::stop::{Stop, index};
+use crate::stop::{Stop, found, index, number_of};
 use ps_keys::KeyList;
 use std::alloc::Global;
 
@@ -21,7 +22,7 @@ pub(crate) struct Turns {
     /// Loops with states.
     places: KeyList<(u32, u32)>,
     /// The last turn at each of these.
-    last: Vec<u32>,
+    last: Column,
     turns: Vec<Turn>,
 }
 
@@ -30,42 +31,34 @@ impl Turns {
     pub(crate) fn new(alloc: Global) -> Self {
         Turns {
             places: KeyList::new(alloc),
-            last: Vec::new(alloc),
+            last: Column::new(alloc, NONE),
             turns: Vec::new(alloc),
         }
     }
 
     /// Notes that a child of a loop, the last one that was noted, goes through a state.
     pub(crate) fn add(&mut self, around: u32, child: u32, state: u32) -> Result<(), Stop> {
-        let place = self.places.place_of((around, state))?;
-        if place >= self.last.len() {
-            self.last.push(NONE)?;
-        }
-        let number = index(self.turns.len())?;
-        let Some(last) = self.last.get_mut(place) else {
-            return Ok(());
+        let place = number_of(&mut self.places, (around, state))?;
+        let earlier = self.last.get(place);
+        let count = match self.turns.get(earlier as usize) {
+            Some(turn) if turn.child == child => return Ok(()),
+            Some(turn) => turn.count,
+            None => 0,
         };
-        let earlier = *last;
-        let (known, count) = match self.turns.get(earlier as usize) {
-            Some(turn) => (turn.child, turn.count),
-            None => (NONE, 0),
-        };
-        if known != child {
-            *last = number;
-            self.turns.push(Turn {
-                child,
-                earlier,
-                count: count.saturating_add(1),
-            })?;
-        }
+        self.last.set(place, index(self.turns.len())?)?;
+        self.turns.push(Turn {
+            child,
+            earlier,
+            count: count.saturating_add(1),
+        })?;
         Ok(())
     }
 
     /// The last turn at a loop and a state.
     fn last(&self, around: u32, state: u32) -> Option<Turn> {
-        let place = self.places.find((around, state))?;
-        let last = self.last.get(place)?;
-        self.turns.get(*last as usize).copied()
+        let place = found(&self.places, (around, state))?;
+        let last = self.last.get(place);
+        self.turns.get(last as usize).copied()
     }
 
     /// How many children of a loop go through a state.

@@ -69,14 +69,22 @@ impl Renumbering {
                     high,
                 })?
             }
-            _ => {
-                let arc = machine.arc(diagrams, node);
-                let target = numbers.get(arc.target);
-                let mark = arc.mark;
-                made.leaf(diagrams, Arc { target, mark })?
-            }
+            _ => renumbered(diagrams, machine, numbers, made, node)?,
         };
         self.known.put(node as u64, row)?;
         Ok(row)
     }
+}
+
+/// What an end becomes.
+fn renumbered(
+    diagrams: &mut Diagrams,
+    machine: &Machine,
+    numbers: &Column,
+    made: &mut Machine,
+    end: Diagram,
+) -> Result<Diagram, Stop> {
+    let Arc { target, mark } = machine.arc(diagrams, end);
+    let target = numbers.get(target);
+    made.leaf(diagrams, Arc { target, mark })
 }

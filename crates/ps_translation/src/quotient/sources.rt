@@ -52,15 +52,19 @@ impl Sources {
         let ends = diagrams.ends(row)?;
         diagrams.take(ends.len())?;
         for end in &ends {
-            let target = machine.arc(diagrams, *end).target;
-            let place = index(self.list.len())?;
-            self.list.push(Source {
-                state,
-                earlier: self.last.get(target),
-            })?;
-            self.last.set(target, place)?;
+            self.add_source(machine.arc(diagrams, *end).target, state)?;
         }
         Ok(())
+    }
+
+    /// Adds a state as a source of another.
+    fn add_source(&mut self, target: u32, state: u32) -> Result<(), Stop> {
+        let place = index(self.list.len())?;
+        self.list.push(Source {
+            state,
+            earlier: self.last.get(target),
+        })?;
+        self.last.set(target, place)
     }
 
     /// The states that lead to a state; one that does so with several marks is there as often.

@@ -35,27 +35,28 @@ pub(crate) fn normalised(
     if forms.len() > FORMULAS {
         return Err(Stop::Limit);
     }
-    let below = forms.below(form)?;
-    if let Some(limit) = inner_limit(forms, &below, form) {
+    if let Some(limit) = inner_limit(forms, form)? {
         return without_limit(alloc, forms, form, limit);
     }
     if forms.again(form).is_some() {
-        return again(alloc, forms, &below, form);
+        return again(alloc, forms, form);
     }
     if forms.again(form ^ 1).is_some() {
-        let negations = forms.below(form ^ 1)?;
-        return Ok(again(alloc, forms, &negations, form ^ 1)? ^ 1);
+        return Ok(again(alloc, forms, form ^ 1)? ^ 1);
     }
-    let release = mixed_release(forms, &below).ok_or(Stop::Limit)?;
+    let release = mixed_release(forms, form)?;
     let made = released(alloc, forms, release, is_parting)?;
     replaced(alloc, forms, form, release, made)
 }
 
 /// A limit inside a formula.
-fn inner_limit(forms: &Forms, below: &[Form], form: Form) -> Option<Form> {
-    below.iter().rev().copied().find(|each| *each != form
-        && *each > TRUE
-        && forms.class(*each).is_limit)
+fn inner_limit(forms: &Forms, form: Form) -> Result<Option<Form>, Stop> {
+    let below = forms.below(form)?;
+    Ok(
+        below.iter().rev().copied().find(|each| *each != form
+            && *each > TRUE
+            && forms.class(*each).is_limit),
+    )
 }
 
 /// A formula with a limit inside, without the limit inside.
@@ -67,20 +68,29 @@ fn without_limit(alloc: Global, forms: &mut Forms, form: Form, limit: Form) -> R
 }
 
 /// A formula `G F h` without one of the operators `R` in h.
-fn again(alloc: Global, forms: &mut Forms, below: &[Form], form: Form) -> Result<Form, Stop> {
-    let found = below
-        .iter()
-        .copied()
-        .find(|each| *each != form && release(forms, *each).is_some());
-    let inner = found.ok_or(Stop::Limit)?;
-    let Sides { left, right } = release(forms, inner).ok_or(Stop::Limit)?;
+fn again(alloc: Global, forms: &mut Forms, form: Form) -> Result<Form, Stop> {
+    let inner = inner_release(forms, form)?;
+    let Sides { left, right } = forms.sides(inner);
     let until = ended(forms, left, right)?;
     let with_until = replaced(alloc, forms, form, inner, until)?;
-    let kept = forms.release(FALSE, right)?;
-    let lasting = forms.until(TRUE, kept)?;
+    let lasting = lasting(forms, right)?;
     let with_true = replaced(alloc, forms, form, inner, TRUE)?;
     let other = forms.both(lasting, with_true)?;
     forms.either(with_until, other)
+}
+
+/// A formula `f R g` inside a formula.
+fn inner_release(forms: &Forms, form: Form) -> Result<Form, Stop> {
+    let below = forms.below(form)?;
+    let mut inner = below.iter().copied();
+    let found = inner.find(|each| *each != form && release(forms, *each).is_some());
+    found.ok_or(Stop::Limit)
+}
+
+/// `F G f`
+fn lasting(forms: &mut Forms, f: Form) -> Result<Form, Stop> {
+    let always = forms.release(FALSE, f)?;
+    forms.until(TRUE, always)
 }
 
 /// The operands of a formula `f R g`.
@@ -98,9 +108,11 @@ fn ended(forms: &mut Forms, f: Form, g: Form) -> Result<Form, Stop> {
 }
 
 /// An innermost formula `f R g` with an operator `U` inside.
-fn mixed_release(forms: &Forms, below: &[Form]) -> Option<Form> {
-    below.iter().copied().find(|each| release(forms, *each).is_some()
-        && !forms.class(*each).is_safety)
+fn mixed_release(forms: &Forms, form: Form) -> Result<Form, Stop> {
+    let below = forms.below(form)?;
+    let mut inner = below.iter().copied();
+    let found = inner.find(|each| release(forms, *each).is_some() && !forms.class(*each).is_safety);
+    found.ok_or(Stop::Limit)
 }
 
 /// A formula `f R g` with one operator `U` fewer in g, or without f.
@@ -152,8 +164,7 @@ fn parted(
 /// `G f || (F G g && G h)`
 fn either_way(forms: &mut Forms, f: Form, g: Form, h: Form) -> Result<Form, Stop> {
     let one = forms.release(FALSE, f)?;
-    let always = forms.release(FALSE, g)?;
-    let lasting = forms.until(TRUE, always)?;
+    let lasting = lasting(forms, g)?;
     let other = forms.release(FALSE, h)?;
     let other = forms.both(lasting, other)?;
     forms.either(one, other)
@@ -227,9 +238,7 @@ fn rebuilt_weakly(
 ) -> Result<Form, Stop> {
     match forms.node(form) {
         NormalNode::Until(f, g) if at(true_there, g) == TRUE => {
-            let (f, g) = (at(weak, f), at(weak, g));
-            let either = forms.either(f, g)?;
-            forms.release(g, either)
+            weak_until(forms, at(weak, f), at(weak, g))
         }
         _ => rebuilt(forms, form, weak),
     }
@@ -244,17 +253,27 @@ fn last(below: &[Form]) -> Form {
 fn globally_weak(alloc: Global, forms: &mut Forms, inner: Form) -> Result<Form, Stop> {
     let until = first_until(forms, inner)?;
     let Sides { left, right } = forms.sides(until);
-    let either = forms.either(left, right)?;
-    let weak = forms.release(right, either)?;
+    let weak = weak_until(forms, left, right)?;
     let with_weak = replaced(alloc, forms, inner, until, weak)?;
     let with_false = replaced(alloc, forms, inner, until, FALSE)?;
-    let eventually = forms.until(TRUE, right)?;
-    let again = forms.release(FALSE, eventually)?;
-    let kept = forms.release(FALSE, with_weak)?;
-    let one = forms.both(again, kept)?;
+    let one = again_and_always(forms, right, with_weak)?;
     let end = forms.release(FALSE, with_false)?;
     let other = forms.until(inner, end)?;
     forms.either(one, other)
+}
+
+/// `f W g`
+fn weak_until(forms: &mut Forms, f: Form, g: Form) -> Result<Form, Stop> {
+    let either = forms.either(f, g)?;
+    forms.release(g, either)
+}
+
+/// `G F f && G g`
+fn again_and_always(forms: &mut Forms, f: Form, g: Form) -> Result<Form, Stop> {
+    let eventually = forms.until(TRUE, f)?;
+    let again = forms.release(FALSE, eventually)?;
+    let always = forms.release(FALSE, g)?;
+    forms.both(again, always)
 }
 
 /// An innermost formula `f U g`.

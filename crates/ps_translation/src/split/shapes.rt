@@ -10,7 +10,7 @@ use crate::machine::Machine;
 use crate::parity::Parity;
 use crate::part::{Kind, Part};
 use crate::progression::Progression;
-use crate::stop::{Stop, index};
+use crate::stop::{Stop, number_of};
 use crate::translate::of_parts;
 use ps_keys::{KeyList, KeyMap};
 use std::alloc::Global;
@@ -74,10 +74,8 @@ impl Shapes {
 
     /// The part.
     fn parts(&self, kind: Kind, forms: &[Form]) -> Result<Vec<Part>, Stop> {
-        let mut copies = Vec::new(self.alloc);
-        copies.extend_from_slice(forms)?;
         let mut parts = Vec::new(self.alloc);
-        parts.push(Part::new(self.alloc, kind, copies, false)?)?;
+        parts.push(Part::new(self.alloc, kind, forms, false)?)?;
         Ok(parts)
     }
 
@@ -96,8 +94,7 @@ impl Shapes {
 
     /// The list with a number before a list.
     fn behind(&mut self, number: u32, list: u32) -> Result<u32, Stop> {
-        let place = self.lists.place_of((number, list))?;
-        index(place)
+        number_of(&mut self.lists, (number, list))
     }
 }
 

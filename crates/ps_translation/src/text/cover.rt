@@ -4,7 +4,7 @@
 //! and Irredundant Normal Form Determination", 1970; on diagrams, Minato, "Fast Generation of Irredundant
 //! Sum-of-Products Forms from Binary Decision Diagrams", 1992).
 
-use crate::diagrams::{Diagram, Diagrams, FALSE, PROPOSITIONS, TRUE, Test};
+use crate::diagrams::{Diagram, Diagrams, FALSE, PROPOSITIONS, Sides, TRUE, Test};
 use crate::stop::Stop;
 use std::alloc::Global;
 
@@ -16,6 +16,24 @@ const PRODUCTS: usize = 1 << 18;
 pub(crate) struct Product {
     pub(crate) positive: u64,
     pub(crate) negative: u64,
+}
+
+impl Product {
+    /// The product with a further proposition that is to be true.
+    fn with(self, bit: u64) -> Self {
+        Product {
+            positive: self.positive | bit,
+            ..self
+        }
+    }
+
+    /// The product with a further proposition that is to be false.
+    fn without(self, bit: u64) -> Self {
+        Product {
+            negative: self.negative | bit,
+            ..self
+        }
+    }
 }
 
 /// Letters that a sum of products has to have, and letters that it may have.
@@ -56,11 +74,7 @@ fn add_products(
         return Ok(FALSE);
     }
     if range.most == TRUE {
-        if products.len() >= PRODUCTS {
-            return Err(Stop::Limit);
-        }
-        products.push(prefix)?;
-        return Ok(TRUE);
+        return add_product(prefix, products);
     }
     let variable = diagrams.level(range.least).min(diagrams.level(range.most));
     if depth == 0 || variable >= PROPOSITIONS {
@@ -73,31 +87,43 @@ fn add_products(
         least: diagrams.choose(most.high, FALSE, least.low)?,
         most: most.low,
     };
-    let low_prefix = Product {
-        negative: prefix.negative | bit,
-        ..prefix
-    };
-    let low = add_products(diagrams, depth - 1, low, low_prefix, products)?;
+    let low = add_products(diagrams, depth - 1, low, prefix.without(bit), products)?;
     let high = Range {
         least: diagrams.choose(most.low, FALSE, least.high)?,
         most: most.high,
     };
-    let high_prefix = Product {
-        positive: prefix.positive | bit,
-        ..prefix
-    };
-    let high = add_products(diagrams, depth - 1, high, high_prefix, products)?;
-    let low_left = diagrams.choose(low, FALSE, least.low)?;
-    let high_left = diagrams.choose(high, FALSE, least.high)?;
-    let rest = Range {
-        least: diagrams.either(low_left, high_left)?,
-        most: diagrams.both(most.low, most.high)?,
-    };
+    let high = add_products(diagrams, depth - 1, high, prefix.with(bit), products)?;
+    let rest = left_over(diagrams, least, most, Sides { low, high })?;
     let rest = add_products(diagrams, depth - 1, rest, prefix, products)?;
-    let test = Test {
+    let low = diagrams.either(low, rest)?;
+    let high = diagrams.either(high, rest)?;
+    diagrams.test(Test {
         variable,
-        low: diagrams.either(low, rest)?,
-        high: diagrams.either(high, rest)?,
-    };
-    diagrams.test(test)
+        low,
+        high,
+    })
+}
+
+/// Adds a product that is a sum by itself.
+fn add_product(product: Product, products: &mut Vec<Product>) -> Result<Diagram, Stop> {
+    if products.len() >= PRODUCTS {
+        return Err(Stop::Limit);
+    }
+    products.push(product)?;
+    Ok(TRUE)
+}
+
+/// The letters for products without a literal of a variable, if there are products with one for some letters of its
+/// sides.
+fn left_over(
+    diagrams: &mut Diagrams,
+    least: Sides,
+    most: Sides,
+    covered: Sides,
+) -> Result<Range, Stop> {
+    let low = diagrams.choose(covered.low, FALSE, least.low)?;
+    let high = diagrams.choose(covered.high, FALSE, least.high)?;
+    let least = diagrams.either(low, high)?;
+    let most = diagrams.both(most.low, most.high)?;
+    Ok(Range { least, most })
 }

@@ -3,11 +3,9 @@
 use crate::diagrams::{Diagram, Diagrams, PROPOSITIONS};
 use crate::stop::Stop;
 use crate::text::cover::{Product, cover};
+use crate::text::output::Output;
 use ps_keys::KeyMap;
 use std::alloc::Global;
-
-/// The most bytes of all labels.
-const BYTES: usize = 16_777_216;
 
 /// Where a label stands.
 #[derive(Clone, Copy)]
@@ -20,7 +18,8 @@ struct Span {
 #[derive(Drop)]
 pub(crate) struct Labels {
     alloc: Global,
-    text: Vec<u8>,
+    /// The labels, one behind the other.
+    output: Output,
     /// Where the label for each set of letters stands.
     spans: KeyMap<u64, Span>,
 }
@@ -30,7 +29,7 @@ impl Labels {
     pub(crate) fn new(alloc: Global) -> Self {
         Labels {
             alloc,
-            text: Vec::new(alloc),
+            output: Output::new(alloc),
             spans: KeyMap::new(alloc),
         }
     }
@@ -45,64 +44,45 @@ impl Labels {
             Some(known) => known,
             None => self.added(diagrams, letters)?,
         };
-        let rest = self.text.get(span.start..).unwrap_or(&[]);
+        let rest = self.output.bytes.get(span.start..).unwrap_or(&[]);
         Ok(rest.get(..span.length).unwrap_or(&[]))
     }
 
     /// Adds the label for some letters.
     fn added(&mut self, diagrams: &mut Diagrams, letters: Diagram) -> Result<Span, Stop> {
         let products = cover(self.alloc, diagrams, letters)?;
-        let start = self.text.len();
-        self.sum(&products)?;
+        let start = self.output.bytes.len();
+        add_sum(&mut self.output, &products)?;
         let span = Span {
             start,
-            length: self.text.len().saturating_sub(start),
+            length: self.output.bytes.len().saturating_sub(start),
         };
         self.spans.put(letters as u64, span)?;
         Ok(span)
     }
+}
 
-    /// Adds bytes.
-    fn bytes(&mut self, bytes: &[u8]) -> Result<(), Stop> {
-        if self.text.len().saturating_add(bytes.len()) >= BYTES {
-            return Err(Stop::Limit);
-        }
-        self.text.extend_from_slice(bytes)?;
-        Ok(())
+/// Adds a sum of products.
+fn add_sum(output: &mut Output, products: &[Product]) -> Result<(), Stop> {
+    for (number, product) in products.iter().enumerate() {
+        output.add(if number > 0 { b" | " } else { b"" })?;
+        add_product(output, *product)?;
     }
+    Ok(())
+}
 
-    /// Adds a sum of products.
-    fn sum(&mut self, products: &[Product]) -> Result<(), Stop> {
-        for (number, product) in products.iter().enumerate() {
-            self.bytes(if number > 0 { b" | " } else { b"" })?;
-            self.product(*product)?;
+/// Adds a product.
+fn add_product(output: &mut Output, product: Product) -> Result<(), Stop> {
+    let mut before: &[u8] = b"";
+    for proposition in 0..PROPOSITIONS {
+        let is_positive = product.positive >> proposition & 1 == 1;
+        let is_negative = product.negative >> proposition & 1 == 1;
+        if is_positive || is_negative {
+            output.add(before)?;
+            let sign: &[u8] = if is_negative { b"!" } else { b"" };
+            output.add_number_between(sign, proposition as usize, b"")?;
+            before = b"&";
         }
-        Ok(())
     }
-
-    /// Adds a product.
-    fn product(&mut self, product: Product) -> Result<(), Stop> {
-        let mut before: &[u8] = b"";
-        for proposition in 0..PROPOSITIONS {
-            let is_positive = product.positive >> proposition & 1 == 1;
-            let is_negative = product.negative >> proposition & 1 == 1;
-            if is_positive || is_negative {
-                self.bytes(before)?;
-                self.literal(proposition, is_negative)?;
-                before = b"&";
-            }
-        }
-        self.bytes(if before.is_empty() { b"t" } else { b"" })
-    }
-
-    /// Adds a literal.
-    fn literal(&mut self, proposition: u32, is_negative: bool) -> Result<(), Stop> {
-        let tens = b'0' + (proposition / 10 % 10) as u8;
-        let ones = b'0' + (proposition % 10) as u8;
-        self.bytes(if is_negative { b"!" } else { b"" })?;
-        if proposition >= 10 {
-            self.bytes(&[tens])?;
-        }
-        self.bytes(&[ones])
-    }
+    output.add(if before.is_empty() { b"t" } else { b"" })
 }

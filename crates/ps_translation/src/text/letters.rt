@@ -19,11 +19,8 @@ pub(crate) struct Way {
     pub(crate) letters: Diagram,
 }
 
-/// No way.
-const NONE: Way = Way {
-    end: u32::MAX,
-    letters: FALSE,
-};
+/// No end.
+const NONE: Diagram = u32::MAX;
 
 /// Some ways that stand one behind the other.
 #[derive(Clone, Copy)]
@@ -108,25 +105,16 @@ impl Letters {
         high: Span,
     ) -> Result<Span, Stop> {
         let start = self.ways.len();
-        let (mut left, mut right) = (low.start, high.start);
+        let (mut low, mut high) = (low, high);
         for _ in 0..start.saturating_mul(2) {
-            let (one, other) = (self.way(left, low.stop), self.way(right, high.stop));
-            let end = one.end.min(other.end);
-            if end == NONE.end {
+            let end = self.first(low).end.min(self.first(high).end);
+            if end == NONE {
                 break;
             }
-            let (one, is_left) = if one.end == end { (one, 1) } else { (NONE, 0) };
-            let (other, is_right) = if other.end == end {
-                (other, 1)
-            } else {
-                (NONE, 0)
-            };
-            left = left.saturating_add(is_left);
-            right = right.saturating_add(is_right);
             let letters = diagrams.test(Test {
                 variable,
-                low: one.letters,
-                high: other.letters,
+                low: self.taken(&mut low, end),
+                high: self.taken(&mut high, end),
             })?;
             self.ways.push(Way { end, letters })?;
         }
@@ -137,11 +125,24 @@ impl Letters {
         })
     }
 
-    /// The way at a place before a stop, or none.
-    fn way(&self, place: usize, stop: usize) -> Way {
-        match self.ways.get(place) {
-            Some(way) if place < stop => *way,
-            _ => NONE,
+    /// The first of some ways, or one that leads to no end.
+    fn first(&self, span: Span) -> Way {
+        match self.ways.get(span.start) {
+            Some(way) if span.start < span.stop => *way,
+            _ => Way {
+                end: NONE,
+                letters: FALSE,
+            },
         }
+    }
+
+    /// Takes the first of some ways if it leads to an end, and returns its letters.
+    fn taken(&self, span: &mut Span, end: Diagram) -> Diagram {
+        let first = self.first(*span);
+        if first.end != end {
+            return FALSE;
+        }
+        span.start = span.start.saturating_add(1);
+        first.letters
     }
 }

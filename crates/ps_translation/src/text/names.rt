@@ -29,35 +29,27 @@ struct Writer {
     pending: Vec<Piece>,
 }
 
-/// The names of the states of a product.
-#[derive(Drop)]
-pub(crate) struct Names {
+/// From now on, names leave out the formulas that are owed in each state of a product.
+pub(crate) fn leave_out_standing(
     alloc: Global,
+    world: &mut Progression,
+    product: &mut Product,
+) -> Result<(), Stop> {
+    let standing = standing(alloc, world, product)?;
+    world.leave_out(standing);
+    Ok(())
 }
 
-impl Names {
-    /// The names of the states of a product.
-    pub(crate) fn new(
-        alloc: Global,
-        world: &mut Progression,
-        product: &mut Product,
-    ) -> Result<Self, Stop> {
-        let standing = standing(alloc, world, product)?;
-        world.leave_out(standing);
-        Ok(Names { alloc })
-    }
-
-    /// The name of a state.
-    pub(crate) fn name(
-        &self,
-        world: &mut Progression,
-        product: &mut Product,
-        propositions: &[Proposition],
-        state: u32,
-    ) -> Result<Vec<u8>, Stop> {
-        let owing = owing_in(self.alloc, world, product, state)?;
-        written(self.alloc, &world.forms, propositions, &owing)
-    }
+/// The name of a state of a product.
+pub(crate) fn name_of(
+    alloc: Global,
+    world: &mut Progression,
+    product: &mut Product,
+    propositions: &[Proposition],
+    state: u32,
+) -> Result<Vec<u8>, Stop> {
+    let owing = owing_in(alloc, world, product, state)?;
+    written(alloc, &world.forms, propositions, &owing)
 }
 
 /// The name of a state in which so much is owed; a long one ends with `..`.
@@ -182,8 +174,8 @@ impl Writer {
 
     /// Makes an operator with its operand pending.
     fn prefix(&mut self, operator: &'static [u8], operand: Form) -> Result<(), Stop> {
-        self.pending.push(Piece::Formula(operand))?;
-        self.pending.push(Piece::Word(operator))?;
+        let pieces = [Piece::Formula(operand), Piece::Word(operator)];
+        self.pending.extend_from_slice(&pieces)?;
         Ok(())
     }
 
@@ -200,11 +192,13 @@ impl Writer {
         } else {
             (b"", b"")
         };
-        self.pending.push(Piece::Word(end))?;
-        self.pending.push(Piece::Formula(right))?;
-        self.pending.push(Piece::Word(operator))?;
-        self.pending.push(Piece::Formula(left))?;
-        self.pending.push(Piece::Word(begin))?;
+        self.pending.extend_from_slice(&[
+            Piece::Word(end),
+            Piece::Formula(right),
+            Piece::Word(operator),
+            Piece::Formula(left),
+            Piece::Word(begin),
+        ])?;
         Ok(())
     }
 }
