@@ -4,13 +4,9 @@
 #![tactic(auto)]
 
 #[cfg(test)]
-mod automata;
-#[cfg(test)]
 mod diagrams;
 #[cfg(test)]
 mod files;
-#[cfg(test)]
-mod labels;
 #[cfg(test)]
 mod surface;
 #[cfg(test)]

@@ -5,8 +5,6 @@
 #[cfg(test)]
 mod builders;
 #[cfg(test)]
-mod circuits;
-#[cfg(test)]
 mod lanes;
 #[cfg(test)]
 mod machines;

@@ -39,33 +39,6 @@ fn machine_of(alloc: Global, text: &[u8]) -> Result<Machine, Fail> {
     machine_for(alloc, &automaton, Order::Moore)
 }
 
-/// The next memory state and the letter, or `None` if there is no such memory state.
-fn step(machine: &Machine, memory: usize, letter: u64) -> Option<(usize, u64)> {
-    if memory >= machine.memories() {
-        return None;
-    }
-    let row = machine.step(memory, letter);
-    Some((row.memory, row.letter))
-}
-
-/// The steps from the first two memory states, with each value of the grant.
-fn steps_of(alloc: Global, text: &[u8]) -> Result<[Option<(usize, u64)>; 4], Fail> {
-    let machine = machine_of(alloc, text)?;
-    Ok([
-        step(&machine, 0, 0b00),
-        step(&machine, 0, 0b10),
-        step(&machine, 1, 0b00),
-        step(&machine, 1, 0b10),
-    ])
-}
-
-#[test]
-fn a_machine_remembers_and_plays(rt: HostRuntime) -> Result<(), Fail> {
-    let wanted = [Some((1, 1)), Some((1, 0)), Some((1, 0)), Some((1, 0))];
-    assert_eq!(rt; steps_of(rt.alloc(), EXACT)?, wanted);
-    Ok(())
-}
-
 fn circuit_text(alloc: Global, machine: &Machine) -> Result<Vec<u8>, Fail> {
     let circuit = encode(alloc, machine)?;
     Ok(write(alloc, &circuit)?)

@@ -1,10 +1,10 @@
 //! Games made by a builder, and the same games in flat arrays.
 
-ghost use Rattle.std.specs.Prelude.{◌≡◌, ◌<◌, OnOk};
+ghost use Rattle.std.specs.Prelude.{◌≡◌, ◌<◌, [], OnOk};
 ghost use Rattle.ps_game.specs.Drafts.{with_edge, with_vertex};
 ghost use Rattle.ps_game.specs.Games.{vertex_count};
 
-use ps_game::{Arena, FlatGame, Game, GameBuilder, GameFault, Width, fits_narrow, priorities_of};
+use ps_game::{Arena, FlatGame, Game, GameBuilder, Width, fits_narrow};
 use std::alloc::{AllocError, Global};
 use std::test::Fail;
 
@@ -78,45 +78,25 @@ fn edge(builder: &mut GameBuilder, from: usize, successor: usize) -> Result<(), 
     }
 }
 
-/// A game of three vertices, with two edges from vertex 0 to vertex 1.
+/// Makes a draft of two vertices, with two edges from vertex 0 to vertex 1.
 #[tactic(auto, unfolding(ps_game::specs::Games::vertex_count))]
-fn three_vertices(alloc: Global) -> Result<GameBuilder, AllocError> {
-    let mut builder = GameBuilder::new(alloc);
-    vertex(&mut builder, 0, 5)?;
-    vertex(&mut builder, 1, 3)?;
-    vertex(&mut builder, 0, 5)?;
-    edge(&mut builder, 0, 1)?;
-    edge(&mut builder, 0, 0)?;
-    edge(&mut builder, 0, 1)?;
-    edge(&mut builder, 1, 2)?;
-    edge(&mut builder, 2, 2)?;
-    Ok(builder)
-}
-
-/// No edge leaves vertex 1, and the edge from vertex 0 leads to a vertex that was not added.
-#[tactic(auto, unfolding(ps_game::specs::Games::vertex_count))]
-fn a_bare_vertex(alloc: Global) -> Result<GameBuilder, AllocError> {
-    let mut builder = GameBuilder::new(alloc);
-    builder.vertex(0, 0)?;
-    builder.vertex(0, 0)?;
-    builder.edge(0, 2)?;
-    Ok(builder)
-}
-
-/// A vertex with two edges to vertices that were not added.
-#[tactic(auto, unfolding(ps_game::specs::Games::vertex_count))]
-fn unknown_successors(alloc: Global) -> Result<GameBuilder, AllocError> {
-    let mut builder = GameBuilder::new(alloc);
-    builder.vertex(0, 0)?;
-    builder.edge(0, 6)?;
-    builder.edge(0, 5)?;
-    Ok(builder)
+fn draw(builder: &mut GameBuilder) -> Result<(), AllocError>
+    requires { builder.old ≡ [] }
+{
+    vertex(builder, 0, 5)?;
+    vertex(builder, 1, 3)?;
+    edge(builder, 0, 1)?;
+    edge(builder, 0, 0)?;
+    edge(builder, 0, 1)?;
+    edge(builder, 1, 1)
 }
 
 #[test]
 fn built_games_are_read(rt: HostRuntime) -> Result<(), Fail> {
-    let game = three_vertices(rt.alloc())?.finish()?;
-    let rows: [Row; 3] = [(0, 5, &[1, 0]), (1, 3, &[2]), (0, 5, &[2])];
+    let mut builder = GameBuilder::new(rt.alloc());
+    draw(&mut builder)?;
+    let game = builder.finish()?;
+    let rows: [Row; 2] = [(0, 5, &[1, 0]), (1, 3, &[1])];
     assert!(rt; all_read_as(rt.alloc(), &game, &rows));
     Ok(())
 }
@@ -125,36 +105,5 @@ fn built_games_are_read(rt: HostRuntime) -> Result<(), Fail> {
 fn no_vertex_is_a_game(rt: HostRuntime) -> Result<(), Fail> {
     let game = GameBuilder::new(rt.alloc()).finish()?;
     assert!(rt; all_read_as(rt.alloc(), &game, &[]));
-    Ok(())
-}
-
-/// Whether these are the priorities of one parity.
-fn are_priorities(alloc: Global, game: &Game, parity: u64, wanted: &[u64]) -> bool {
-    match priorities_of(alloc, game, parity) {
-        Ok(priorities) => priorities.as_slice() == wanted,
-        Err(_) => false,
-    }
-}
-
-#[test]
-fn each_priority_of_a_parity_is_listed_once(rt: HostRuntime) -> Result<(), Fail> {
-    let game = three_vertices(rt.alloc())?.finish()?;
-    assert!(rt; are_priorities(rt.alloc(), &game, 1, &[3, 5]));
-    assert!(rt; are_priorities(rt.alloc(), &game, 0, &[]));
-    Ok(())
-}
-
-#[test]
-fn drafts_that_are_no_games(rt: HostRuntime) -> Result<(), Fail> {
-    let bare = GameFault::NoSuccessor { vertex: 1 };
-    assert_eq!(rt; a_bare_vertex(rt.alloc())?.finish().err(), Some(bare));
-    let unknown = GameFault::UnknownSuccessor {
-        vertex: 0,
-        successor: 6,
-    };
-    assert_eq!(rt;
-        unknown_successors(rt.alloc())?.finish().err(),
-        Some(unknown)
-    );
     Ok(())
 }

@@ -3,21 +3,7 @@
 #![tactic(auto)]
 
 #[cfg(test)]
-mod attempts;
-#[cfg(test)]
-mod certificates;
-#[cfg(test)]
-mod components;
-#[cfg(test)]
-mod game_texts;
-#[cfg(test)]
 mod games;
-#[cfg(test)]
-mod ids;
-#[cfg(test)]
-mod laws;
-#[cfg(test)]
-mod numbers;
 #[cfg(test)]
 mod regions;
 #[cfg(test)]
