@@ -5,11 +5,11 @@ use Rattle.ps_formula.specs.Formulas.{Formula, formula_at}
 use Rattle.ps_formula.specs.Satisfaction.{IsDecidedWord, Satisfies}
 use Rattle.ps_formula.specs.declared.node.Node.{Node}
 use Rattle.ps_sentences.proofs.LayerLemmas.{equivalent_is, equivalent_trans}
-use Rattle.ps_sentences.proofs.TableLemmas.{all_append, all_front, are_still_in, formula_kept, formulas_kept}
-use Rattle.ps_sentences.proofs.TableLemmas.{mapped_back, mapped_front, mapped_join, still_in}
+use Rattle.ps_sentences.proofs.GrownLemmas.{all_append, all_front, are_still_in, formula_kept, formulas_kept}
+use Rattle.ps_sentences.proofs.GrownLemmas.{mapped_back, mapped_front, mapped_join, still_in}
 use Rattle.ps_sentences.specs.Inner.Conjuncts.{AreConjunctsOf, IsSplitOf, IsTaken, TakesApart}
 use Rattle.ps_sentences.specs.Sentences.{AllHold, IsEquivalent}
-use Rattle.ps_sentences.specs.Tables.{AreIn, IsGrown, formulas_in}
+use Rattle.ps_sentences.specs.Tables.{AreIn, IsGrownTable, listed_formulas}
 use Rattle.ps_sentences.specs.declared.splitting.Split.{Split}
 use Rattle.ps_sentences.specs.declared.splitting.Split.TheVariants.{True, Both, Whole}
 
@@ -18,12 +18,13 @@ pub taken_at : {f : Formula} {nodes : List Node} {parts pending other_parts othe
 taken_at {f} {nodes} {parts} {pending} {other_parts} {others} same too taken =
     subst (λ (l : List ℕ). IsTaken f nodes l others) same (subst (λ (l : List ℕ). IsTaken f nodes parts l) too taken)
 
-taken_grown : {f : Formula} {old new : List Node} (parts pending : List ℕ) → IsGrown old new →
+taken_grown : {f : Formula} {old new : List Node} (parts pending : List ℕ) → IsGrownTable old new →
     IsTaken f old parts pending → IsTaken f new parts pending
 taken_grown parts pending grows taken = record {
   parts_there = are_still_in grows parts taken.parts_there;
   pending_there = are_still_in grows pending taken.pending_there;
-  same = λ w i decided. rw (formulas_kept grows parts taken.parts_there, formulas_kept grows pending taken.pending_there)
+  same =
+      λ w i decided. rw (formulas_kept grows parts taken.parts_there, formulas_kept grows pending taken.pending_there)
       (taken.same w i decided);
 }
 
@@ -31,7 +32,7 @@ taken_grown parts pending grows taken = record {
 taken_replaced : {f : Formula} {nodes : List Node} (parts pending : List ℕ) (index : ℕ) (more others : List ℕ) →
     IsTaken f nodes parts (pending ++ index ∷ []) → AreIn nodes more → AreIn nodes others →
     ((w : ℕ → ℕ) (i : ℕ) → IsDecidedWord w → (Satisfies (formula_at nodes index) w i) ↔
-    (AllHold w i (formulas_in nodes more) × AllHold w i (formulas_in nodes others))) →
+    (AllHold w i (listed_formulas nodes more) × AllHold w i (listed_formulas nodes others))) →
     IsTaken f nodes (parts ++ more) (pending ++ others)
 taken_replaced {f} {nodes} parts pending index more others taken more_there others_there replaces =
     let make = formula_at nodes in
@@ -58,7 +59,7 @@ taken_replaced {f} {nodes} parts pending index more others taken more_there othe
     }
 
 -- the equivalence of a formula, in a table that has grown
-grown_is : {old new : List Node} {index : ℕ} (g : Formula) → IsGrown old new → index < length old →
+grown_is : {old new : List Node} {index : ℕ} (g : Formula) → IsGrownTable old new → index < length old →
     IsEquivalent (formula_at old index) g → IsEquivalent (formula_at new index) g
 grown_is {old} {new} {index} g grows there is = equivalent_trans (equivalent_is (formula_kept grows index there)) is
 
@@ -70,7 +71,8 @@ module _ {old new : List Node} (parts pending : List ℕ) {index : ℕ} (there :
     keeps = λ f taken.
         let grown = taken_grown parts (pending ++ index ∷ []) split.grows taken in
         let is = grown_is _ split.grows there split.has in
-        taken_at (append-nil parts) (append-nil pending) (taken_replaced parts pending index [] [] grown tt tt (λ w i decided.
+        taken_at (append-nil parts) (append-nil pending)
+        (taken_replaced parts pending index [] [] grown tt tt (λ w i decided.
         (λ holds. (tt, tt), λ none. (is.each w i decided).1 refl)));
   }
 
@@ -80,7 +82,8 @@ module _ {old new : List Node} (parts pending : List ℕ) {index : ℕ} (there :
     grows = split.grows;
     keeps = λ f taken.
         let grown = taken_grown parts (pending ++ index ∷ []) split.grows taken in
-        taken_at refl (append-nil pending) (taken_replaced parts pending index (index ∷ []) [] grown (still_in split.grows index there, tt)
+        taken_at refl (append-nil pending)
+        (taken_replaced parts pending index (index ∷ []) [] grown (still_in split.grows index there, tt)
         tt (λ w i decided. (λ holds. ((holds, tt), tt), λ both. both.0.0)));
   }
 
@@ -91,7 +94,8 @@ module _ {old new : List Node} (parts pending : List ℕ) {index : ℕ} (there :
     keeps = λ f taken.
         let grown = taken_grown parts (pending ++ index ∷ []) split.grows taken in
         let is = grown_is _ split.grows there split.has.2 in
-        taken_at (append-nil parts) refl (taken_replaced parts pending index [] (h ∷ g ∷ []) grown tt (split.has.1, (split.has.0, tt))
+        taken_at (append-nil parts) refl
+        (taken_replaced parts pending index [] (h ∷ g ∷ []) grown tt (split.has.1, (split.has.0, tt))
         (λ w i decided. (
           λ holds. let two = (is.each w i decided).0 holds in (tt, (two.1, (two.0, tt))),
           λ both. (is.each w i decided).1 (both.1.1.0, both.1.0),
@@ -112,7 +116,7 @@ taken_first nodes root there = record {
   same = λ w i decided. (λ holds. (tt, (holds, tt)), λ both. both.1.0);
 }
 
-pub conjuncts_taken : {f : Formula} {old new : List Node} (parts : List ℕ) → IsGrown old new →
+pub conjuncts_taken : {f : Formula} {old new : List Node} (parts : List ℕ) → IsGrownTable old new →
     IsTaken f new parts [] → AreConjunctsOf f old new parts
 conjuncts_taken parts grows taken = record {
   grows = grows;

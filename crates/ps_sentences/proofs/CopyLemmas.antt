@@ -1,5 +1,6 @@
 -- The nodes of a table, added one after another, make the same table.
-use Rattle.std.proofs.Common.{◌≡◌, ◌∙◌, ◌<◌, ◌++◌, ◌+◌, ◌∷◌, [], ℕ, List, Some, ap, arith, get_or, inl, inr, length, sym, subst}
+use Rattle.std.proofs.Common.{◌≡◌, ◌∙◌, ◌<◌, ◌++◌, ◌+◌, ◌∷◌, [], ℕ, List, Some, ap, arith, get_or, inl, inr, length}
+use Rattle.std.proofs.Common.{sym, subst}
 use Rattle.std.proofs.Common.{take}
 use Rattle.std.proofs.lemmas.List.{length-take, take_more, get_or-take}
 use Rattle.std.proofs.lemmas.Option.{slice_get-get_or}

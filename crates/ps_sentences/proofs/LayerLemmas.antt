@@ -1,15 +1,16 @@
 -- Layers distribute over conjunctions, and keep equivalence.
 use Rattle.std.proofs.Common.{◌≡◌, ◌∙◌, ℕ, ◌⊎◌, ◌+◌, inl, inr, List, [], ◌∷◌, ◌++◌, refl, ap, true}
 use Rattle.ps_formula.proofs.Dualities.{keeps_like}
-use Rattle.ps_formula.specs.Formulas.{Formula, and_of, constant, formula_at, formula_of, formulas_of, implies, weak_until}
+use Rattle.ps_formula.specs.Formulas.{Formula, and_of, constant, formula_at, formula_of, formulas_of, implies}
+use Rattle.ps_formula.specs.Formulas.{weak_until}
 use Rattle.ps_formula.specs.Satisfaction.{Keeps}
 use Rattle.ps_formula.specs.declared.node.Node.{Node}
 use Rattle.ps_sentences.specs.Inner.Layers.{AreLayers, IsLayer, around, node_around, within}
 use Rattle.ps_sentences.specs.Sentences.{IsEquivalent}
-use Rattle.ps_sentences.specs.Tables.{IsGrown}
+use Rattle.ps_sentences.specs.Tables.{IsGrownTable}
 use Rattle.ps_sentences.specs.declared.layers.Layer.{Layer}
 use Rattle.ps_sentences.specs.declared.layers.Layer.TheVariants.{Next, Globally, Given, Unless}
-use Rattle.ps_sentences.proofs.TableLemmas.{all_like, formula_kept, still_in}
+use Rattle.ps_sentences.proofs.GrownLemmas.{all_like, formula_kept, still_in}
 
 -- ## Equivalence
 
@@ -101,7 +102,7 @@ around_true nodes (Unless right) = record {
   each = λ w i decided. (λ h. refl, λ h. record { each = λ j low. inl (inl refl) });
 }
 
-pub around_kept : {old new : List Node} → IsGrown old new → (layer : Layer) (f : Formula) → IsLayer old layer →
+pub around_kept : {old new : List Node} → IsGrownTable old new → (layer : Layer) (f : Formula) → IsLayer old layer →
     around new layer f ≡ around old layer f
 around_kept grows Next f there = refl
 around_kept grows Globally f there = refl
@@ -135,19 +136,20 @@ pub within-append : (nodes : List Node) (layers : List Layer) (layer : Layer) (f
 within-append nodes [] layer f = refl
 within-append nodes (outer ∷ layers) layer f = ap (around nodes outer) (within-append nodes layers layer f)
 
-pub within_kept : {old new : List Node} → IsGrown old new → (layers : List Layer) (f : Formula) →
+pub within_kept : {old new : List Node} → IsGrownTable old new → (layers : List Layer) (f : Formula) →
     AreLayers old layers → within new layers f ≡ within old layers f
 within_kept grows [] f there = refl
 within_kept {old} {new} grows (layer ∷ layers) f there =
     ap (around new layer) (within_kept grows layers f there.1)
     ∙ around_kept grows layer (within old layers f) there.0
 
-pub is_still_layer : {old new : List Node} → IsGrown old new → (layer : Layer) → IsLayer old layer → IsLayer new layer
+pub is_still_layer : {old new : List Node} → IsGrownTable old new → (layer : Layer) → IsLayer old layer →
+    IsLayer new layer
 is_still_layer grows Next there = tt
 is_still_layer grows Globally there = tt
 is_still_layer grows (Given left) there = still_in grows left there
 is_still_layer grows (Unless right) there = still_in grows right there
 
-pub are_still_layers : {old new : List Node} → IsGrown old new → (layers : List Layer) → AreLayers old layers →
+pub are_still_layers : {old new : List Node} → IsGrownTable old new → (layers : List Layer) → AreLayers old layers →
     AreLayers new layers
 are_still_layers grows layers there = all_like (is_still_layer grows) layers there

@@ -1,4 +1,4 @@
-pub mod TableLemmas
+pub mod GrownLemmas
 pub mod CopyLemmas
 pub mod LayerLemmas
 pub mod ShapeLemmas
@@ -7,4 +7,5 @@ pub mod ConjunctLemmas
 pub mod OwingLemmas
 pub mod ListingLemmas
 pub mod ResultLemmas
+pub mod ConjunctionLemmas
 pub mod MentionLemmas

@@ -1,17 +1,18 @@
 -- A list of antecedents is added.
-use Rattle.std.proofs.Common.{◌≡◌, ◌∙◌, ◌<◌, ◌+◌, ◌++◌, ◌∷◌, [], ℕ, List, ap, arith, get_or, length, length-append, map, sym}
+use Rattle.std.proofs.Common.{◌≡◌, ◌∙◌, ◌<◌, ◌+◌, ◌++◌, ◌∷◌, [], ℕ, List, ap, arith, get_or, length, length-append, map}
+use Rattle.std.proofs.Common.{sym}
 use Rattle.std.proofs.Common.{Global, None, Ok, Err, Option, Result, Some, Vec, vec_len}
 use Rattle.std.proofs.lemmas.List.{get_or-map, get_or_push, length-map, map-append}
 use Rattle.std.specs.Prelude.{IfNone, IfOk, IfSome, slice_index_or}
 use Rattle.std.specs.declared.alloc.AllocError.{AllocError}
 use Rattle.ps_formula.specs.Formulas.{formula_at, implies}
 use Rattle.ps_sentences.proofs.OwingLemmas.{IsMore, Replaces, given_replaces}
-use Rattle.ps_sentences.proofs.TableLemmas.{formula_kept, grown_trans, still_in}
-use Rattle.ps_sentences.specs.Inner.Conjuncts.{AreConjunctsOf, IsConjunction}
+use Rattle.ps_sentences.proofs.GrownLemmas.{formula_kept, grown_trans, still_in}
+use Rattle.ps_sentences.specs.Inner.Conjuncts.{AreConjunctsOf}
 use Rattle.ps_sentences.specs.Inner.Owing.{AddsList, IsKept, sentence_with}
 use Rattle.ps_sentences.specs.Partings.{IsSentenceIn, lists_of}
-use Rattle.ps_sentences.specs.Sentences.{IsEquivalent}
-use Rattle.ps_sentences.specs.Tables.{IsGrown, formulas_in}
+use Rattle.ps_sentences.specs.Sentences.{IsConjunction, IsEquivalent}
+use Rattle.ps_sentences.specs.Tables.{IsGrownTable, listed_formulas}
 use Rattle.ps_sentences.specs.declared.parting.Parting.{Parting}
 use Rattle.ps_sentences.specs.declared.parting.Sentence.{Sentence}
 
@@ -43,7 +44,7 @@ list_at lists k v there is =
 
 -- an implication whose left side joins the antecedents
 module _ {p mid q : Parting} {s : Sentence} {f g index : ℕ} (there : IsSentenceIn p.table (lists_of p) s)
-    (grows : IsGrown p.table mid.table) (lists : lists_of mid ≡ lists_of p)
+    (grows : IsGrownTable p.table mid.table) (lists : lists_of mid ≡ lists_of p)
     (sentences : mid.sentences.items ≡ p.sentences.items)
     (f_low : f < length mid.table) (g_low : g < length mid.table)
     (is : IsEquivalent (formula_at p.table s.consequent) (implies (formula_at mid.table f) (formula_at mid.table g)))
@@ -65,6 +66,7 @@ module _ {p mid q : Parting} {s : Sentence} {f g index : ℕ} (there : IsSentenc
       ∙ get_or_push (lists_of p) (known ++ listed.parts) [] index (sym place) in
       let left = formula_kept kept.grows f f_low in
       let right = formula_kept kept.grows g g_low in
-      let conjunction : IsConjunction (formula_at q.table f) (formulas_in q.table listed.parts) = rw left listed.are.is in
+      let conjunction : IsConjunction (formula_at q.table f) (listed_formulas q.table listed.parts) =
+      rw left listed.are.is in
       given_replaces more s there f g listed.parts (still_in kept.grows g g_low) listed.are.there
       (kept.sentences ∙ sentences) index (omega arith) at conjunction (rw (left, right) is)

@@ -1,6 +1,6 @@
 -- A formula's truth depends on the propositions that it mentions alone.
 -- - `truth_as`: two words with the same bits of these propositions satisfy the formula alike
--- - `none_mentioned`, `one_mentioned`, `two_mentioned`: the propositions of a constant, a proposition and two operands
+-- - `one_mentioned`, `two_mentioned`, `node_mentioned`: the propositions of a proposition, and of two operands
 use Rattle.std.proofs.Common.{◌≡◌, ◌∙◌, ◌⊎◌, ◌||◌, ℕ, ◌+◌, ◌^◌, inl, inr, refl, sym, ◌<◌, ◌%◌, ◌*◌}
 use Rattle.std.proofs.Common.{List, [], ◌∷◌, ◌++◌, arith, bit_or, get_or, length, length-append}
 use Rattle.std.proofs.Math.Seq.{get_or-append_seam}

@@ -1,25 +1,25 @@
 -- A formula stays the conjunction of its sentences and of those that are still to be taken apart.
-use Rattle.std.proofs.Common.{◌≡◌, ◌∙◌, ◌<◌, ◌++◌, ◌∷◌, [], ℕ, List, ap, append-nil, arith, get_or, length, length-append}
+use Rattle.std.proofs.Common.{◌≡◌, ◌∙◌, ◌<◌, ◌++◌, ◌∷◌, [], ℕ, List, ap, append-nil, arith, get_or, length}
+use Rattle.std.proofs.Common.{length-append}
 use Rattle.std.proofs.Common.{map, refl, subst, sym, true}
 use Rattle.std.proofs.lemmas.List.{get_or_append_left}
 use Rattle.std.specs.Prelude.{◌↔◌, slice_index_or}
 use Rattle.ps_formula.specs.Formulas.{Formula, and_of, constant, formula_at, implies}
 use Rattle.ps_formula.specs.Satisfaction.{IsDecidedWord, Satisfies}
 use Rattle.ps_formula.specs.declared.node.Node.{Node}
-use Rattle.ps_sentences.proofs.TableLemmas.{all_append, all_front, all_like, all_over, are_still_in}
-use Rattle.ps_sentences.proofs.TableLemmas.{formula_kept, formulas_kept, grown_trans, mapped_back, mapped_front}
-use Rattle.ps_sentences.proofs.TableLemmas.{mapped_join, mapped_over, still_in}
-use Rattle.ps_sentences.specs.Inner.Conjuncts.{IsConjunction}
+use Rattle.ps_sentences.proofs.GrownLemmas.{all_append, all_front, all_like, all_over, are_still_in}
+use Rattle.ps_sentences.proofs.GrownLemmas.{formula_kept, formulas_kept, grown_trans, mapped_back, mapped_front}
+use Rattle.ps_sentences.proofs.GrownLemmas.{mapped_join, mapped_over, still_in}
 use Rattle.ps_sentences.specs.Inner.Owing.{AreObeyed, IsUnparted, Owes, TakesOne, sentence_with}
 use Rattle.ps_sentences.specs.Partings.{AreSentencesIn, IsPartingOf, IsSentenceIn, lists_of, sentence_in, sentence_of}
-use Rattle.ps_sentences.specs.Sentences.{AllHold, IsEquivalent, IsObeyed, SentenceData}
-use Rattle.ps_sentences.specs.Tables.{AreIn, IsGrown, formulas_in}
+use Rattle.ps_sentences.specs.Sentences.{AllHold, IsConjunction, IsEquivalent, IsObeyed, SentenceData}
+use Rattle.ps_sentences.specs.Tables.{AreIn, IsGrownTable, listed_formulas}
 use Rattle.ps_sentences.specs.declared.parting.Parting.{Parting}
 use Rattle.ps_sentences.specs.declared.parting.Sentence.{Sentence}
 
 -- ## Growth
 
-module _ {old new : List Node} (grows : IsGrown old new) (lists more : List (List ℕ)) where
+module _ {old new : List Node} (grows : IsGrownTable old new) (lists more : List (List ℕ)) where
   same_list : (s : Sentence) → IsSentenceIn old lists s →
       slice_index_or (lists ++ more) s.antecedents [] ≡ slice_index_or lists s.antecedents []
   same_list s there = get_or_append_left lists more [] s.antecedents there.list
@@ -35,13 +35,14 @@ module _ {old new : List Node} (grows : IsGrown old new) (lists more : List (Lis
       }
 
   pub same_antecedents : (s : Sentence) → IsSentenceIn old lists s →
-      formulas_in new (slice_index_or (lists ++ more) s.antecedents []) ≡
-      formulas_in old (slice_index_or lists s.antecedents [])
+      listed_formulas new (slice_index_or (lists ++ more) s.antecedents []) ≡
+      listed_formulas old (slice_index_or lists s.antecedents [])
   same_antecedents s there =
-      ap (formulas_in new) (same_list s there)
+      ap (listed_formulas new) (same_list s there)
       ∙ formulas_kept grows (slice_index_or lists s.antecedents []) there.antecedents
 
-  same_sentence : (s : Sentence) → IsSentenceIn old lists s → sentence_in new (lists ++ more) s ≡ sentence_in old lists s
+  same_sentence : (s : Sentence) → IsSentenceIn old lists s →
+      sentence_in new (lists ++ more) s ≡ sentence_in old lists s
   same_sentence s there = λ i. record {
     antecedents = same_antecedents s there i;
     consequent = formula_kept grows s.consequent there.consequent i;
@@ -59,7 +60,7 @@ module _ {old new : List Node} (grows : IsGrown old new) (lists more : List (Lis
 
 -- q has the sentences of p and more ones, and the others are pending in place of s
 pub record Replaces (p : Parting) (s : Sentence) (q : Parting) (more others : List Sentence) : Type 0 where
-  pub grows : IsGrown p.table q.table
+  pub grows : IsGrownTable p.table q.table
   pub new_lists : List (List ℕ)
   pub lists : lists_of q ≡ lists_of p ++ new_lists
   pub sentences : q.sentences.items ≡ p.sentences.items ++ more
@@ -127,7 +128,7 @@ replaced r pending = record { grows = r.grows; keeps = λ f owes. owes_more r pe
 
 -- q has the table of p with more formulas, and its lists with more ones
 pub record IsMore (p q : Parting) (new_lists : List (List ℕ)) : Type 0 where
-  pub grows : IsGrown p.table q.table
+  pub grows : IsGrownTable p.table q.table
   pub lists : lists_of q ≡ lists_of p ++ new_lists
 
 module _ {p q : Parting} {new_lists : List (List ℕ)} (m : IsMore p q new_lists) (s : Sentence)
@@ -135,8 +136,8 @@ module _ {p q : Parting} {new_lists : List (List ℕ)} (m : IsMore p q new_lists
   pub there_still : IsSentenceIn q.table (lists_of q) s
   there_still = rw m.lists (still_sentence m.grows (lists_of p) new_lists s there)
 
-  pub antecedents_still : formulas_in q.table (slice_index_or (lists_of q) s.antecedents []) ≡
-      formulas_in p.table (slice_index_or (lists_of p) s.antecedents [])
+  pub antecedents_still : listed_formulas q.table (slice_index_or (lists_of q) s.antecedents []) ≡
+      listed_formulas p.table (slice_index_or (lists_of p) s.antecedents [])
   antecedents_still = rw m.lists (same_antecedents m.grows (lists_of p) new_lists s there)
 
   pub with_other : (k : ℕ) → k < length q.table → IsSentenceIn q.table (lists_of q) (sentence_with s.antecedents k)
@@ -178,13 +179,14 @@ module _ {p q : Parting} {new_lists : List (List ℕ)} (m : IsMore p q new_lists
   pub given_replaces : (f g : ℕ) (parts : List ℕ) → g < length q.table → AreIn q.table parts →
       q.sentences.items ≡ p.sentences.items → (index : ℕ) → index < length (lists_of q) →
       slice_index_or (lists_of q) index [] ≡ slice_index_or (lists_of p) s.antecedents [] ++ parts →
-      IsConjunction (formula_at q.table f) (formulas_in q.table parts) →
+      IsConjunction (formula_at q.table f) (listed_formulas q.table parts) →
       IsEquivalent (formula_at p.table s.consequent) (implies (formula_at q.table f) (formula_at q.table g)) →
       Replaces p s q [] (sentence_with index g ∷ [])
   given_replaces f g parts g_low parts_there same index index_low list conjunction is =
       let known = slice_index_or (lists_of p) s.antecedents [] in
       let make = formula_at q.table in
-      let kept : formulas_in q.table known ≡ formulas_in p.table known = formulas_kept m.grows known there.antecedents in
+      let kept : listed_formulas q.table known ≡ listed_formulas p.table known =
+      formulas_kept m.grows known there.antecedents in
       record {
         grows = m.grows;
         new_lists = new_lists;
@@ -218,14 +220,14 @@ module _ {p q : Parting} {new_lists : List (List ℕ)} (m : IsMore p q new_lists
       }
 
   each_obeyed : (w : ℕ → ℕ) (i : ℕ) (parts : List ℕ) →
-      (AllHold w i (formulas_in q.table (slice_index_or (lists_of q) s.antecedents [])) →
-      AllHold w i (formulas_in q.table parts)) → AreObeyed q w i (map (sentence_with s.antecedents) parts)
+      (AllHold w i (listed_formulas q.table (slice_index_or (lists_of q) s.antecedents [])) →
+      AllHold w i (listed_formulas q.table parts)) → AreObeyed q w i (map (sentence_with s.antecedents) parts)
   each_obeyed w i [] h = tt
   each_obeyed w i (k ∷ ks) h = ((λ a. (h a).0), each_obeyed w i ks (λ a. (h a).1))
 
   all_obeyed : (w : ℕ → ℕ) (i : ℕ) (parts : List ℕ) → AreObeyed q w i (map (sentence_with s.antecedents) parts) →
-      AllHold w i (formulas_in q.table (slice_index_or (lists_of q) s.antecedents [])) →
-      AllHold w i (formulas_in q.table parts)
+      AllHold w i (listed_formulas q.table (slice_index_or (lists_of q) s.antecedents [])) →
+      AllHold w i (listed_formulas q.table parts)
   all_obeyed w i [] h a = tt
   all_obeyed w i (k ∷ ks) h a = (h.0 a, all_obeyed w i ks h.1 a)
 
@@ -237,7 +239,7 @@ module _ {p q : Parting} {new_lists : List (List ℕ)} (m : IsMore p q new_lists
   -- the conjuncts of the consequent are its sentences
   pub parts_replace : (parts : List ℕ) → AreIn q.table parts →
       q.sentences.items ≡ p.sentences.items ++ map (sentence_with s.antecedents) parts →
-      IsConjunction (formula_at p.table s.consequent) (formulas_in q.table parts) →
+      IsConjunction (formula_at p.table s.consequent) (listed_formulas q.table parts) →
       Replaces p s q (map (sentence_with s.antecedents) parts) []
   parts_replace parts parts_there more conjunction = record {
     grows = m.grows;
@@ -254,11 +256,11 @@ module _ {p q : Parting} {new_lists : List (List ℕ)} (m : IsMore p q new_lists
 
 -- ## The table alone grows
 
-pub only_grows : {p q : Parting} → IsGrown p.table q.table → lists_of q ≡ lists_of p → IsMore p q []
+pub only_grows : {p q : Parting} → IsGrownTable p.table q.table → lists_of q ≡ lists_of p → IsMore p q []
 only_grows {p} grows same = record { grows = grows; lists = same ∙ sym (append-nil (lists_of p)) }
 
 -- what is owed stays so
-pub owes_still : {p q : Parting} (f : Formula) (rest : List Sentence) → IsGrown p.table q.table →
+pub owes_still : {p q : Parting} (f : Formula) (rest : List Sentence) → IsGrownTable p.table q.table →
     lists_of q ≡ lists_of p → q.sentences.items ≡ p.sentences.items → Owes f p rest → Owes f q rest
 owes_still {p} {q} f rest grows same sentences owes =
     let lists : lists_of q ≡ lists_of p ++ [] = same ∙ sym (append-nil (lists_of p)) in
@@ -285,7 +287,7 @@ owes_still {p} {q} f rest grows same sentences owes =
           );
     }
 
-pub takes_through : {p mid q : Parting} (pending rest : List Sentence) → IsGrown p.table mid.table →
+pub takes_through : {p mid q : Parting} (pending rest : List Sentence) → IsGrownTable p.table mid.table →
     lists_of mid ≡ lists_of p → mid.sentences.items ≡ p.sentences.items → TakesOne mid pending q rest →
     TakesOne p pending q rest
 takes_through pending rest grows same sentences takes = record {
@@ -328,7 +330,7 @@ owes_first {nodes} {p} none root low =
     }
 
 -- at last nothing is owed
-pub parted_whole : {nodes : List Node} {root : ℕ} {p : Parting} → IsGrown nodes p.table →
+pub parted_whole : {nodes : List Node} {root : ℕ} {p : Parting} → IsGrownTable nodes p.table →
     Owes (formula_at nodes root) p [] → IsPartingOf nodes root p
 parted_whole grows owes = record {
   grows = grows;
@@ -340,3 +342,15 @@ parted_whole grows owes = record {
     );
   };
 }
+
+-- a sentence stays if the table alone grows
+pub sentence_still : (p q : Parting) → IsGrownTable p.table q.table → lists_of q ≡ lists_of p → (s : Sentence) →
+    IsSentenceIn p.table (lists_of p) s → sentence_of q s ≡ sentence_of p s
+sentence_still p q grows same s there =
+    ap (λ (ls : List (List ℕ)). sentence_in q.table ls s) (same ∙ sym (append-nil (lists_of p)))
+    ∙ same_sentence grows (lists_of p) [] s there
+
+pub sentences_still : (p q : Parting) → IsGrownTable p.table q.table → lists_of q ≡ lists_of p → (ss : List Sentence) →
+    AreSentencesIn p.table (lists_of p) ss → AreSentencesIn q.table (lists_of q) ss
+sentences_still p q grows same ss there =
+    rw (same ∙ sym (append-nil (lists_of p))) (still_sentences grows (lists_of p) [] ss there)

@@ -6,8 +6,8 @@ use Rattle.ps_formula.specs.Formulas.{Formula, and_of, constant, finally, global
 use Rattle.ps_formula.specs.Formulas.{IsAdded, IsTable, formula_at, formula_of, formulas_of}
 use Rattle.ps_formula.specs.declared.node.Node.{Node}
 use Rattle.ps_sentences.proofs.LayerLemmas.{equivalent_is}
-use Rattle.ps_sentences.proofs.TableLemmas.{added_formula, added_grows, added_there, formula_kept, grown_refl}
-use Rattle.ps_sentences.proofs.TableLemmas.{grown_trans, still_in}
+use Rattle.ps_sentences.proofs.GrownLemmas.{added_formula, added_grows, added_there, formula_kept, grown_refl}
+use Rattle.ps_sentences.proofs.GrownLemmas.{grown_trans, still_in}
 use Rattle.ps_sentences.specs.Inner.Layers.{IsLayer, around}
 use Rattle.ps_sentences.specs.Inner.Shapes.{IsShapeOf}
 use Rattle.ps_sentences.specs.Sentences.{IsEquivalent}

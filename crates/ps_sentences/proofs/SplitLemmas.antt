@@ -6,13 +6,13 @@ use Rattle.ps_formula.specs.Formulas.{Formula, IsAdded, IsOver, IsTable, and_of,
 use Rattle.ps_formula.specs.declared.node.Node.{Node}
 use Rattle.ps_sentences.proofs.LayerLemmas.{are_still_layers, around_both, around_kept, around_node, equivalent_is}
 use Rattle.ps_sentences.proofs.LayerLemmas.{equivalent_trans, within-append, within_kept, within_like, within_true}
-use Rattle.ps_sentences.proofs.TableLemmas.{added_formula, added_grows, added_there, all_append, all_back, all_front}
-use Rattle.ps_sentences.proofs.TableLemmas.{formula_kept, grown_trans, still_in}
+use Rattle.ps_sentences.proofs.GrownLemmas.{added_formula, added_grows, added_there, all_append, all_back, all_front}
+use Rattle.ps_sentences.proofs.GrownLemmas.{formula_kept, grown_trans, still_in}
 use Rattle.ps_sentences.specs.Inner.Conjuncts.{IsSplitOf, SplitsWithin, TakesSteps}
 use Rattle.ps_sentences.specs.Inner.Layers.{AreLayers, IsLayer, around, node_around, within}
 use Rattle.ps_sentences.specs.Inner.Shapes.{IsShapeOf}
 use Rattle.ps_sentences.specs.Sentences.{IsEquivalent}
-use Rattle.ps_sentences.specs.Tables.{IsGrown}
+use Rattle.ps_sentences.specs.Tables.{IsGrownTable}
 use Rattle.ps_sentences.specs.declared.layers.Layer.{Layer}
 use Rattle.ps_sentences.specs.declared.layers.Layer.TheVariants.{Next, Globally, Given, Unless}
 use Rattle.ps_sentences.specs.declared.shapes.Shape.{Shape}
@@ -35,7 +35,7 @@ pub record AreAround (f : Formula) (nodes : List Node) (layers : List Layer) (fi
 
 module _ {f : Formula} {old new : List Node} {layers : List Layer} {k : ℕ} (is_around : IsAround f old layers k) where
   -- the formula inside, in a table that has grown, is equivalent to another one
-  inside : IsGrown old new → (g : Formula) → IsEquivalent (formula_at old k) g →
+  inside : IsGrownTable old new → (g : Formula) → IsEquivalent (formula_at old k) g →
       IsEquivalent f (within new layers g)
   inside grows g is =
       equivalent_trans is_around.is (equivalent_trans (within_like old layers (formula_at old k) g is)
@@ -68,7 +68,7 @@ module _ {f : Formula} {old new : List Node} {layers : List Layer} {k : ℕ} (is
 -- ## On
 
 -- a node is added around an operand
-added_around : {old mid new : List Node} (layer : Layer) (k i : ℕ) → IsGrown old mid → IsLayer old layer →
+added_around : {old mid new : List Node} (layer : Layer) (k i : ℕ) → IsGrownTable old mid → IsLayer old layer →
     k < length old → IsAdded mid (node_around layer k) new i → IsTable new →
     formula_at new i ≡ around old layer (formula_at old k)
 added_around {old} {mid} {new} layer k i before is_layer there added table =
@@ -88,7 +88,8 @@ module _ {f : Formula} {old mid new : List Node} (layers : List Layer) (layer : 
       let is_layer = (all_back (IsLayer old) layers (layer ∷ []) are.layers_there).0 in
       let left : formula_at new i ≡ around old layer (formula_at old first) =
       formula_kept more i (added_there one)
-      ∙ added_around layer first i (record { more = []; is = sym (append-nil old) }) is_layer are.first_there one table_one
+      ∙ added_around layer first i (record { more = []; is = sym (append-nil old) }) is_layer are.first_there one
+      table_one
       in
       let right : formula_at new j ≡ around old layer (formula_at old second) =
       added_around layer second j (added_grows one) is_layer are.second_there two table_two in
@@ -105,13 +106,13 @@ module _ {f : Formula} {old mid new : List Node} (layers : List Layer) (layer : 
         is = rw (left, right) (equivalent_trans apart (equivalent_is (sym (within_kept grows layers h outer))));
       }
 
-pub are_split : {f : Formula} {old new : List Node} {first second : ℕ} → IsGrown old new →
+pub are_split : {f : Formula} {old new : List Node} {first second : ℕ} → IsGrownTable old new →
     AreAround f new [] first second → IsSplitOf f old new (Both first second)
 are_split grows are = record { grows = grows; has = (are.first_there, are.second_there, are.is) }
 
 -- the halves of a formula inside are those of the whole
 pub split_through : {f : Formula} {old mid new : List Node} {layers : List Layer} {first second : ℕ} →
-    AreAround f mid layers first second → IsGrown old mid → (split : Split) →
+    AreAround f mid layers first second → IsGrownTable old mid → (split : Split) →
     SplitsWithin layers first second mid new split → IsSplitOf f old new split
 split_through are grows True within = record {
   grows = grown_trans grows within.is.grows;

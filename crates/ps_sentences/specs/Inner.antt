@@ -4,4 +4,5 @@ pub mod Layers
 pub mod Shapes
 pub mod Conjuncts
 pub mod Owing
+pub mod Conjoining
 pub mod MentionedBefore

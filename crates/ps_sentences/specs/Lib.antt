@@ -1,5 +1,6 @@
 pub mod Sentences
 pub mod Tables
 pub mod Partings
+pub mod Conjunctions
 pub mod Mentions
 pub mod Inner

@@ -7,7 +7,7 @@ use Rattle.std.specs.List.{AllByRecursion}
 use Rattle.ps_formula.specs.Formulas.{formula_at}
 use Rattle.ps_formula.specs.declared.node.Node.{Node}
 use Rattle.ps_sentences.specs.Sentences.{AreSentencesOf, SentenceData}
-use Rattle.ps_sentences.specs.Tables.{AreIn, IsGrown, formulas_in}
+use Rattle.ps_sentences.specs.Tables.{AreIn, IsGrownTable, listed_formulas}
 use Rattle.ps_sentences.specs.declared.parting.Parting.{Parting}
 use Rattle.ps_sentences.specs.declared.parting.Sentence.{Sentence}
 
@@ -16,7 +16,7 @@ lists_of p = map (λ v. v.items) p.lists.items
 
 abbrev pub sentence_in : List Node → List (List ℕ) → Sentence → SentenceData
 sentence_in nodes lists s = record {
-  antecedents = formulas_in nodes (slice_index_or lists s.antecedents []);
+  antecedents = listed_formulas nodes (slice_index_or lists s.antecedents []);
   consequent = formula_at nodes s.consequent;
 }
 
@@ -36,6 +36,6 @@ abbrev pub AreSentencesIn : List Node → List (List ℕ) → List Sentence → 
 AreSentencesIn nodes lists sentences = AllByRecursion (IsSentenceIn nodes lists) sentences
 
 pub record IsPartingOf (nodes : List Node) (root : ℕ) (p : Parting) : Type 0 where
-  pub grows : IsGrown nodes p.table
+  pub grows : IsGrownTable nodes p.table
   pub sentences : AreSentencesIn p.table (lists_of p) p.sentences.items
   pub same : AreSentencesOf (formula_at nodes root) (map (sentence_of p) p.sentences.items)

@@ -6,6 +6,8 @@
 //! | Call | What it gives |
 //! |---|---|
 //! | `parted(formulas, root)` | a [`Parting`]: sentences whose conjunction is the formula |
+//! | `implications(table, lists, sentences)` | the sentences as formulas |
+//! | `conjunction(table, formulas)` | the conjunction of formulas |
 //! | `mentioned(formulas, root)` | the propositions that a formula mentions, as a letter |
 //! | `truth_depends_on_mentions` | a law: a formula's truth depends on the propositions that it mentions alone |
 //!
@@ -17,11 +19,13 @@
 
 mod conjuncts;
 mod copying;
+mod joining;
 mod layers;
 mod mentions;
 mod parting;
 mod shapes;
 mod splitting;
 
+pub use joining::{conjunction, implications};
 pub use mentions::{mentioned, truth_depends_on_mentions};
 pub use parting::{Parting, Sentence, parted};

@@ -1,5 +1,4 @@
 -- A formula as a conjunction of others in a table that grows.
--- - `IsConjunction f fs`: f is equivalent to the conjunction of the formulas fs
 -- - `HasSplit nodes f split`: f is `true`, the conjunction of two formulas of the table, or whole
 -- - `AreConjunctsOf f old new parts`: f is equivalent to the conjunction of the parts
 use Rattle.std.specs.Prelude.{◌↔◌, ◌<◌, ◌≤◌, ℕ, List}
@@ -8,8 +7,8 @@ use Rattle.ps_formula.specs.Satisfaction.{IsDecidedWord, Satisfies}
 use Rattle.ps_formula.specs.declared.node.Node.{Node}
 use Rattle.ps_sentences.specs.Inner.Layers.{within}
 use Rattle.ps_sentences.specs.Inner.Shapes.{HasShape}
-use Rattle.ps_sentences.specs.Sentences.{AllHold}
-use Rattle.ps_sentences.specs.Tables.{AreIn, IsGrown, formulas_in}
+use Rattle.ps_sentences.specs.Sentences.{AllHold, IsConjunction}
+use Rattle.ps_sentences.specs.Tables.{AreIn, IsGrownTable, listed_formulas}
 use Rattle.ps_sentences.specs.declared.layers.Layer.{Layer}
 use Rattle.ps_sentences.specs.declared.shapes.Shape.{Shape}
 use Rattle.ps_sentences.specs.declared.shapes.Shape.TheVariants as shapes
@@ -22,20 +21,17 @@ HasSplit nodes f (Both g h) = HasShape nodes f (shapes.Both g h)
 HasSplit nodes f Whole = Unit {0}
 
 pub record IsSplitOf (f : Formula) (old new : List Node) (split : Split) : Type 0 where
-  pub grows : IsGrown old new
+  pub grows : IsGrownTable old new
   pub has : HasSplit new f split
 
 -- two formulas whose conjunction is that of the given ones, within the layers
 pub record SplitsWithin (layers : List Layer) (first second : ℕ) (old new : List Node) (split : Split) : Type 0 where
   pub is : IsSplitOf (within old layers (and_of (formula_at old first) (formula_at old second))) old new split
 
-pub record IsConjunction (f : Formula) (fs : List Formula) : Type 0 where
-  pub same : (w : ℕ → ℕ) (i : ℕ) → IsDecidedWord w → (Satisfies f w i) ↔ (AllHold w i fs)
-
 pub record AreConjunctsOf (f : Formula) (old new : List Node) (parts : List ℕ) : Type 0 where
-  pub grows : IsGrown old new
+  pub grows : IsGrownTable old new
   pub there : AreIn new parts
-  pub is : IsConjunction f (formulas_in new parts)
+  pub is : IsConjunction f (listed_formulas new parts)
 
 -- steps are taken, at least one if the formula was split
 abbrev pub TakesSteps : ℕ → ℕ → Split → Type 0
@@ -52,10 +48,10 @@ pub record IsTaken (f : Formula) (nodes : List Node) (parts pending : List ℕ) 
   pub parts_there : AreIn nodes parts
   pub pending_there : AreIn nodes pending
   pub same : (w : ℕ → ℕ) (i : ℕ) → IsDecidedWord w →
-      (Satisfies f w i) ↔ (AllHold w i (formulas_in nodes parts) × AllHold w i (formulas_in nodes pending))
+      (Satisfies f w i) ↔ (AllHold w i (listed_formulas nodes parts) × AllHold w i (listed_formulas nodes pending))
 
 -- the table grows, and the conjunction stays the same
 pub record TakesApart (nodes : List Node) (parts pending : List ℕ) (new_nodes : List Node)
     (new_parts new_pending : List ℕ) : Type 0 where
-  pub grows : IsGrown nodes new_nodes
+  pub grows : IsGrownTable nodes new_nodes
   pub keeps : (f : Formula) → IsTaken f nodes parts pending → IsTaken f new_nodes new_parts new_pending

@@ -11,7 +11,7 @@ use Rattle.ps_formula.specs.Satisfaction.{IsDecidedWord, Satisfies}
 use Rattle.ps_sentences.specs.Inner.Conjuncts.{AreConjunctsOf}
 use Rattle.ps_sentences.specs.Partings.{AreSentencesIn, lists_of, sentence_of}
 use Rattle.ps_sentences.specs.Sentences.{IsObeyed}
-use Rattle.ps_sentences.specs.Tables.{IsGrown}
+use Rattle.ps_sentences.specs.Tables.{IsGrownTable}
 use Rattle.ps_sentences.specs.declared.parting.Parting.{Parting}
 use Rattle.ps_sentences.specs.declared.parting.Sentence.{Sentence}
 
@@ -28,7 +28,7 @@ pub record Owes (f : Formula) (p : Parting) (rest : List Sentence) : Type 0 wher
       (Satisfies f w i) ↔ (AreObeyed p w i p.sentences.items × AreObeyed p w i rest)
 
 pub record TakesOne (p : Parting) (pending : List Sentence) (q : Parting) (rest : List Sentence) : Type 0 where
-  pub grows : IsGrown p.table q.table
+  pub grows : IsGrownTable p.table q.table
   pub keeps : (f : Formula) → Owes f p pending → Owes f q rest
 
 pub record IsUnparted (nodes : List Node) (p : Parting) : Type 0 where
@@ -37,7 +37,7 @@ pub record IsUnparted (nodes : List Node) (p : Parting) : Type 0 where
   pub none : p.sentences.items ≡ []
 
 pub record IsKept (p q : Parting) : Type 0 where
-  pub grows : IsGrown p.table q.table
+  pub grows : IsGrownTable p.table q.table
   pub sentences : q.sentences.items ≡ p.sentences.items
 
 pub record IsListed (p : Parting) (list formula : ℕ) (q : Parting) (index : ℕ) : Type 0 where

@@ -6,7 +6,7 @@ use Rattle.ps_formula.specs.Formulas.{Formula, and_of, constant, formula_at}
 use Rattle.ps_formula.specs.declared.node.Node.{Node}
 use Rattle.ps_sentences.specs.Inner.Layers.{IsLayer, around}
 use Rattle.ps_sentences.specs.Sentences.{IsEquivalent}
-use Rattle.ps_sentences.specs.Tables.{IsGrown}
+use Rattle.ps_sentences.specs.Tables.{IsGrownTable}
 use Rattle.ps_sentences.specs.declared.shapes.Shape.{Shape}
 use Rattle.ps_sentences.specs.declared.shapes.Shape.TheVariants.{True, Both, Within, Whole}
 
@@ -19,5 +19,5 @@ HasShape nodes f (Within layer g) =
 HasShape nodes f Whole = Unit {0}
 
 pub record IsShapeOf (f : Formula) (old new : List Node) (shape : Shape) : Type 0 where
-  pub grows : IsGrown old new
+  pub grows : IsGrownTable old new
   pub has : HasShape new f shape

@@ -1,7 +1,7 @@
 use Rattle.std.proofs.Common.{◌++◌, ◌∷◌, ◌∙◌, ◌≡◌, [], ℕ, List, ap, arith, refl, sym}
 use Rattle.std.proofs.lemmas.List.{nil_from_length}
 use Rattle.ps_sentences.proofs.ConjunctLemmas.{conjuncts_taken, taken_at, taken_first}
-use Rattle.ps_sentences.proofs.TableLemmas.{all_back, grown_refl, grown_trans}
+use Rattle.ps_sentences.proofs.GrownLemmas.{all_back, grown_refl, grown_trans}
 use Rattle.ps_sentences.proofs.conjuncts.add_conjuncts.Goals as goal
 
 pub loop-index-init : goal.loop-index-init

@@ -1,7 +1,7 @@
 use Rattle.std.proofs.Common.{◌∙◌, ◌<◌, ap, arith, length}
 use Rattle.ps_formula.specs.Formulas.{constant}
 use Rattle.ps_sentences.proofs.ShapeLemmas.{is_both, is_true, is_within, shape_by}
-use Rattle.ps_sentences.proofs.TableLemmas.{at_node}
+use Rattle.ps_sentences.proofs.GrownLemmas.{at_node}
 use Rattle.ps_sentences.specs.declared.layers.Layer.TheVariants.{Next, Globally, Given, Unless}
 use Rattle.ps_sentences.proofs.shapes.shape_of.Goals as goal
 
@@ -58,7 +58,8 @@ returns-in-Globally c =
 
 pub returns-in-WeakUntil : goal.returns-in-WeakUntil
 returns-in-WeakUntil c =
-    let here = at_node c.as_slice.ensures.value c.as_slice.ensures.table c.args.index c.requires _ _ c.in-WeakUntil.is in
+    let here =
+    at_node c.as_slice.ensures.value c.as_slice.ensures.table c.args.index c.requires _ _ c.in-WeakUntil.is in
     let low = here.1.1 in
     let there : c.in-WeakUntil.g < length c.args.table.now = omega arith in
     is_within (Unless c.in-WeakUntil.g) c.requires here.1.0 there here.0

@@ -1,6 +1,6 @@
 use Rattle.ps_formula.specs.Formulas.{formula_at, iff, implies}
 use Rattle.ps_sentences.proofs.ShapeLemmas.{both_added, iff_is}
-use Rattle.ps_sentences.proofs.TableLemmas.{added_grows, formula_kept, grown_trans}
+use Rattle.ps_sentences.proofs.GrownLemmas.{added_grows, formula_kept, grown_trans}
 use Rattle.ps_sentences.proofs.shapes.shape_of_iff.Goals as goal
 
 pub returns : goal.returns

@@ -2,7 +2,7 @@ use Rattle.std.proofs.Common.{◌≡◌, ◌∙◌, ◌<◌, ap, arith, false, l
 use Rattle.ps_formula.specs.Formulas.{constant, formula_at, not_of}
 use Rattle.ps_sentences.proofs.LayerLemmas.{equivalent_is, equivalent_trans}
 use Rattle.ps_sentences.proofs.ShapeLemmas.{never_is, not_false_is, not_next_is, shape_by, within_added}
-use Rattle.ps_sentences.proofs.TableLemmas.{added_grows, at_node, formula_kept, grown_refl}
+use Rattle.ps_sentences.proofs.GrownLemmas.{added_grows, at_node, formula_kept, grown_refl}
 use Rattle.ps_sentences.specs.declared.layers.Layer.TheVariants as layers
 use Rattle.ps_sentences.proofs.shapes.shape_of_negation.Goals as goal
 

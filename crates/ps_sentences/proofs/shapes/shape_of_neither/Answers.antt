@@ -1,7 +1,7 @@
 use Rattle.std.proofs.Common.{ap}
 use Rattle.ps_formula.specs.Formulas.{formula_at, not_of, or_of}
 use Rattle.ps_sentences.proofs.ShapeLemmas.{both_added, neither_is}
-use Rattle.ps_sentences.proofs.TableLemmas.{added_grows, formula_kept, grown_trans}
+use Rattle.ps_sentences.proofs.GrownLemmas.{added_grows, formula_kept, grown_trans}
 use Rattle.ps_sentences.proofs.shapes.shape_of_neither.Goals as goal
 
 pub returns : goal.returns

@@ -2,7 +2,7 @@ use Rattle.std.proofs.Common.{◌∷◌, [], arith}
 use Rattle.std.proofs.lemmas.List.{nil_from_length}
 use Rattle.ps_sentences.proofs.LayerLemmas.{equivalent_refl, is_still_layer}
 use Rattle.ps_sentences.proofs.SplitLemmas.{are_around_at, are_split, around_over, one_further}
-use Rattle.ps_sentences.proofs.TableLemmas.{added_grows, all_back, grown_refl, grown_trans, still_in}
+use Rattle.ps_sentences.proofs.GrownLemmas.{added_grows, all_back, grown_refl, grown_trans, still_in}
 use Rattle.ps_sentences.specs.Inner.Layers.{IsLayer}
 use Rattle.ps_sentences.proofs.splitting.both_within.Goals as goal
 

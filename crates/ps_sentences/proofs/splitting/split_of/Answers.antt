@@ -3,7 +3,7 @@ use Rattle.std.proofs.lemmas.Result.{IfOk-weaker}
 use Rattle.ps_sentences.proofs.LayerLemmas.{equivalent_refl}
 use Rattle.ps_sentences.proofs.SplitLemmas.{around_at, both_inside, further_inside, shape_at, split_through}
 use Rattle.ps_sentences.proofs.SplitLemmas.{takes_any, true_inside}
-use Rattle.ps_sentences.proofs.TableLemmas.{grown_refl, grown_trans}
+use Rattle.ps_sentences.proofs.GrownLemmas.{grown_refl, grown_trans}
 use Rattle.ps_sentences.specs.declared.splitting.Split.{Split}
 use Rattle.ps_sentences.proofs.splitting.split_of.Goals as goal
 

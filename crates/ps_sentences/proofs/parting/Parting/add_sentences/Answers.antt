@@ -1,7 +1,7 @@
 use Rattle.std.proofs.Common.{◌∙◌, ◌≡◌, ◌++◌, ◌∷◌, [], List, ap, arith, sym}
 use Rattle.std.proofs.lemmas.List.{nil_from_length}
 use Rattle.ps_sentences.proofs.OwingLemmas.{owes_at, owes_first, parted_whole}
-use Rattle.ps_sentences.proofs.TableLemmas.{all_back, grown_refl, grown_trans}
+use Rattle.ps_sentences.proofs.GrownLemmas.{all_back, grown_refl, grown_trans}
 use Rattle.ps_sentences.specs.Inner.Owing.{sentence_with}
 use Rattle.ps_sentences.specs.declared.parting.Sentence.{Sentence}
 use Rattle.ps_sentences.proofs.parting.Parting.add_sentences.Goals as goal

@@ -1,12 +1,12 @@
 use Rattle.std.proofs.Common.{◌+◌, ◌*◌, vec_len}
 use Rattle.ps_formula.specs.Formulas.{formula_at}
 use Rattle.ps_sentences.specs.Inner.Owing.{Owes}
-use Rattle.ps_sentences.specs.Tables.{IsGrown}
+use Rattle.ps_sentences.specs.Tables.{IsGrownTable}
 use Rattle.ps_sentences.proofs.parting.Parting.add_sentences.Given as goal
 
 abbrev pub invariant-loop-sentence : goal.invariant-loop-sentence
 invariant-loop-sentence l = record {
-  grows : IsGrown l.fn.self.table l.self.table;
+  grows : IsGrownTable l.fn.self.table l.self.table;
   owes : Owes (formula_at l.fn.self.table l.fn.root) l.self l.pending.items;
 }
 

@@ -13,4 +13,5 @@ returns-clause-apart c = on_ok c.add_each.result c.add_each.ensures (λ more pen
     more ∙ ap (λ l. c.args.self.now.sentences.items ++ map (sentence_with c.args.sentence.antecedents) l)
     c.deref.ensures.value in
     takes_rest (append-nil pending)
-    (replaced (parts_replace (only_grows are.grows refl) c.args.sentence c.requires parts are.there all are.is) pending))
+    (replaced (parts_replace (only_grows are.grows refl) c.args.sentence c.requires parts are.there all are.is)
+    pending))

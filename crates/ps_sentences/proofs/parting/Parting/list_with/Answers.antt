@@ -16,6 +16,7 @@ returns-clause-list c =
     c.index.ensures) in
     let longer : c.in_ok-longer.longer.items ≡ slice_index_or (lists_of p) c.args.list [] ++ parts =
     c.in_ok-longer.ensures ∙ (λ i. known i ++ c.deref.ensures.value i) in
-    adds_list c.args.list c.args.formula (record { grows = are.grows; sentences = refl }) c.in_ok-longer.longer parts are
+    adds_list c.args.list c.args.formula (record { grows = are.grows; sentences = refl }) c.in_ok-longer.longer parts
+    are
     longer c.add_list.result
     c.add_list.ensures.added c.add_list.ensures.none

@@ -39,7 +39,8 @@ returns-in-None-clause-apart c = on_ok c.conclude.result c.conclude.ensures.apar
       table = c.next_shape.new.table;
       lists = c.args.self.now.lists;
       sentences = c.args.self.now.sentences;
-    }} _ c.args.pending.now.items shape.grows refl refl (takes_through _ c.args.pending.now.items added.0.grows added.1 added.0.sentences (takes c.args.pending.now.items)))
+    }} _ c.args.pending.now.items shape.grows refl refl (takes_through _ c.args.pending.now.items added.0.grows added.1
+    added.0.sentences (takes c.args.pending.now.items)))
 
 pub returns-in-Within-clause-apart : goal.returns-in-Within-clause-apart
 returns-in-Within-clause-apart c = on_ok c.conclude-in-Within.result c.conclude-in-Within.ensures.apart (λ takes.

@@ -7,7 +7,7 @@ use Rattle.std.specs.Prelude.{slice_index_or}
 use Rattle.ps_formula.proofs.Trees.{formula_at-append, formula_at-node}
 use Rattle.ps_formula.specs.Formulas.{IsAdded, IsOver, IsTable, formula_at, formula_of, formulas_of}
 use Rattle.ps_formula.specs.declared.node.Node.{Node}
-use Rattle.ps_sentences.specs.Tables.{AreIn, IsGrown, formulas_in}
+use Rattle.ps_sentences.specs.Tables.{AreIn, IsGrownTable, listed_formulas}
 
 -- ## Lists
 
@@ -62,30 +62,30 @@ all_at P (x ∷ xs) (suc k) d all there = all_at P xs k d all.1 (omega (arith, t
 
 -- ## Growth
 
-pub grown_refl : (nodes : List Node) → IsGrown nodes nodes
+pub grown_refl : (nodes : List Node) → IsGrownTable nodes nodes
 grown_refl nodes = record { more = []; is = sym (append-nil nodes) }
 
-pub grown_trans : {a b c : List Node} → IsGrown a b → IsGrown b c → IsGrown a c
+pub grown_trans : {a b c : List Node} → IsGrownTable a b → IsGrownTable b c → IsGrownTable a c
 grown_trans {a} first second = record {
   more = first.more ++ second.more;
   is = second.is ∙ ap (λ (l : List Node). l ++ second.more) first.is ∙ append_assoc a first.more second.more;
 }
 
-pub still_in : {old new : List Node} → IsGrown old new → (k : ℕ) → k < length old → k < length new
+pub still_in : {old new : List Node} → IsGrownTable old new → (k : ℕ) → k < length old → k < length new
 still_in {old} {new} grows k there =
     let long : length new ≡ length (old ++ grows.more) = ap length grows.is in
     omega (arith, length-append old grows.more)
 
-pub formula_kept : {old new : List Node} → IsGrown old new → (k : ℕ) → k < length old →
+pub formula_kept : {old new : List Node} → IsGrownTable old new → (k : ℕ) → k < length old →
     formula_at new k ≡ formula_at old k
 formula_kept {old} {new} grows k there =
     ap (λ (l : List Node). formula_at l k) grows.is ∙ formula_at-append old grows.more k there
 
-pub are_still_in : {old new : List Node} → IsGrown old new → (ks : List ℕ) → AreIn old ks → AreIn new ks
+pub are_still_in : {old new : List Node} → IsGrownTable old new → (ks : List ℕ) → AreIn old ks → AreIn new ks
 are_still_in grows ks there = all_like (still_in grows) ks there
 
-pub formulas_kept : {old new : List Node} → IsGrown old new → (ks : List ℕ) → AreIn old ks →
-    formulas_in new ks ≡ formulas_in old ks
+pub formulas_kept : {old new : List Node} → IsGrownTable old new → (ks : List ℕ) → AreIn old ks →
+    listed_formulas new ks ≡ listed_formulas old ks
 formulas_kept grows [] there = refl
 formulas_kept grows (k ∷ ks) there =
     λ i. formula_kept grows k there.0 i ∷ formulas_kept grows ks there.1 i
@@ -93,7 +93,7 @@ formulas_kept grows (k ∷ ks) there =
 -- ## Nodes that are added
 
 module _ {old new : List Node} {node : Node} {index : ℕ} (added : IsAdded old node new index) where
-  pub added_grows : IsGrown old new
+  pub added_grows : IsGrownTable old new
   added_grows = elim added.rest [
     | inl known ↦ record { more = []; is = known.0 ∙ sym (append-nil old) }
     | inr fresh ↦ record { more = node ∷ []; is = fresh.0 }
@@ -112,3 +112,17 @@ at_node {nodes} same table k there d node is =
     let at : slice_get nodes k ≡ Some node =
     slice_get-get_or nodes k d there ∙ ap Some (ap (λ (l : List Node). slice_index_or l k d) (sym same) ∙ is) in
     (formula_at-node nodes k node table.earlier at, table.earlier k node at)
+
+-- ## Elements by their indices
+
+pub mapped_at : {X Y : Type 0} (P : Y → Type 0) (f : X → Y) (xs : List X) (k : ℕ) (d : X) →
+    AllByRecursion P (map f xs) → k < length xs → P (f (get_or xs k d))
+mapped_at P f [] k d all there = absurd (omega (arith, there))
+mapped_at P f (x ∷ xs) zero d all there = all.0
+mapped_at P f (x ∷ xs) (suc k) d all there = mapped_at P f xs k d all.1 (omega (arith, there))
+
+pub mapped_from : {X Y : Type 0} (P : Y → Type 0) (f : X → Y) (xs : List X) (d : X) →
+    ((k : ℕ) → k < length xs → P (f (get_or xs k d))) → AllByRecursion P (map f xs)
+mapped_from P f [] d each = tt
+mapped_from P f (x ∷ xs) d each =
+    (each zero (omega arith), mapped_from P f xs d (λ k there. each (suc k) (omega (arith, there))))

@@ -1,0 +1,16 @@
+use Rattle.std.proofs.Common.{get_or, sym, take}
+use Rattle.std.proofs.lemmas.List.{take_more}
+use Rattle.ps_sentences.proofs.ConjunctionLemmas.{joined_at, joined_more, joined_none}
+use Rattle.ps_sentences.proofs.GrownLemmas.{all_at}
+use Rattle.ps_sentences.proofs.joining.conjunction.Goals as goal
+
+pub loop-formula-init : goal.loop-formula-init
+loop-formula-init c = joined_none c.in_ok-all.ensures.ok c.in_ok-all.ensures.table
+
+pub loop-formula-preserved : goal.loop-formula-preserved
+loop-formula-preserved c =
+    let formulas = c.args.formulas.now in
+    let k = c.loop-formula.formula-index in
+    let low = all_at _ formulas k 0 c.requires c.loop-formula-test.true in
+    joined_at (sym (take_more formulas k 0 c.loop-formula-test.true))
+    (joined_more (take k formulas) c.loop-formula.invariant low c.in_ok-all-2.ensures.ok c.in_ok-all-2.ensures.table)
