@@ -1,5 +1,6 @@
 -- The circuit that is made of the needed parts is the cone of its outputs.
-use Rattle.std.proofs.Common.{◌≡◌, ◌+◌, ◌≤◌, Bool, List, Some, length, get_or, ap, sym, ◌∙◌, arith, subst, take, nat_eq}
+use Rattle.std.proofs.Common.{◌≡◌, ◌+◌, ◌≤◌, ◌∙◌, ℕ, Bool, List, Some, length, get_or, ap, sym, arith, subst, take}
+use Rattle.std.proofs.Common.{nat_eq}
 use Rattle.std.specs.List.{filter, slice_get}
 use Rattle.std.proofs.lemmas.Bool.{eqb-true, ne_eqb}
 use Rattle.std.proofs.lemmas.List.{length-map, length-take-le}
@@ -11,6 +12,7 @@ use Rattle.ps_circuit.specs.Circuits.{CircuitData, IsCircuit, IsMadeOf}
 use Rattle.ps_cone.specs.Cones.{IsCone, reader_of}
 use Rattle.ps_cone.specs.Inner.Cuts.{HasPartsOf, gate_at, keeps_gate}
 use Rattle.ps_cone.specs.Inner.Needed.{AreNeeded}
+use Rattle.ps_cone.specs.Masks.{with_outputs}
 use Rattle.ps_cone.specs.Parts.{selected}
 use Rattle.ps_cone.proofs.CutLemmas.{gate_from, gate_reader, latch_from, latch_reader, places_differ, size}
 use Rattle.ps_cone.proofs.Pairs.{contains_at, filter_from}
@@ -18,7 +20,7 @@ use Rattle.ps_cone.proofs.SelectedLemmas.{selected-take}
 use Rattle.ps_cone.proofs.SourceLemmas.{slot_of}
 
 module _ (c : CircuitData) (is : IsCircuit c) (needed : List Bool) (n : AreNeeded c needed) (cut : CircuitData)
-    (h : HasPartsOf c needed cut) where
+    (h : HasPartsOf c c.outputs needed cut) where
   -- the chosen places of gates are different, and each is that of a gate
   few_gates : length cut.gates ≤ length c.gates
   few_gates =
@@ -65,3 +67,17 @@ module _ (c : CircuitData) (is : IsCircuit c) (needed : List Bool) (n : AreNeede
 
   pub is_cone : (made : CircuitData) → IsMadeOf cut made → IsCone c made
   is_cone made m = subst (IsCone c) (sym m.is) (cone_of_cut (subst IsCircuit m.is m.well_formed))
+
+-- the needed parts of a circuit, as those of the circuit with other outputs
+pub parts_with : {c cut : CircuitData} {given : List ℕ} {needed : List Bool} → HasPartsOf c given needed cut →
+    HasPartsOf (with_outputs c given) given needed cut
+parts_with h = record {
+  most = h.most;
+  inputs = h.inputs;
+  latches = h.latches;
+  outputs = h.outputs;
+  gates = record { order = h.gates.order; is_order = h.gates.is_order; gates_are = h.gates.gates_are };
+  input_names = h.input_names;
+  latch_names = h.latch_names;
+  output_names = h.output_names;
+}

@@ -77,7 +77,7 @@ known_by c m x y at same = inr (contains_at (map variable (definitions c)) m (va
 -- ## The cut
 
 module _ (c : CircuitData) (is : IsCircuit c) (needed : List Bool) (n : AreNeeded c needed) (cut : CircuitData)
-    (h : HasPartsOf c needed cut) where
+    (h : HasPartsOf c c.outputs needed cut) where
   abbrev pub order : List ℕ
   order = h.gates.order
 

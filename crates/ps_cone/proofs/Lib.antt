@@ -6,4 +6,5 @@ pub mod CutLemmas
 pub mod ConeLemmas
 pub mod PartRuns
 pub mod PartWords
+pub mod MaskRuns
 pub mod PartTiming

@@ -1,3 +1,4 @@
 pub mod Parts
 pub mod Cones
+pub mod Masks
 pub mod Inner

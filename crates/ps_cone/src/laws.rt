@@ -3,6 +3,7 @@
 ghost use Rattle.std.specs.Prelude.{◌≡◌, ◌↔◌, ℕ, Bool, List, length};
 ghost use Rattle.ps_circuit.specs.Circuits.{CircuitData, IsCircuit};
 ghost use Rattle.ps_circuit.specs.Values.{GoesOn, Moment, resets};
+ghost use Rattle.ps_cone.specs.Masks.{IsRunOfMask, mask, masked_moments};
 ghost use Rattle.ps_cone.specs.Parts.{IsPartOf, IsRunOfPart, moments_of, selected};
 ghost use Rattle.ps_simulate.specs.Symbols.{HasSymbols};
 ghost use Rattle.ps_simulate.specs.declared.role.Role.{Role};
@@ -45,3 +46,16 @@ pub fn part_is_judged_alike()
 {
     circuit_has_one_values();
 }
+
+/// A circuit runs as it does with the constant false in place of some outputs: each run of one is a run of the other,
+/// with the same inputs, latch values and kept outputs.
+pub fn mask_runs_alike()
+    ensures circuit { (kept : List Bool) (c : CircuitData) → IsCircuit c → length kept ≡ length c.outputs →
+        IsCircuit (mask kept c) }
+    ensures whole { (kept : List Bool) (c : CircuitData) (from : List Bool) (moments : List Moment) (to : List Bool) →
+        GoesOn c from moments to → GoesOn (mask kept c) from (masked_moments kept moments) to }
+    ensures mask { (kept : List Bool) (c : CircuitData) (from : List Bool) (moments : List Moment) (to : List Bool) →
+        GoesOn (mask kept c) from moments to → IsRunOfMask c kept from moments to }
+    ensures lasso { (kept : List Bool) (c : CircuitData) (stem lap : List Moment) → IsLassoTrace c stem lap →
+        IsLassoTrace (mask kept c) (masked_moments kept stem) (masked_moments kept lap) }
+{}

@@ -1,8 +1,10 @@
 //! What the outputs depend on.
 
 ghost use Rattle.std.specs.Prelude.{◌≡◌, ◌<◌, All, IfOk, is_some, length, map};
+ghost use Rattle.ps_circuit.specs.Circuits.{IsCircuit};
 ghost use Rattle.ps_circuit.specs.GateGraphs.{gate_graph};
 ghost use Rattle.ps_cone.specs.Inner.Needed.{AreFlags, AreNeeded, roots_of};
+ghost use Rattle.ps_cone.specs.Masks.{with_outputs};
 
 use crate::readers::readers_of;
 use ps_circuit::{Circuit, GateGraph, Literal, gate_variables, links_to};
@@ -10,11 +12,15 @@ use ps_components::{Components, components_from};
 use ps_ids::Ids;
 use std::alloc::{AllocError, Global};
 
-/// For each latch, and then each gate, whether an output depends on it. Fails if memory runs out.
-pub(crate) fn needed(alloc: Global, circuit: &Circuit) -> Result<Vec<bool>, AllocError>
-    ensures { IfOk result (λ needed. AreNeeded circuit.now needed.items) }
+/// For each latch, and then each gate, whether one of the given outputs depends on it. Fails if memory runs out.
+pub(crate) fn needed(
+    alloc: Global,
+    circuit: &Circuit,
+    outputs: &[Literal],
+) -> Result<Vec<bool>, AllocError>
+    requires { IsCircuit (with_outputs circuit.now outputs.now) }
+    ensures { IfOk result (λ needed. AreNeeded (with_outputs circuit.now outputs.now) needed.items) }
 {
-    let outputs = circuit.outputs();
     let readers = readers_of(alloc, circuit)?;
     let variables = gate_variables(alloc, &readers)?;
     let roots = roots_of(alloc, outputs, &variables)?;

@@ -24,11 +24,12 @@ pub record AreOrderedGates (c : CircuitData) (needed : List Bool) (gates : List 
   pub is_order : IsOrder (ReadsGate c.gates) (length c.gates) order
   pub gates_are : gates ≡ gates_among c needed order
 
-pub record HasPartsOf (c : CircuitData) (needed : List Bool) (cut : CircuitData) : Type 0 where
+-- the parts of c that are needed, with the given outputs
+pub record HasPartsOf (c : CircuitData) (given : List ℕ) (needed : List Bool) (cut : CircuitData) : Type 0 where
   pub most : cut.most ≡ c.most
   pub inputs : cut.inputs ≡ c.inputs
   pub latches : cut.latches ≡ selected needed c.latches
-  pub outputs : cut.outputs ≡ c.outputs
+  pub outputs : cut.outputs ≡ given
   pub gates : AreOrderedGates c needed cut.gates
   pub input_names : cut.input_names ≡ c.input_names
   pub latch_names : cut.latch_names ≡ selected needed c.latch_names

@@ -1,26 +1,11 @@
-use Rattle.std.proofs.Common.{subst, sym}
-use Rattle.std.proofs.lemmas.Result.{IfOk-weaker}
-use Rattle.ps_circuit.specs.Drafts.{data_of}
-use Rattle.ps_cone.specs.Inner.Needed.{AreNeeded}
-use Rattle.ps_cone.proofs.ConeLemmas.{is_cone}
-use Rattle.ps_cone.proofs.CutLemmas.{is_draft, ordered}
+use Rattle.std.proofs.Common.{List, subst, sym, ℕ}
+use Rattle.ps_circuit.specs.Circuits.{IsCircuit}
+use Rattle.ps_cone.specs.Masks.{with_outputs}
 use Rattle.ps_cone.proofs.cone.reduced.Goals as goal
-use Rattle.ps_cone.proofs.cone.reduced.Goals.{In_ok-parts}
 
-needs : (c : In_ok-parts) → AreNeeded c.args.circuit.now c.deref.result.now
-needs c = subst (AreNeeded c.args.circuit.now) (sym c.deref.ensures.value) c.in_ok-needed.ensures
-
-pub in_order-requires-clause-draft : goal.in_order-requires-clause-draft
-in_order-requires-clause-draft c = is_draft c.args.circuit.now c.parts_of.ensures.circuit c.deref.result.now
-    (needs (goal.at.in_order-requires-clause-draft c).In_ok-parts) (data_of c.in_ok-parts.parts)
-    c.in_ok-parts.ensures.parts
-
-pub in_order-requires-clause-ordered : goal.in_order-requires-clause-ordered
-in_order-requires-clause-ordered c = ordered c.args.circuit.now c.parts_of.ensures.circuit c.deref.result.now
-    (needs (goal.at.in_order-requires-clause-ordered c).In_ok-parts) (data_of c.in_ok-parts.parts)
-    c.in_ok-parts.ensures.parts
+pub cone_of-requires : goal.cone_of-requires
+cone_of-requires c = subst (λ (outputs : List ℕ). IsCircuit (with_outputs c.args.circuit.now outputs))
+    (sym c.outputs-outputs.ensures.outputs) c.outputs-outputs.ensures.well_formed
 
 pub returns : goal.returns
-returns c = IfOk-weaker c.in_order.result _ _ (is_cone c.args.circuit.now c.parts_of.ensures.circuit
-    c.deref.result.now (needs (goal.at.returns c).In_ok-parts) (data_of c.in_ok-parts.parts)
-    c.in_ok-parts.ensures.parts) c.in_order.ensures
+returns c = rw c.outputs-outputs.ensures.outputs at c.cone_of.ensures
