@@ -1,2 +1,3 @@
 pub mod ComparedAutomata
 pub mod JudgedCircuits
+pub mod TriedCircuits

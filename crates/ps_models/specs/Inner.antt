@@ -2,3 +2,5 @@
 
 pub mod Judging
 pub mod Comparing
+pub mod Trying
+pub mod Claims

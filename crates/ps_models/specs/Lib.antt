@@ -1,4 +1,5 @@
 pub mod Judgements
+pub mod Verdicts
 pub mod Sentences
 pub mod Agreements
 pub mod AgreementFaultNames

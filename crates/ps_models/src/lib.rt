@@ -2,8 +2,10 @@
 //! an environment does; if not, gives a counterexample.
 //!
 //! A controller's circuit wins if all its lasso traces satisfy the formula, and an environment's circuit wins if none
-//! does. The circuit's product with the tableau of the formula (for a controller, of its negation) has a fair lasso (a
-//! walk to a closed walk on which no until is always postponed) exactly if the circuit loses.
+//! does. The formula is taken apart into sentences (`ps_sentences`), and the circuit is judged by few of them at a
+//! time, on the cone of the outputs that they mention. The circuit's product with the tableau of a formula (for a
+//! controller, of its negation) has a fair lasso (a walk to a closed walk on which no until is always postponed)
+//! exactly if the circuit loses.
 //!
 //! An automaton and a formula agree if the automaton accepts exactly the lassos that satisfy the formula. Two products
 //! with the automaton decide that. In the product with the tableau of the negated formula, a fair lasso whose greatest
@@ -29,9 +31,12 @@
 mod agreeing;
 mod agreement;
 pub mod agreement_laws;
+mod by_sentences;
 pub mod laws;
 mod satisfying;
 mod sentence;
+mod trial;
+mod verdict;
 
 pub use agreeing::agreed;
 pub use agreement::{Agreement, AgreementFault, Lasso};

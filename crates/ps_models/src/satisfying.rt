@@ -16,8 +16,10 @@ ghost use Rattle.ps_models.specs.Inner.Judging.{IsRefutation, IsTold};
 ghost use Rattle.ps_models.specs.Judgements.{IsJudgementFor};
 ghost use Rattle.ps_models.specs.Sentences.{named_formula};
 
+use crate::by_sentences::verdict_by_sentences;
 use crate::laws::fair_cycle_decides;
 use crate::sentence::Sentence;
+use crate::trial::Trial;
 use ps_circuit::Circuit;
 use ps_cone::reduced;
 use ps_fairness::{Edge, fair_cycle, walk_to};
@@ -33,7 +35,7 @@ use std::alloc::{AllocError, Global};
 /// Decides whether the circuit wins: each lasso trace of a controller satisfies the formula, or no lasso trace of an
 /// environment does. If the circuit loses, the result is a counterexample: a stimulus on which the controller's trace
 /// violates the formula, or the environment's trace satisfies it. Latches and gates on which no output depends are left
-/// out first.
+/// out first. The formula is taken apart into sentences, and the circuit judged by one after another.
 ///
 /// # Errors
 ///
@@ -57,7 +59,7 @@ pub fn satisfied(
     satisfied_by_all(alloc, &part, sentence, order, role)
 }
 
-/// The judgement on a circuit, all of whose latches are in the product.
+/// The judgement on a circuit, all of whose latches an output depends on.
 fn satisfied_by_all(
     alloc: Global,
     circuit: &Circuit,
@@ -69,6 +71,7 @@ fn satisfied_by_all(
     ensures refused { IfErr result (IsRefusalFor order role (map bytes_of sentence.entry.names.now)
         sentence.entry.controllable.now circuit.now) }
 {
+    circuit_has_one_values();
     circuit.parts_fit();
     let names = sentence.names;
     let Some(roles) = roles_for(alloc, circuit, names, sentence.controllable, role)? else {
@@ -77,12 +80,20 @@ fn satisfied_by_all(
     if !in_time(alloc, circuit, order, role)? {
         return Err(ProductFault::Timing);
     }
-    let judgement = judged(alloc, circuit, sentence, &roles, role)?;
+    let trial = Trial {
+        alloc,
+        circuit,
+        names,
+        controllable: sentence.controllable,
+        roles: &roles,
+        role,
+    };
+    let judgement = verdict_by_sentences(trial, sentence.formulas, sentence.root)?;
     Ok(judgement)
 }
 
 /// The judgement on a circuit that has the inputs and outputs of its role. Fails if out of memory.
-fn judged(
+pub(crate) fn judged(
     alloc: Global,
     circuit: &Circuit,
     sentence: Sentence,

@@ -1,0 +1,4 @@
+-- Circuits that are tried by one sentence after another.
+
+pub mod ClaimLemmas
+pub mod TrialLemmas
