@@ -1,7 +1,6 @@
 -- Conjunctions and implications that are added to a table.
-use Rattle.std.proofs.Common.{◌≡◌, ◌∙◌, ◌<◌, ◌+◌, ◌++◌, ◌∷◌, [], ℕ, List, Some, append-nil, length, refl, subst}
+use Rattle.std.proofs.Common.{◌≡◌, ◌<◌, ◌++◌, ◌∷◌, [], ℕ, List, append-nil, length, refl, subst}
 use Rattle.std.proofs.Common.{sym, true}
-use Rattle.std.specs.List.{AllByRecursion}
 use Rattle.std.specs.Prelude.{◌↔◌, slice_index_or}
 use Rattle.ps_formula.specs.Formulas.{Formula, IsAdded, IsTable, formula_at}
 use Rattle.ps_formula.specs.Satisfaction.{Satisfies}
@@ -13,8 +12,8 @@ use Rattle.ps_sentences.proofs.GrownLemmas.{mapped_join, still_in}
 use Rattle.ps_sentences.specs.Conjunctions.{AreImplications, IsConjunctionIn}
 use Rattle.ps_sentences.specs.Inner.Conjoining.{IsConjoined, IsConjoinedFor}
 use Rattle.ps_sentences.specs.Partings.{IsSentenceIn, sentence_in}
-use Rattle.ps_sentences.specs.Sentences.{AllHold, IsObeyed, SentenceData}
-use Rattle.ps_sentences.specs.Tables.{AreIn, IsGrownTable, listed_formulas}
+use Rattle.ps_sentences.specs.Sentences.{IsObeyed, SentenceData}
+use Rattle.ps_sentences.specs.Tables.{AreIn, IsGrownTable}
 use Rattle.ps_sentences.specs.declared.joining.Conjoined.{Conjoined}
 use Rattle.ps_sentences.specs.declared.parting.Sentence.{Sentence}
 

@@ -1,5 +1,5 @@
 -- A claim is a conjunction of goals that grows.
-use Rattle.std.proofs.Common.{◌≡◌, ◌<◌, ◌∷◌, [], ℕ, List, arith, get_or, length, refl, subst, suc, true, zero}
+use Rattle.std.proofs.Common.{◌<◌, ℕ, List, length, refl, subst, true}
 use Rattle.std.specs.List.{Contains}
 use Rattle.ps_formula.specs.Formulas.{Formula, IsAdded, IsTable, formula_at}
 use Rattle.ps_formula.specs.Satisfaction.{Satisfies}

@@ -1,8 +1,8 @@
 -- What the verdict by a sentence, or by a conjunction of goals, says of the whole formula.
 use Rattle.std.proofs.Common.{◌≡◌, ◌∙◌, ◌<◌, ℕ, List, None, Option, Some, ap, get_or, length, refl, subst, sym}
 use Rattle.std.proofs.Common.{Global, Vec}
-use Rattle.std.specs.Prelude.{◌↔◌, IfNone, map}
-use Rattle.ps_circuit.specs.Circuits.{CircuitData, IsCircuit}
+use Rattle.std.specs.Prelude.{IfNone, map}
+use Rattle.ps_circuit.specs.Circuits.{IsCircuit}
 use Rattle.ps_circuit.specs.Values.{HasOneValues}
 use Rattle.ps_formula.proofs.LassoTruths.{lasso_is_decided}
 use Rattle.ps_formula.specs.Formulas.{Formula, implies}
@@ -22,7 +22,6 @@ use Rattle.ps_simulate.specs.Stimuli.{StimulusData}
 use Rattle.ps_simulate.specs.Words.{TraceWordData}
 use Rattle.ps_simulate.specs.declared.role.Role.TheVariants.{Controller, Environment}
 use Rattle.ps_tableau_product.proofs.LassoWords.WordSteps.{some_letter}
-use Rattle.ps_traces.specs.Traces.{IsLassoWord}
 use Rattle.ps_verify.specs.Stimulated.{IsWordOn}
 use Rattle.ps_verify.specs.declared.judgement.Judgement.{Judgement}
 use Rattle.ps_verify.specs.declared.judgement.Judgement.TheVariants.{Wins, Loses}

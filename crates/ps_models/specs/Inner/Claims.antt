@@ -5,7 +5,7 @@
 -- - `HasStimulus t judgement`: the stimulus, if there is one, can be read by the circuit
 -- - `HoldOn t judgement fs`: the formulas hold on each word of the circuit on the judgement's stimulus
 -- - `IsClaim nodes goals new claim`: a formula of the grown table holds where the goals hold
-use Rattle.std.specs.Prelude.{◌≡◌, ◌<◌, ℕ, Bool, List, [], length, map, slice_index_or}
+use Rattle.std.specs.Prelude.{◌≡◌, ◌<◌, ℕ, Bool, List, length, map, slice_index_or}
 use Rattle.ps_formula.specs.Formulas.{Formula, formula_at}
 use Rattle.ps_formula.specs.Satisfaction.{Satisfies}
 use Rattle.ps_formula.specs.declared.node.Node.{Node}

@@ -4,8 +4,7 @@
 -- - `IsTrialOf t f judgement`: the judgement is right for the formula
 -- - `IsSentenceTrial t s judgement`: all words of the circuit's lasso traces obey the sentence; or no word of those
 --   that read the judgement's stimulus does
-use Rattle.std.specs.Prelude.{◌≡◌, ◌<◌, ℕ, List, length, map}
-use Rattle.ps_circuit.specs.Circuits.{CircuitData}
+use Rattle.std.specs.Prelude.{◌<◌, ℕ, List, length, map}
 use Rattle.ps_formula.specs.Formulas.{Formula}
 use Rattle.ps_hoa.specs.Memory.{bytes_of}
 use Rattle.ps_label.specs.Words.{lasso_word}

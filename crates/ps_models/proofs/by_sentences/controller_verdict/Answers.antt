@@ -1,10 +1,8 @@
-use Rattle.std.proofs.Common.{◌≡◌, arith, below_more, length, subst, sym, ◌<◌}
+use Rattle.std.proofs.Common.{arith, below_more, length, subst, sym, ◌<◌}
 use Rattle.ps_verify.specs.declared.judgement.Judgement.{Judgement}
-use Rattle.ps_verify.specs.declared.judgement.Judgement.TheVariants.{Loses, Wins}
-use Rattle.ps_models.proofs.TriedCircuits.TrialLemmas.{kept_refl, kept_trans, lost_by_sentence, same_sentence_at}
+use Rattle.ps_models.proofs.TriedCircuits.TrialLemmas.{kept_trans, lost_by_sentence, same_sentence_at}
 use Rattle.ps_models.proofs.TriedCircuits.TrialLemmas.{sentence_trial_at, won_by_sentences}
-use Rattle.ps_models.specs.Inner.Claims.{sentence_at}
-use Rattle.ps_models.specs.Inner.Trying.{IsObeyedByAll, IsTrialOf}
+use Rattle.ps_models.specs.Inner.Trying.{IsTrialOf}
 use Rattle.ps_models.proofs.by_sentences.controller_verdict.Goals as goal
 
 pub returns-in-Loses : goal.returns-in-Loses

@@ -1,4 +1,4 @@
-use Rattle.std.proofs.Common.{◌≡◌, sym}
+use Rattle.std.proofs.Common.{◌≡◌}
 use Rattle.std.proofs.lemmas.Result.{IfOk-weaker}
 use Rattle.ps_formula.specs.Formulas.{formula_at}
 use Rattle.ps_sentences.proofs.GrownLemmas.{are_still_in, formulas_kept}

@@ -1,4 +1,4 @@
-use Rattle.std.proofs.Common.{◌≡◌, ap, sym}
+use Rattle.std.proofs.Common.{◌≡◌, ap}
 use Rattle.std.proofs.lemmas.Result.{IfOk-weaker}
 use Rattle.ps_formula.specs.Formulas.{Formula, formula_at, implies}
 use Rattle.ps_sentences.proofs.ResultLemmas.{on_ok}

@@ -1,4 +1,4 @@
-use Rattle.std.proofs.Common.{get_or, sym, take}
+use Rattle.std.proofs.Common.{sym, take}
 use Rattle.std.proofs.lemmas.List.{take_more}
 use Rattle.ps_sentences.proofs.ConjunctionLemmas.{joined_at, joined_more, joined_none}
 use Rattle.ps_sentences.proofs.GrownLemmas.{all_at}

@@ -1,4 +1,4 @@
-use Rattle.std.proofs.Common.{get_or, map, sym, take}
+use Rattle.std.proofs.Common.{get_or, map, sym}
 use Rattle.std.proofs.lemmas.List.{take_more}
 use Rattle.ps_sentences.proofs.ConjunctionLemmas.{conjoined_still, implied_at, implied_more}
 use Rattle.ps_sentences.proofs.GrownLemmas.{added_grows, all_at}
