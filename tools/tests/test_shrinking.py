@@ -33,6 +33,11 @@ esac
 """
 
 
+def listening():
+    """Ctrl-C ends this process, also where the shell that began the tests did so with `&` and so ignores it."""
+    signal.signal(signal.SIGINT, signal.SIG_DFL)
+
+
 class OnCircuits(OnFiles):
     def size(self, text):
         made = circuit.read(text.decode())
@@ -209,7 +214,7 @@ class Stopped(OnCircuits):
         environment = {**os.environ, "PSYN": "./psyn", "SAID": said.replace("\n", "\\n")}
         command = [sys.executable, TOOL, *words, *([] if by else ["--time", "2"])]
         streams = {"stdout": subprocess.PIPE, "stderr": subprocess.PIPE}
-        with subprocess.Popen(command, cwd=self.room, env=environment, **streams) as child:
+        with subprocess.Popen(command, cwd=self.room, env=environment, preexec_fn=listening, **streams) as child:
             until = time.monotonic() + 60
             while by and not os.path.exists(os.path.join(self.room, "hangs")) and time.monotonic() < until:
                 time.sleep(0.02)
