@@ -1,14 +1,12 @@
-//! A circuit is judged by one sentence of a formula after another.
+//! A controller is judged by one sentence of a formula after another, and an environment by the whole formula.
 //!
-//! A controller's sentence is first tried without its antecedents. One joins where the circuit violates it on a
-//! counterexample; if it violates none, the counterexample is one of the whole formula. An environment is tried by few
-//! sentences, at first by none. One more joins where the circuit violates it on a counterexample, until no word
-//! satisfies all of them.
+//! A sentence is first tried without its antecedents. One joins where the circuit violates it on a counterexample; if it
+//! violates none, the counterexample is one of the whole formula.
 
 ghost use Rattle.std.specs.Prelude.{◌≡◌, ◌<◌, Contains, IfNone, IfOk, IfSome, List, OnOk, length, vec_len};
 ghost use Rattle.ps_formula.specs.Formulas.{Formula, formula_at, implies};
 ghost use Rattle.ps_formula.specs.declared.node.Node.{Node};
-ghost use Rattle.ps_sentences.specs.Sentences.{AreSentencesOf, IsConjunction};
+ghost use Rattle.ps_sentences.specs.Sentences.{AreSentencesOf};
 ghost use Rattle.ps_sentences.specs.Tables.{AreIn, IsGrownTable, listed_formulas};
 ghost use Rattle.ps_simulate.specs.declared.role.Role.TheVariants.{Controller, Environment};
 ghost use Rattle.ps_models.specs.Inner.Claims.{HasSentences, HasStimulus, HoldOn, IsKept, sentence_at};
@@ -17,12 +15,12 @@ ghost use Rattle.ps_models.specs.Inner.Trying.{IsSentenceTrial, IsTrial, IsTrial
 
 use crate::trial::{Trial, first_violated};
 use ps_formula::{Formulas, Node};
-use ps_sentences::{Parting, conjunction, implications, parted};
+use ps_sentences::{Parting, conjunction, parted};
 use ps_simulate::{Role, circuit_has_one_values};
 use ps_verify::Judgement;
 use std::alloc::AllocError;
 
-/// The verdict by a formula, which is taken apart into sentences. Fails if out of memory.
+/// The verdict by a formula, which for a controller is taken apart into sentences. Fails if out of memory.
 pub(crate) fn verdict_by_sentences(
     trial: Trial,
     formulas: &Formulas,
@@ -32,10 +30,12 @@ pub(crate) fn verdict_by_sentences(
     requires root { root < length formulas.now }
     ensures { IfOk result (IsTrialOf trial.entry (formula_at formulas.now root)) }
 {
-    let mut parting = parted(trial.alloc, formulas, root)?;
     match trial.role {
-        Role::Controller => controller_verdict(trial, &mut parting),
-        Role::Environment => environment_verdict(trial, &mut parting),
+        Role::Controller => {
+            let mut parting = parted(trial.alloc, formulas, root)?;
+            controller_verdict(trial, &mut parting)
+        }
+        Role::Environment => trial.verdict(formulas, root),
     }
 }
 
@@ -140,36 +140,4 @@ fn next_antecedent(
             first_violated(table, formulas, &word)
         }
     }
-}
-
-/// The verdict on an environment, by the sentences as implications.
-fn environment_verdict(trial: Trial, parting: &mut Parting) -> Result<Judgement, AllocError>
-    requires symbols { IsTrial trial }
-    requires role { trial.role ≡ Environment }
-    requires parting { HasSentences parting.old }
-    ensures { (f : Formula) → AreSentencesOf f (sentences_of parting.old) → IfOk result (IsTrialOf trial.entry f) }
-{
-    let table = &mut parting.table;
-    let goals = implications(trial.alloc, table, &parting.lists, &parting.sentences)?;
-    goals_verdict(trial, table, &goals)
-}
-
-/// The verdict by the conjunction of goals.
-fn goals_verdict(trial: Trial, table: &mut Formulas, goals: &[u32]) -> Result<Judgement, AllocError>
-    requires symbols { IsTrial trial }
-    requires role { trial.role ≡ Environment }
-    requires goals { AreIn table.old goals.now }
-    ensures { (f : Formula) → IsConjunction f (listed_formulas table.old goals.now) →
-        IfOk result (IsTrialOf trial.entry f) }
-{
-    let mut claim = table.add(Node::Constant(true))?;
-    for _round in 0..goals.len() {
-        let judgement = trial.verdict(table, claim)?;
-        let Some(more) = next_antecedent(trial, table, goals, &judgement)? else {
-            return Ok(judgement);
-        };
-        claim = table.add(Node::And(claim, more))?;
-    }
-    let all = conjunction(table, goals)?;
-    trial.verdict(table, all)
 }

@@ -2,9 +2,9 @@
 //! an environment does; if not, gives a counterexample.
 //!
 //! A controller's circuit wins if all its lasso traces satisfy the formula, and an environment's circuit wins if none
-//! does. The formula is taken apart into sentences (`ps_sentences`), and the circuit is judged by few of them at a
-//! time, on the cone of the outputs that they mention. The circuit's product with the tableau of a formula (for a
-//! controller, of its negation) has a fair lasso (a walk to a closed walk on which no until is always postponed)
+//! does. For a controller the formula is taken apart into sentences (`ps_sentences`), by one of which after another the
+//! circuit is judged, on the cone of the outputs that it mentions. The circuit's product with the tableau of a formula
+//! (for a controller, of its negation) has a fair lasso (a walk to a closed walk on which no until is always postponed)
 //! exactly if the circuit loses.
 //!
 //! An automaton and a formula agree if the automaton accepts exactly the lassos that satisfy the formula. Two products

@@ -35,7 +35,7 @@ use std::alloc::{AllocError, Global};
 /// Decides whether the circuit wins: each lasso trace of a controller satisfies the formula, or no lasso trace of an
 /// environment does. If the circuit loses, the result is a counterexample: a stimulus on which the controller's trace
 /// violates the formula, or the environment's trace satisfies it. Latches and gates on which no output depends are left
-/// out first. The formula is taken apart into sentences, and the circuit judged by one after another.
+/// out first. A controller is judged by one sentence of the formula after another.
 ///
 /// # Errors
 ///

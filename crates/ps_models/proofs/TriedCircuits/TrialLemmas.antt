@@ -1,20 +1,16 @@
 -- What the verdict by a sentence, or by a conjunction of goals, says of the whole formula.
 use Rattle.std.proofs.Common.{◌≡◌, ◌∙◌, ◌<◌, ℕ, List, None, Option, Some, ap, get_or, length, refl, subst, sym}
-use Rattle.std.proofs.Common.{Global, Vec}
-use Rattle.std.specs.Prelude.{IfNone, map}
+use Rattle.std.specs.Prelude.{IfNone}
 use Rattle.ps_circuit.specs.Circuits.{IsCircuit}
 use Rattle.ps_circuit.specs.Values.{HasOneValues}
 use Rattle.ps_formula.proofs.LassoTruths.{lasso_is_decided}
 use Rattle.ps_formula.specs.Formulas.{Formula, implies}
 use Rattle.ps_formula.specs.Satisfaction.{Satisfies}
-use Rattle.ps_formula.specs.declared.node.Node.{Node}
 use Rattle.ps_label.specs.Words.{lasso_word}
 use Rattle.ps_sentences.proofs.OwingLemmas.{sentence_still, sentences_still}
 use Rattle.ps_sentences.proofs.GrownLemmas.{all_at, all_over, grown_refl, grown_trans, mapped_at, mapped_from}
-use Rattle.ps_sentences.specs.Conjunctions.{AreImplications}
 use Rattle.ps_sentences.specs.Partings.{IsSentenceIn, lists_of, sentence_of}
-use Rattle.ps_sentences.specs.Sentences.{AllHold, AreSentencesOf, IsConjunction, IsObeyed, SentenceData}
-use Rattle.ps_sentences.specs.Tables.{listed_formulas}
+use Rattle.ps_sentences.specs.Sentences.{AllHold, AreSentencesOf, IsObeyed, SentenceData}
 use Rattle.ps_sentences.specs.declared.parting.Parting.{Parting}
 use Rattle.ps_sentences.specs.declared.parting.Sentence.{Sentence}
 use Rattle.ps_simulate.specs.Lassos.{IsWordOf}
@@ -112,66 +108,6 @@ module _ (t : Trial) (role : t.role ≡ Controller) (p : Parting) (f : Formula)
           λ same. let other : Controller ≡ Environment = sym role ∙ same in cc,
         );
   }
-
--- ## An environment
-
-module _ (t : Trial) (role : t.role ≡ Environment) (f : Formula) (goals : List Formula)
-    (are : IsConjunction f goals) (claim : Formula) (claimed : (w : ℕ → ℕ) → AllHold w 0 goals → Satisfies claim w 0)
-  where
-    won_by_claim : IsTrialOf t claim Wins → IsTrialOf t f Wins
-    won_by_claim wins = record {
-      satisfied = λ same. let other : Controller ≡ Environment = sym same ∙ role in cc;
-      violated = λ same stem lap word satisfied.
-          let w = lasso_word stem lap in
-          wins.violated same stem lap word
-          (claimed w ((are.same w 0 (lasso_is_decided stem lap (some_letter word))).0 satisfied));
-    }
-
-    lost_by_goals : (stimulus : StimulusData) → IsTrialOf t claim (Loses stimulus) →
-        ((stem lap : List ℕ) → IsWordOn (names_in t) t.circuit.now stimulus stem lap →
-        AllHold (lasso_word stem lap) 0 goals) → IsTrialOf t f (Loses stimulus)
-    lost_by_goals stimulus loses hold = record {
-      wide = loses.wide;
-      some = loses.some;
-      word = loses.word;
-      is_word = loses.is_word;
-      is_wrong = λ stem lap on. (
-        λ satisfied. role,
-        λ same. (are.same (lasso_word stem lap) 0 (lasso_is_decided stem lap (some_letter on.word))).1
-            (hold stem lap on),
-      );
-    }
-
-    -- the trial by a claim, where the circuit violates no goal
-    pub goals_hold : (judgement : Judgement) → HoldOn t judgement goals → IsTrialOf t claim judgement →
-        IsTrialOf t f judgement
-    goals_hold Wins hold wins = won_by_claim wins
-    goals_hold (Loses stimulus) hold loses = lost_by_goals stimulus loses hold
-
-    -- the trial by the conjunction of all goals
-    pub all_goals : ((w : ℕ → ℕ) → Satisfies claim w 0 → AllHold w 0 goals) → (judgement : Judgement) →
-        IsTrialOf t claim judgement → IsTrialOf t f judgement
-    all_goals back Wins wins = won_by_claim wins
-    all_goals back (Loses stimulus) loses =
-        lost_by_goals stimulus loses
-        (λ stem lap on. back (lasso_word stem lap) ((loses.is_wrong stem lap on).1 role))
-
--- the goals are the formulas of the sentences
-pub joined_goals : {new : List Node} {goals : List ℕ} {f : Formula} (p : Parting) (vs : List (Vec ℕ Global))
-    (ss : List Sentence) → vs ≡ p.lists.items → ss ≡ p.sentences.items →
-    AreImplications p.table (map (λ v. v.items) vs) ss new goals → AreSentencesOf f (sentences_of p) →
-    IsConjunction f (listed_formulas new goals)
-joined_goals {new} {goals} p vs ss same also joined are =
-    let first : AreImplications p.table (lists_of p) ss new goals =
-    subst (λ (xs : List (Vec ℕ Global)). AreImplications p.table (map (λ v. v.items) xs) ss new goals) same joined in
-    let of : AreImplications p.table (lists_of p) p.sentences.items new goals =
-    subst (λ (xs : List Sentence). AreImplications p.table (lists_of p) xs new goals) also first in
-    record {
-      same = λ w i decided. (
-        λ holds. (of.same w i).1 ((are.same w i decided).0 holds),
-        λ all. (are.same w i decided).1 ((of.same w i).0 all),
-      );
-    }
 
 -- ## Equal formulas, and sentences that stay
 
