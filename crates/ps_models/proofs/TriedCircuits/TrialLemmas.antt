@@ -1,4 +1,4 @@
--- What the verdict by a sentence, or by a conjunction of goals, says of the whole formula.
+-- What the verdict by a sentence says of the whole formula.
 use Rattle.std.proofs.Common.{◌≡◌, ◌∙◌, ◌<◌, ℕ, List, None, Option, Some, ap, get_or, length, refl, subst, sym}
 use Rattle.std.specs.Prelude.{IfNone}
 use Rattle.ps_circuit.specs.Circuits.{IsCircuit}
