@@ -1,10 +1,11 @@
 """Runs the program on files, prints its answer unchanged, and explains the answer if it is a fault."""
 from psyntool import console, files, program
-from psyntool.command import CHECK
-from psyntool.ends import OTHER, WRONG_SOLUTIONS, Unwritten
+from psyntool.command import CHECK, MEMORY
+from psyntool.ends import NO_MEMORY, OTHER, WRONG_SOLUTIONS, Unwritten
 
 # The first line of an answer of `verify` or `shrink` about a circuit that loses; a stimulus follows.
 LOSES = b"loses\n"
+OUT_OF_MEMORY = b"fault 24 "
 
 
 def run(request):
@@ -29,6 +30,8 @@ def told(request, texts, answer):
         from psyntool import explaining
 
         console.tell(*explaining.lines(request, texts, answer))
+    if answer.bytes.startswith(OUT_OF_MEMORY) and request.has(MEMORY):
+        return NO_MEMORY
     return checked(request, answer) if request.has(CHECK) else answer.status
 
 

@@ -19,6 +19,8 @@ def run(words, **streams):
         signals.let_go()
         if child:
             end(child)
+    if child.returncode < 0:
+        program.refuse_more()
     return child.returncode
 
 

@@ -52,6 +52,7 @@ TO_FILES = Flag(
     "PREFIX",
 )
 AUTOMATON = Flag("--automaton", "with -o, of sentences too: their automaton, its game and its certificate")
+TO_FOLDER = Flag("-o", "the circuits of synth go to the folder PREFIX, each under the name of its file", "PREFIX")
 TO_FILE = Flag(
     "-o", "the automaton of the parts that are listed goes to PREFIX.hoa, or the sentences to PREFIX.tlsf", "PREFIX"
 )
@@ -102,6 +103,7 @@ TRACE = Flag(
 )
 NAMES = Flag("--names", "begin with a line that names the latches, inputs and outputs")
 CIRCUIT = Flag("--circuit", "play against any circuit that verify passes, in the place of PREFIX", "FILE")
+AIG = Flag("--aig", "the circuit in binary AIGER")
 ABC = Flag("--abc", "abc makes the circuit smaller first")
 SMALL = Flag("--small", "the circuit is made smaller, as shrink makes it")
 AUTO = Flag("--auto", "play without you, holding out long, and print the steps")
@@ -111,20 +113,27 @@ CHECK = Flag(
     "--check",
     "exit status 3 where the answer is loses, rejected, violated, accepts, rejects, or that the solution is wrong",
 )
+JOBS = Flag("--jobs", "so many runs at a time", "N")
+LOG = Flag(
+    "--log", "a line of JSON for each run goes to FILE; a run that FILE has a line of already is not done again", "FILE"
+)
+JOIN = Flag("--join", "read logs in place of COMMAND and files, and print where they disagree, and what was solved")
 SEED = Flag("--seed", "another random game for the same number", "N")
 EDGES = Flag("--edges", "so many different edges for each vertex of a random game", "N")
 PRIORITIES = Flag("--priorities", "so many priorities in a random game, from 0 on", "N")
 # Flags that every command takes.
 JSON = Flag("--json", "one line of JSON in place of the answer, with the fields that the manual lists")
 TIME = Flag("--time", "end a program, or a solver of --by, that is at work after so many seconds", "SECONDS")
+CPU = Flag("--cpu", "the same after so many seconds of processor time, of all programs together", "SECONDS")
 MEMORY = Flag("--memory", "so many MiB at most for the program, and for the solver of --by", "MIB")
+LIMITS = (TIME, CPU, MEMORY)
 QUIET = Flag("--quiet", "explain nothing")
 PROGRESS = Flag("--progress", "tell the stages that are begun, and their seconds, also where no terminal is")
 KEEP_RETURNS = Flag("--keep-returns", "leave carriage returns where they are")
 ZERO_RESETS = Flag("--zero-resets", "unset latches of a circuit (their own literal as reset) begin with 0")
 HELP = Flag("--help", "how the command is used")
 VERSION = Flag("--version", "which psyn this is")
-EVERYWHERE = (KEEP_RETURNS, ZERO_RESETS, JSON, TIME, MEMORY, QUIET, PROGRESS, HELP, VERSION)
+EVERYWHERE = (KEEP_RETURNS, ZERO_RESETS, JSON, *LIMITS, QUIET, PROGRESS, HELP, VERSION)
 SHORT = {"-h": "--help", "-V": "--version"}
 
 

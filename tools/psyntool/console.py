@@ -7,6 +7,8 @@ from psyntool.ends import Refused, Unwritten
 
 INPUT, OUTPUT, ERROR = 0, 1, 2
 STEP = 1 << 20
+# More than the program reads.
+MOST = (1 << 26) + 1
 # A list that keeps what would go to standard output, or None.
 kept = None
 # What was read of standard input to see what it is, and is read again.
@@ -83,6 +85,12 @@ def beginning(most, suffices):
         if not part:
             break
     return found
+
+
+def read_ahead():
+    """Reads standard input, up to what no command reads more of; it stays to be read."""
+    global ahead
+    ahead = read(MOST)
 
 
 def read_some(most):

@@ -7,6 +7,9 @@ FAULT = 1
 REFUSED = 2
 # With --check: the verdict is the other one.
 OTHER = 3
+# No answer within the seconds of --time or --cpu; none within the memory of --memory.
+LATE = 124
+NO_MEMORY = 125
 # The numbers of the faults by which `judge` says that a solution of the game is wrong.
 WRONG_SOLUTIONS = ("40", "50", "51")
 # For a process that a signal killed, a shell reports the exit status 128 plus the signal's number.
@@ -23,7 +26,7 @@ class Unwritten(Exception):
 
 
 class TimeUp(Unwritten):
-    """The seconds of --time are over."""
+    """The seconds of --time or --cpu are over."""
 
 
 class Stopped(KeyboardInterrupt):

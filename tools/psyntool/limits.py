@@ -1,9 +1,10 @@
-"""The limits that the flags --time and --memory set for the programs that a run starts: on the seconds of all of them
-together with the tool's own work, and on the memory of each. The tool itself limits the processor time of some."""
+"""The limits that the flags --time, --cpu and --memory set for the programs that a run starts: on the seconds of all of
+them together, by the clock with the tool's own work, and of processor time; and on the memory of each. The tool itself
+limits the processor time of some."""
 import time
 
 from psyntool import program
-from psyntool.command import MEMORY, TIME
+from psyntool.command import CPU, LIMITS, MEMORY, TIME
 from psyntool.ends import Refused
 
 MEBIBYTE = 1 << 20
@@ -11,19 +12,23 @@ MEBIBYTE = 1 << 20
 
 def begin(request):
     """Sets the limits of a run, and begins to count its seconds."""
-    seconds, mebibytes = numbers = [request.number(flag) for flag in (TIME, MEMORY)]
-    for flag, number in zip((TIME, MEMORY), numbers):
+    numbers = {flag: request.number(flag) for flag in LIMITS}
+    for flag, number in numbers.items():
         if number == 0:
             raise Refused(f"{flag.shown}: at least 1 is wanted")
+    seconds, processor, mebibytes = numbers[TIME], numbers[CPU], numbers[MEMORY]
     program.most_memory = mebibytes and mebibytes * MEBIBYTE
     program.last_moment = seconds and program.LastMoment(
         time.monotonic() + seconds, f"no answer within {seconds} s ({TIME.name})"
+    )
+    program.last_second = processor and program.LastMoment(
+        program.processor_seconds() + processor, f"no answer within {processor} s of processor time ({CPU.name})"
     )
 
 
 def end():
     """Takes the limits away."""
-    program.most_memory = program.last_moment = None
+    program.most_memory = program.last_moment = program.last_second = None
 
 
 def briefly(seconds, function, *values):

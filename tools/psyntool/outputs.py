@@ -14,6 +14,7 @@ STIMULUS_BEGINNING = "# written by psyn\n"
 # with `psyncert`.
 SIGNS = {
     ".aag": rb"(?m)^c\nwritten by psyn\n\Z",
+    ".aig": rb"(?m)^c\nwritten by psyn\n\Z",
     ".pg": rb'\Aparity \d+;\n\d+ \d+ [01] [\d,]+ "[^"]*/\d+";\n',
     ".cert": rb"\Apsyncert [12]\n",
     ".hoa": rb'\AHOA: v1\ntool: "psyn (compose|translate)"\n',

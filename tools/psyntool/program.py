@@ -1,4 +1,5 @@
 """Finds and runs the program: gives it an input and returns its answer."""
+import math
 import os
 import re
 import signal
@@ -10,6 +11,9 @@ from psyntool import places, progress, signals
 from psyntool.ends import Refused, TimeUp
 
 PR_SET_PDEATHSIG = 1
+# A program that is ended so many seconds before the limit of its processor time counts as ended by it, since the system
+# counts that time in more than one way.
+GRAIN = 0.25
 # The largest input that the program accepts; it answers fault 25 to a longer one.
 MOST_BYTES = 67_108_864
 # How an answer begins, by its exit status: a fault, what `synth` answers, and else by the command.
@@ -29,14 +33,15 @@ ANSWERS = {
     "game": rb"parity \d",
     "cert": rb"psyncert \d",
 }
-# The most bytes of memory of each program that is started, or None; the most seconds of processor time of each, or
-# None; and the last moment of the run, or None.
-most_memory = most_processor = last_moment = None
+# Each may be None: the most bytes of memory of each program that is started; the most seconds of processor time of
+# each; the last moment of the run; and the last second of processor time of its programs together.
+most_memory = most_processor = last_moment = last_second = None
 
 
 @dataclass(frozen=True)
 class LastMoment:
-    """A moment of the monotonic clock by which each program must have ended, and what is said if one has not."""
+    """A moment by which each program must have ended, on the monotonic clock or by `processor_seconds`, and what is
+    said if one has not."""
 
     at: float
     message: str
@@ -79,20 +84,31 @@ def title():
 
 def before_it_runs():
     """Returns a function by which a child process prepares itself before `exec`: it restores how signals are handled,
-    and asks the system, if it can, to kill the child when the tool ends."""
-    control, tool = control_of_processes(), os.getpid()
+    takes the limits over, and ends when the tool does."""
+    seconds, bound = seconds_left(), bound_to(os.getpid())
 
     def prepare():
         signals.give_back()
         signals.let_go()
         limit_memory()
-        limit_processor()
-        if control:
-            control(PR_SET_PDEATHSIG, signal.SIGKILL)
-        if os.getppid() != tool:
-            os.kill(os.getpid(), signal.SIGKILL)
+        limit_processor(seconds)
+        bound()
 
     return prepare
+
+
+def bound_to(parent):
+    """Returns a function by which a child of a process asks the system, if it can, to be killed when its parent
+    ends."""
+    control = control_of_processes()
+
+    def bind():
+        if control:
+            control(PR_SET_PDEATHSIG, signal.SIGKILL)
+        if os.getppid() != parent:
+            os.kill(os.getpid(), signal.SIGKILL)
+
+    return bind
 
 
 def limit_memory():
@@ -105,13 +121,34 @@ def limit_memory():
         resource.setrlimit(resource.RLIMIT_AS, (most, most))
 
 
-def limit_processor():
+def processor_seconds():
+    """The seconds of processor time of the programs that have ended."""
+    used = os.times()
+    return used.children_user + used.children_system
+
+
+def seconds_left():
+    """The most seconds of processor time of a program that is started now, or None."""
+    if last_second is None:
+        return most_processor
+    refuse_more()
+    left = math.ceil(last_second.at - processor_seconds())
+    return left if most_processor is None else min(left, most_processor)
+
+
+def refuse_more():
+    """Ends the run if the processor time of its programs is used up."""
+    if last_second and processor_seconds() >= last_second.at - GRAIN:
+        raise TimeUp(last_second.message)
+
+
+def limit_processor(seconds):
     """Limits the processor time of this process, which is killed at the limit."""
-    if most_processor is not None:
+    if seconds is not None:
         import resource
 
         hard = resource.getrlimit(resource.RLIMIT_CPU)[1]
-        most = most_processor if hard == resource.RLIM_INFINITY else min(most_processor, hard)
+        most = seconds if hard == resource.RLIM_INFINITY else min(seconds, hard)
         resource.setrlimit(resource.RLIMIT_CPU, (most, most))
 
 
@@ -164,6 +201,8 @@ def ask(given, title=""):
         signals.let_go()
         if child:
             end(child)
+    if child.returncode < 0:
+        refuse_more()
     return Answer(written, child.returncode, why_died(command, written, child.returncode))
 
 

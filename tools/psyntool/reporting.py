@@ -3,12 +3,14 @@ import json
 import re
 
 from psyntool import console, running
-from psyntool.ends import WRONG_SOLUTIONS
+from psyntool.ends import LATE, WRONG_SOLUTIONS
 
 VERDICTS = (
     "REALIZABLE", "UNREALIZABLE", "wins", "loses", "accepted", "rejected", "satisfied", "violated", "valid", "closed",
     "agrees", "accepts", "rejects",
 )
+# The numbers of faults that say that memory ran out, and that a stated size or the budget was passed.
+OUT_OF_MEMORY, LIMITS = "24", ("9", "25", "35", "60", "75", "84")
 # The fields of the line, in order, as the manual describes them.
 FIELDS = {
     "command": "the command",
@@ -25,6 +27,8 @@ FIELDS = {
     "seconds": "how long the command took",
     "error": "why there is no answer, if it is no fault",
     "answer": "what the command prints without --json; bytes that are no UTF-8 are replaced",
+    "ended": "by an answer, or by time (--time, --cpu), memory (fault 24), limit (faults 9, 25, 35, 60, 75 and 84, the "
+    "sizes and the budget of the program) or fault (anything else)",
 }
 
 
@@ -39,11 +43,16 @@ def run(request):
 
 def line_of(request, outcome):
     """The line of JSON about a run."""
+    return json.dumps(fields_of(request, outcome)) + "\n"
+
+
+def fields_of(request, outcome):
+    """The fields of the line about a run."""
     answer = outcome.written.decode("utf-8", "replace")
     fault = re.match(r"fault (?:(\d+) )?(\w+)(?: at (\d+))?", answer)
     number, name, offset = fault.groups() if fault else (None, None, None)
     stem, lap = steps_of(answer)
-    told = {
+    return {
         "command": request.command.name,
         "files": request.words,
         "status": outcome.status,
@@ -56,8 +65,19 @@ def line_of(request, outcome):
         "seconds": round(outcome.seconds, 3),
         "error": outcome.message or None,
         "answer": answer,
+        "ended": ended(outcome, number),
     }
-    return json.dumps(told) + "\n"
+
+
+def ended(outcome, number):
+    """How a run ended: with an answer, or by which limit."""
+    if outcome.status == LATE:
+        return "time"
+    if number == OUT_OF_MEMORY:
+        return "memory"
+    if number in LIMITS:
+        return "limit"
+    return "fault" if number or outcome.message else "answer"
 
 
 def verdict_of(command, answer, number, message):

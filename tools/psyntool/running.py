@@ -3,8 +3,8 @@ import time
 from dataclasses import dataclass
 
 from psyntool import console
-from psyntool.command import MEMORY, PROGRESS, TIME
-from psyntool.ends import FAULT, REFUSED, Refused, Unwritten
+from psyntool.command import LIMITS, PROGRESS
+from psyntool.ends import FAULT, LATE, REFUSED, Refused, TimeUp, Unwritten
 from psyntool.texts import Unreadable
 
 
@@ -26,6 +26,8 @@ def ended(function, *values):
         return function(*values), ""
     except (Refused, Unreadable) as error:
         return REFUSED, str(error)
+    except TimeUp as error:
+        return LATE, str(error)
     except Unwritten as error:
         return FAULT, str(error)
     except OSError as error:
@@ -38,7 +40,7 @@ def run(request):
         from psyntool import progress
 
         progress.is_asked = True
-    if not request.has(TIME) and not request.has(MEMORY):
+    if not any(map(request.has, LIMITS)):
         return request.command.run(request)
     from psyntool import limits
 

@@ -4,9 +4,9 @@ The commands of the program come first, in the order of the program's own table.
 of the command's name in `commands`, or in `asking` if the command only hands the program's answer on.
 """
 from psyntool.command import (
-    ABC, ASSUME, AUTO, AUTOMATON, BY, CERT, CHECK, CIRCUIT, COMPACT, DROP, EDGES, ENV, FORCE, FULL, GUARANTEE, KEEP,
-    MOORE, NAMES, OF_PARTS, OF_SENTENCES, OUTS, PARTS, PICTURE, PRIORITIES, REACH, SEED, SET, SMALL, STIMULUS,
-    STRICT, TLSF, TO_FILE, TO_FILES, TO_TLSF, TRACE, WAVE, Command, of_the_program,
+    ABC, AIG, ASSUME, AUTO, AUTOMATON, BY, CERT, CHECK, CIRCUIT, COMPACT, DROP, EDGES, ENV, FORCE, FULL, GUARANTEE,
+    JOBS, JOIN, KEEP, LOG, MOORE, NAMES, OF_PARTS, OF_SENTENCES, OUTS, PARTS, PICTURE, PRIORITIES, REACH, SEED, SET,
+    SMALL, STIMULUS, STRICT, TLSF, TO_FILE, TO_FILES, TO_FOLDER, TO_TLSF, TRACE, WAVE, Command, of_the_program,
 )  # fmt: skip
 from psyntool.kinds import Kind
 from psyntool.usages import USAGES
@@ -57,9 +57,9 @@ OF_THE_PROGRAM = (
         "synth",
         "a controller, or an environment that defeats every finite-state one; "
         "with --cert by the certificate of its game; with --tlsf for a specification",
-        own=(TO_FILES, AUTOMATON, FORCE, SMALL, BY, KEEP, PICTURE, PARTS, *OF_PARTS, *OF_SENTENCES, SET),
+        own=(TO_FILES, AUTOMATON, FORCE, AIG, SMALL, BY, KEEP, PICTURE, PARTS, *OF_PARTS, *OF_SENTENCES, SET),
         instead={flag.name: (Kind.LIST,) for flag in (PARTS, *OF_PARTS)},
-        apart={TLSF.name: (FULL, CERT, MOORE, COMPACT, BY, KEEP, PICTURE, PARTS, *OF_PARTS)},
+        apart={TLSF.name: (FULL, CERT, MOORE, COMPACT, BY, KEEP, PICTURE, PARTS, *OF_PARTS), AIG.name: (FULL,)},
     ),
 )
 OF_THE_TOOL = (
@@ -137,9 +137,10 @@ OF_THE_TOOL = (
     Command("solution", "a certificate's winners and moves as a solution (`paritysol`)", (Kind.GAME, Kind.CERTIFICATE)),
     Command(
         "each",
-        "runs COMMAND on each of several files, or on as many at a time as it reads, "
-        "and prints the first line of each answer",
+        "runs COMMAND on each of several files, of folders and of lists of instances, or on as many at a time as it "
+        "reads, and prints the first line of each answer",
         ("COMMAND", "FILE.."),
+        own=(JOBS, LOG, JOIN, TO_FOLDER, FORCE),
         runs_another=True,
     ),
     Command(

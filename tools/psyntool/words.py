@@ -77,8 +77,9 @@ def behind(flag, words, at, flags):
 def request_of(words, commands):
     """The request that a command line makes. Without a command the request is `help`, and with --version it is
     `version`."""
-    flags = {flag.name: flag for command in commands.values() for flag in command.all_flags}
-    flags.update({flag.name: flag for flag in EVERYWHERE})
+    flags = {}
+    for flag in (*EVERYWHERE, *(flag for command in commands.values() for flag in command.all_flags)):
+        flags.setdefault(flag.name, flag)
     given, others = split(words, flags)
     if VERSION.name in given:
         return Request(commands["version"], given, [], commands)

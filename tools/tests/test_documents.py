@@ -12,7 +12,7 @@ from psyntool.program import path as program
 from upkeep.sweeps import TOP
 
 ALL = ["README.md", "CONTRIBUTING.md", *sorted(os.path.relpath(path, TOP) for path in glob.glob(os.path.join(TOP, "docs", "*.md")))]
-WITH_COMMANDS = ["README.md", "CONTRIBUTING.md", "docs/CERTIFICATES.md", "docs/GALLERY.md", "docs/INTEROP.md", "docs/TUTORIAL.md"]
+WITH_COMMANDS = ["README.md", "CONTRIBUTING.md", "docs/CERTIFICATES.md", "docs/GALLERY.md", "docs/INTEROP.md", "docs/MANY.md", "docs/TUTORIAL.md"]
 WORDS = 35
 OTHERS = "commands of documents that need other programs"
 

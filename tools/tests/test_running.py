@@ -101,7 +101,10 @@ class Json(Running):
         answer = loses.pop("answer")
         self.assertEqual(
             loses,
-            {"command": "verify", "files": ["spec", "never"], "status": 3, "verdict": "loses", "stem": 1, "lap": 1},
+            {
+                "command": "verify", "files": ["spec", "never"], "status": 3, "verdict": "loses", "stem": 1, "lap": 1,
+                "ended": "answer",
+            },
         )
         self.assertEqual(answer, "loses\n1\n-\n0\n")
         accepted = self.told("lasso", "--trace", "spec", "grant", "lasso")
@@ -127,7 +130,7 @@ class Json(Running):
             refused,
             {
                 "command": "synth", "files": ["none"], "status": 2, "error": "none: No such file or directory",
-                "answer": "",
+                "answer": "", "ended": "fault",
             },
         )
 
@@ -167,7 +170,7 @@ class Each(Running):
             (("each", "show", "a"), "each is not for show, which reads FILE [FILE] [FILE]"),
             (("each", "version", "a"), "each is not for version, which reads no file"),
             (("each", "each", "a"), "each is not for each, which reads COMMAND FILE.."),
-            (("each", "synth", "-o", "out", "a"), "each synth can't have -o, which names one file for all runs"),
+            (("each", "synth", "-o", "out", "a"), "-o PREFIX: there is no folder out"),
             (("each", "synth", "--names", "a"), "synth has no flag --names: it is for sim"),
             (("each", "check", "-", "-"), "standard input can be one of the files only"),
         ):
@@ -179,10 +182,10 @@ class Limits(Running):
         hanging = {"PSYN": os.path.join(self.room, "hanging")}
         for flags in ((), ("--quiet",)):
             self.assertEqual(
-                self.said("solve", "--time", "1", *flags, "game", environment=hanging), ([], [f"psyn: {SECONDS}"], 1)
+                self.said("solve", "--time", "1", *flags, "game", environment=hanging), ([], [f"psyn: {SECONDS}"], 124)
             )
         for words in (("solve", "game"), ("synth", "spec")):
-            self.assertEqual(self.said("--time=1", *words, "--by", "./hanging {game}"), ([], [f"psyn: {SECONDS}"], 1))
+            self.assertEqual(self.said("--time=1", *words, "--by", "./hanging {game}"), ([], [f"psyn: {SECONDS}"], 124))
         self.assertEqual(
             self.said("each", "--time", "1", "solve", "game", "game", environment=hanging)[0], [f"game: {SECONDS}"] * 2
         )
@@ -193,7 +196,7 @@ class Limits(Running):
     def test_memory_has_a_limit(self):
         path = self.file("large", families.game_of(families.clique(500)).text().encode())
         lines, told, status = self.said("solve", "--memory", "8", path)
-        self.assertEqual((lines, status), (["fault 24 OutOfMemory"], 1))
+        self.assertEqual((lines, status), (["fault 24 OutOfMemory"], 125))
         self.assertTrue(
             any(
                 it.startswith("mend: give the process more memory (`ulimit -v`), or give it a smaller input.")
@@ -201,7 +204,7 @@ class Limits(Running):
             ),
             told,
         )
-        self.assertEqual(self.said("solve", "--memory", "8", "--quiet", path)[::2], (["fault 24 OutOfMemory"], 1))
+        self.assertEqual(self.said("solve", "--memory", "8", "--quiet", path)[::2], (["fault 24 OutOfMemory"], 125))
         lines, told, status = self.said(
             "solve", "--memory", "30", "--by", f"{shlex.quote(sys.executable)} -c 'bytes(1 << 28)'", "game"
         )
@@ -218,7 +221,7 @@ class Limits(Running):
         )
 
     def test_wrong_numbers(self):
-        for flag, unit in (("--time", "SECONDS"), ("--memory", "MIB")):
+        for flag, unit in (("--time", "SECONDS"), ("--cpu", "SECONDS"), ("--memory", "MIB")):
             self.assertEqual(self.said("solve", flag, "0", "game")[1], [f"psyn: {flag} {unit}: at least 1 is wanted"])
             self.assertEqual(self.said("solve", flag, "1.5", "game")[1], [f"psyn: {flag} {unit}: '1.5' is no number"])
 

@@ -15,7 +15,7 @@ from upkeep.sweeps import TOP
 
 PLAIN = {"text", "python", "rust", "verilog"}
 NOT_RUN = ["foreign"], ["gate"]
-PROGRAMS = {"berkeley-abc", "dot", "yosys"}
+PROGRAMS = {"berkeley-abc", "dot", "parallel", "sbatch", "yosys"}
 SECONDS = 60
 
 

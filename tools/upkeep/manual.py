@@ -4,6 +4,7 @@ import re
 
 from psyntool import faults, reporting
 from psyntool.command import flags_told
+from psyntool.runs import logs
 from psyntool.table import COMMANDS
 
 ABOUT = """\
@@ -43,6 +44,10 @@ JSON = """\
 With `--json`, a command prints one line of JSON in place of its answer, an object with the following fields. A field
 that does not apply is null. `each --json` prints such a line for each run. Explanations still go to standard error.
 """
+LOGS = """\
+`each --log FILE` appends a line of JSON for each run to FILE, an object with the following fields, null where a field
+does not apply. A run that FILE has a line of is not done again. docs/MANY.md has examples.
+"""
 STATUSES = {
     "0": "an answer",
     "10": "REALIZABLE: there is a controller",
@@ -50,6 +55,8 @@ STATUSES = {
     "1": "a fault, or an answer that could not be written completely",
     "2": "the command line or a file was refused",
     "3": "with --check: the answer is loses, rejected, violated, accepts or rejects, or fault 40, 50 or 51 of judge",
+    "124": "no answer within the seconds of --time or --cpu",
+    "125": "no answer within the memory of --memory: fault 24",
     "130": "ended by Ctrl-C; 143 by TERM and 129 by HUP",
 }
 
@@ -92,6 +99,7 @@ def page():
         *(entry(name, f"{says}.") for name, says in flags_told(COMMANDS)),
     )
     section("JSON", plain(JSON), *(entry(name, f"{says}.") for name, says in reporting.FIELDS.items()))
+    section("LOGS", plain(LOGS), *(entry(name, f"{says}.") for name, says in logs.FIELDS.items()))
     section("FORMATS", *(entry(name, says) for name, says in FORMATS.items()))
     section("EXIT STATUS", *(entry(status, says + ".") for status, says in STATUSES.items()))
     told = [

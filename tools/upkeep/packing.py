@@ -15,7 +15,7 @@ from upkeep import completions
 DOCUMENTS = "docs/*.md docs/psyn.1 docs/pictures/* README.md VERSION"
 TOOLS = (
     "tools/psyn tools/install tools/check_certificate.py tools/psyntool/**/*.py tools/psyntool/*.json "
-    "tools/psyntool/pages/*"
+    "tools/psyntool/pages/* tools/entrant tools/benchexec/* tools/container/*"
 )
 EXAMPLES = "examples/files/* examples/parts/* examples/gallery/**/*"
 COMPLETIONS = {

@@ -60,13 +60,15 @@ A game with its regions in two colours, the winning moves bold, and the automato
 Is another solver's solution right? Let it solve the game of an automaton:
   {name} judge --picture lost.dot game.pg game.sol > game.cert
   {name} synth --by 'oink {{game}} {{solution}}' arbiter.hoa
-Several files in one run, as JSON for another program, with limits for each run:
-  {name} each --json --time 60 --memory 4000 verify arbiter.hoa arbiter.aag lift.hoa lift.aag
+Many files, four at a time, with limits for each run, a log and a folder for the circuits; what came of them:
+  {name} each --jobs 4 --time 60 --memory 4000 --log it.log -o circuits synth specs
+  {name} each --join it.log
 """
 ENDS = """\
 The answer of the program is printed unchanged, and its exit status is this tool's: 0 for an answer (10 and 20 for \
 REALIZABLE and UNREALIZABLE), 1 for a fault or an answer that could not be written whole, 2 for a refused command line \
-or file, 3 with --check for the other verdict, 130 for Ctrl-C.
+or file, 3 with --check for the other verdict, 124 where --time or --cpu, and 125 where --memory ends the run without \
+an answer, 130 for Ctrl-C.
 What is wrong is explained on standard error: file, line and column, the cause, how to mend it (docs/FAULTS.md). A \
 text whose last line is not ended is ended by a newline. Left out are carriage returns at line ends, a byte order \
 mark, a line REALIZABLE above a circuit, and an input of it that the automaton does not mention and nothing reads. \

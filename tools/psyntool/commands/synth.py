@@ -2,10 +2,12 @@
 circuit, the game and the certificate go to separate files, of temporal logic the circuit alone or, with --automaton,
 all; with --small, the circuit is made smaller; with --by, another solver solves the game."""
 from psyntool import asking, console, files, outputs, program, signals
-from psyntool.command import AUTOMATON, BY, CERT, FULL, KEEP, MOORE, OF_PARTS, PARTS, PICTURE, SMALL, TLSF, TO_FILES
+from psyntool.command import (
+    AIG, AUTOMATON, BY, CERT, FULL, KEEP, MOORE, OF_PARTS, PARTS, PICTURE, SMALL, TLSF, TO_FILES
+)  # fmt: skip
 from psyntool.ends import FAULT, Refused, TimeUp
 from psyntool.kinds import Kind
-from psyntool.texts import Unreadable, report
+from psyntool.texts import Unreadable, binary, circuit, report
 
 ENDINGS = (".aag", ".pg", ".cert")
 NOT_TRANSLATED = b"fault 75 "
@@ -95,9 +97,17 @@ def hand_on(request, texts, flags=None, composer=None):
     """Prints the program's answer, and remarks on it; of parts, with their composer."""
     given = files.joined("synth", request.passed if flags is None else flags, texts)
     answer = smaller(request, texts[0], program.ask(given), request.passed)
-    status = asking.hand_on(request, texts, answer)
+    if not answer.died:
+        console.write(in_binary(answer.bytes) if request.has(AIG) and not answer.is_fault else answer.bytes)
+    status = asking.told(request, texts, answer)
     remark(request, texts[0], answer, composer)
     return status
+
+
+def in_binary(answer):
+    """An answer with its circuit in binary AIGER."""
+    word, newline, text = answer.partition(b"\n")
+    return word + newline + binary.binary_form(circuit.read(text.decode("utf-8", "surrogateescape")))
 
 
 def smaller(request, text, answer, passed):
@@ -180,6 +190,7 @@ class Solving:
 
 def paths_of(request, endings):
     prefix = request.value(TO_FILES)
+    endings = [".aig" if ending == ".aag" and request.has(AIG) else ending for ending in endings]
     return outputs.own(request, [prefix + ending for ending in endings], TO_FILES.shown, prefix)
 
 
@@ -207,6 +218,9 @@ def stored(answer, paths, others):
     if not said or len(said.parts) != len(paths):
         console.tell("psyn: the answer is none of `synth --full`, so no file is written")
         return FAULT
-    outputs.write_all({**dict(zip(paths, (said.parts[0] + outputs.CIRCUIT_ENDING, *said.parts[1:]))), **others})
+    made = said.parts[0]
+    if paths[0].endswith(".aig"):
+        made = binary.binary_form(circuit.read(made)).decode("utf-8", "surrogateescape")
+    outputs.write_all({**dict(zip(paths, (made + outputs.CIRCUIT_ENDING, *said.parts[1:]))), **others})
     console.write_text(said.word + "\n")
     return answer.status
