@@ -108,10 +108,16 @@ ABC = Flag("--abc", "abc makes the circuit smaller first")
 SMALL = Flag("--small", "the circuit is made smaller, as shrink makes it")
 AUTO = Flag("--auto", "play without you, holding out long, and print the steps")
 REACH = Flag("--reach", "only what so many steps from the start reach (of a circuit: from the outputs back)", "N")
+TABLE = Flag(
+    "--table",
+    "of a circuit, its states and moves in place of a picture: FORM is kiss2, or hoa for an automaton",
+    "FORM",
+)
 DROP = Flag("--drop", "leave out the input of that name, which nothing may read (as the clock that yosys adds)", "NAME")
 CHECK = Flag(
     "--check",
-    "exit status 3 where the answer is loses, rejected, violated, accepts, rejects, or that the solution is wrong",
+    "exit status 3 where the answer is loses, rejected, violated, accepts, rejects, or that the solution is wrong; "
+    "of synth 0 for REALIZABLE and 1 for UNREALIZABLE",
 )
 JOBS = Flag("--jobs", "so many runs at a time", "N")
 LOG = Flag(

@@ -6,7 +6,7 @@ of the command's name in `commands`, or in `asking` if the command only hands th
 from psyntool.command import (
     ABC, AIG, ASSUME, AUTO, AUTOMATON, BY, CERT, CHECK, CIRCUIT, COMPACT, DROP, EDGES, ENV, FORCE, FULL, GUARANTEE,
     JOBS, JOIN, KEEP, LOG, MOORE, NAMES, OF_PARTS, OF_SENTENCES, OUTS, PARTS, PICTURE, PRIORITIES, REACH, SEED, SET,
-    SMALL, STIMULUS, STRICT, TLSF, TO_FILE, TO_FILES, TO_FOLDER, TO_TLSF, TRACE, WAVE, Command, of_the_program,
+    SMALL, STIMULUS, STRICT, TABLE, TLSF, TO_FILE, TO_FILES, TO_FOLDER, TO_TLSF, TRACE, WAVE, Command, of_the_program,
 )  # fmt: skip
 from psyntool.kinds import Kind
 from psyntool.usages import USAGES
@@ -57,7 +57,7 @@ OF_THE_PROGRAM = (
         "synth",
         "a controller, or an environment that defeats every finite-state one; "
         "with --cert by the certificate of its game; with --tlsf for a specification",
-        own=(TO_FILES, AUTOMATON, FORCE, AIG, SMALL, BY, KEEP, PICTURE, PARTS, *OF_PARTS, *OF_SENTENCES, SET),
+        own=(TO_FILES, AUTOMATON, FORCE, AIG, CHECK, SMALL, BY, KEEP, PICTURE, PARTS, *OF_PARTS, *OF_SENTENCES, SET),
         instead={flag.name: (Kind.LIST,) for flag in (PARTS, *OF_PARTS)},
         apart={TLSF.name: (FULL, CERT, MOORE, COMPACT, BY, KEEP, PICTURE, PARTS, *OF_PARTS), AIG.name: (FULL,)},
     ),
@@ -111,7 +111,7 @@ OF_THE_TOOL = (
         "a picture, as Graphviz DOT: of a game (with its certificate or solution and its automaton), an automaton, "
         "a specification or a circuit",
         (Kind.FILE, Kind.FILE, Kind.FILE),
-        own=(REACH, SET),
+        own=(REACH, TABLE, SET),
         least=1,
     ),
     Command(
@@ -128,6 +128,15 @@ OF_THE_TOOL = (
     Command(
         "verilog",
         "a circuit as a module of Verilog, with a comment for each output; if an automaton, "
+        "a list of parts or a specification in temporal logic is given, only if the circuit wins",
+        (Kind.CIRCUIT, "SPEC"),
+        flags=(ENV, MOORE),
+        own=(SET,),
+        least=1,
+    ),
+    Command(
+        "c",
+        "a circuit as functions of C, which allocate nothing, with a comment for each output; if an automaton, "
         "a list of parts or a specification in temporal logic is given, only if the circuit wins",
         (Kind.CIRCUIT, "SPEC"),
         flags=(ENV, MOORE),

@@ -79,10 +79,18 @@ class Statuses(Running):
             said = [answer[name] for name in ("verdict", "status", "error")]
             self.assertEqual(said, [None, 1, told.removeprefix("psyn: ")])
 
+    def test_synth_has_the_statuses_of_make(self):
+        self.file("unreal", AUTOMATON.replace(b"controllable-AP: 1", b"controllable-AP:"))
+        for words, status in (
+            (("spec",), 0), (("-o", "out", "spec"), 0), (("unreal",), 1), (("game",), 1), (("none",), 2)
+        ):
+            with self.subTest(words):
+                self.assertEqual(self.tool("synth", "--check", "--quiet", *words).returncode, status)
+
     def test_other_commands_have_no_such_flag(self):
         self.assertEqual(
-            self.said("synth", "--check", "spec")[1:],
-            (["psyn: synth has no flag --check: it is for judge, lasso, verify, shrink, agree"], 2),
+            self.said("solve", "--check", "game")[1:],
+            (["psyn: solve has no flag --check: it is for judge, lasso, verify, shrink, agree, synth"], 2),
         )
 
 

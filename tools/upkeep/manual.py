@@ -54,7 +54,8 @@ STATUSES = {
     "20": "UNREALIZABLE: an environment wins",
     "1": "a fault, or an answer that could not be written completely",
     "2": "the command line or a file was refused",
-    "3": "with --check: the answer is loses, rejected, violated, accepts or rejects, or fault 40, 50 or 51 of judge",
+    "3": "with --check, but not of synth: the answer is loses, rejected, violated, accepts or rejects, "
+    "or fault 40, 50 or 51 of judge",
     "124": "no answer within the seconds of --time or --cpu",
     "125": "no answer within the memory of --memory: fault 24",
     "130": "ended by Ctrl-C; 143 by TERM and 129 by HUP",

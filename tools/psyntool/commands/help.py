@@ -26,7 +26,8 @@ TASKS = {
     "A circuit, in AIGER": (
         ("verify agree", "does it win by the specification? does an automaton?"),
         ("lasso sim wave", "what it does on a stimulus; that as a VCD file"),
-        ("shrink convert verilog", "it with fewer gates, in another form, as Verilog"),
+        ("shrink convert", "it with fewer gates, in the other form of AIGER"),
+        ("verilog c", "it as a module of Verilog, as functions of C"),
     ),
     "An automaton or a parity game": (
         ("game cert", "the automaton's game, and a certificate of it"),

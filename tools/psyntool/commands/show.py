@@ -1,6 +1,6 @@
-"""`show`: a picture of a game, of an automaton or of a circuit, as Graphviz DOT."""
+"""`show`: a picture of a game, of an automaton or of a circuit, as Graphviz DOT; or the table of a circuit."""
 from psyntool import console
-from psyntool.command import REACH
+from psyntool.command import REACH, TABLE
 from psyntool.ends import Refused
 from psyntool.kinds import Kind
 from psyntool.pictures import automata, circuits, games
@@ -55,8 +55,23 @@ def run(request):
     if twice:
         raise Refused(f"there is {twice.with_article} twice; {WANTED}")
     found = {kind: READERS[kind](text) for kind, text in parts}
+    if request.has(TABLE):
+        console.write_text(in_unicode(tabled(request, found)))
+        return 0
     console.write_text(in_unicode(drawn(found, request.number(REACH))))
     return 0
+
+
+def tabled(request, found):
+    """The table of a circuit."""
+    from psyntool import machines
+
+    form = machines.FORMS.get(request.value(TABLE))
+    if not form:
+        raise Refused(f"{TABLE.shown}: {request.value(TABLE)!r} is none of {', '.join(machines.FORMS)}")
+    if set(found) != {Kind.CIRCUIT} or request.has(REACH):
+        raise Refused(f"show {TABLE.name} is for a circuit" + f", without {REACH.name}" * request.has(REACH))
+    return form(machines.machine_of(found[Kind.CIRCUIT]))
 
 
 def drawn(found, reach):

@@ -3,7 +3,7 @@ circuit, the game and the certificate go to separate files, of temporal logic th
 all; with --small, the circuit is made smaller; with --by, another solver solves the game."""
 from psyntool import asking, console, files, outputs, program, signals
 from psyntool.command import (
-    AIG, AUTOMATON, BY, CERT, FULL, KEEP, MOORE, OF_PARTS, PARTS, PICTURE, SMALL, TLSF, TO_FILES
+    AIG, AUTOMATON, BY, CERT, CHECK, FULL, KEEP, MOORE, OF_PARTS, PARTS, PICTURE, SMALL, TLSF, TO_FILES
 )  # fmt: skip
 from psyntool.ends import FAULT, Refused, TimeUp
 from psyntool.kinds import Kind
@@ -15,7 +15,17 @@ NOT_TRANSLATED = b"fault 75 "
 TRANSLATED = b'\ntool: "psyn translate"\n'
 
 
+# The exit statuses with --check, for `make`.
+CHECKED = {10: 0, 20: 1}
+
+
 def run(request):
+    status = answered(request)
+    return CHECKED.get(status, status) if request.has(CHECK) else status
+
+
+def answered(request):
+    """Runs the command, and returns the exit status without --check."""
     request.refuse_without(PICTURE, BY)
     request.refuse_without(KEEP, BY)
     request.refuse_without(AUTOMATON, TO_FILES)
