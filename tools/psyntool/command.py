@@ -108,6 +108,9 @@ ABC = Flag("--abc", "abc makes the circuit smaller first")
 SMALL = Flag("--small", "the circuit is made smaller, as shrink makes it")
 AUTO = Flag("--auto", "play without you, holding out long, and print the steps")
 REACH = Flag("--reach", "only what so many steps from the start reach (of a circuit: from the outputs back)", "N")
+SVA = Flag(
+    "--sva", "SystemVerilog, in which each sentence is an assertion, or an assumption, or a comment that says why not"
+)
 TABLE = Flag(
     "--table",
     "of a circuit, its states and moves in place of a picture: FORM is kiss2, or hoa for an automaton",

@@ -3,7 +3,7 @@ specification; each output then has the sentences that mention it."""
 import os
 
 from psyntool import asking, console, files, program, remarks, unmentioned
-from psyntool.command import ENV, MOORE, TLSF, wrong_kinds
+from psyntool.command import ENV, MOORE, SVA, TLSF, wrong_kinds
 from psyntool.ends import FAULT, Refused
 from psyntool.files import Reader, Text
 from psyntool.kinds import Kind
@@ -17,7 +17,7 @@ WINS = b"wins\n"
 
 def run(request, what, text_of):
     """Prints what a function makes of the circuit, its title, the lines of a comment, and the sentences about each
-    output."""
+    output; with --sva of the specification too."""
     given = Given(request)
     answer = program.ask(given.question)
     if not asking.is_had(answer):
@@ -31,7 +31,8 @@ def run(request, what, text_of):
     title = "circuit" if request.words[0] == "-" else os.path.splitext(name)[0]
     about = [f"Written by psyn {request.command.name} from {name}.", *given.judgement()]
     made = circuit.read(given.circuit.string)
-    console.write_text(text_of(made, title, about, given.sentences()))
+    more = {"asserted": given.asserted()} if request.has(SVA) else {}
+    console.write_text(text_of(made, title, about, given.sentences(), **more))
     if not request.quiet and not request.has(ENV):
         console.tell(*given.breaking(made))
     return 0
@@ -47,6 +48,8 @@ class Given:
             raise Refused("standard input can be one of the files only")
         if not request.words[1:] and request.passed:
             raise Refused(f"{request.command.name} {request.passed[0]} wants a specification, which says who wins")
+        if request.has(SVA) and (request.has(ENV) or not request.words[1:]):
+            raise Refused(f"{request.command.name} {SVA.name} is for a controller, and wants its specification")
         reader = Reader(request)
         self.circuit = reader.text(Kind.CIRCUIT, request.words[0])
         wrong = wrong_kinds(request.command, [self.circuit])
@@ -55,6 +58,8 @@ class Given:
         for path in request.words[1:]:
             self.specification = reader.text(Kind.FILE, path)
             self.automaton, self.composer = specification_of(self.specification, reader, request)
+            if request.has(SVA) and self.automaton.kind is not Kind.SPECIFICATION:
+                raise Refused(f"{request.command.name} {SVA.name} wants a specification in temporal logic")
             unmentioned.drop([self.automaton, self.circuit])
             reader.tell(self.circuit)
 
@@ -69,6 +74,12 @@ class Given:
             flags = [TLSF.name] if self.automaton.kind is Kind.SPECIFICATION else []
             return files.joined("verify", [*flags, *self.request.passed], self.texts)
         return files.joined("sim", [], [self.circuit, Text(Kind.STIMULUS, "no stimulus", b"")])
+
+    def asserted(self):
+        """The specification whose sentences become assertions."""
+        from psyntool import specifying
+
+        return specifying.read(self.automaton)
 
     def judgement(self):
         if not self.automaton:

@@ -6,7 +6,8 @@ of the command's name in `commands`, or in `asking` if the command only hands th
 from psyntool.command import (
     ABC, AIG, ASSUME, AUTO, AUTOMATON, BY, CERT, CHECK, CIRCUIT, COMPACT, DROP, EDGES, ENV, FORCE, FULL, GUARANTEE,
     JOBS, JOIN, KEEP, LOG, MOORE, NAMES, OF_PARTS, OF_SENTENCES, OUTS, PARTS, PICTURE, PRIORITIES, REACH, SEED, SET,
-    SMALL, STIMULUS, STRICT, TABLE, TLSF, TO_FILE, TO_FILES, TO_FOLDER, TO_TLSF, TRACE, WAVE, Command, of_the_program,
+    SMALL, STIMULUS, STRICT, SVA, TABLE, TLSF, TO_FILE, TO_FILES, TO_FOLDER, TO_TLSF, TRACE, WAVE, Command,
+    of_the_program,
 )  # fmt: skip
 from psyntool.kinds import Kind
 from psyntool.usages import USAGES
@@ -131,7 +132,7 @@ OF_THE_TOOL = (
         "a list of parts or a specification in temporal logic is given, only if the circuit wins",
         (Kind.CIRCUIT, "SPEC"),
         flags=(ENV, MOORE),
-        own=(SET,),
+        own=(SVA, SET),
         least=1,
     ),
     Command(

@@ -17,7 +17,7 @@ TOOLS = (
     "tools/psyn tools/install tools/check_certificate.py tools/psyntool/**/*.py tools/psyntool/*.json "
     "tools/psyntool/pages/* tools/entrant tools/benchexec/* tools/container/*"
 )
-EXAMPLES = "examples/files/* examples/parts/* examples/gallery/**/*"
+EXAMPLES = "examples/files/* examples/parts/* examples/gallery/**/* examples/project/* examples/editors/*"
 COMPLETIONS = {
     "share/bash-completion/completions/psyn": completions.bash, "share/zsh/site-functions/_psyn": completions.zsh
 }

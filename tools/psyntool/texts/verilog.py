@@ -5,6 +5,7 @@ from psyntool.equations import telling
 from psyntool.equations.reading import Names, Scope, equations
 from psyntool.equations.terms import And, Or, Xor
 from psyntool.equations.writing import Signs, written
+from psyntool.texts import assertions
 
 # The words that no plain identifier of Verilog-2005 or of SystemVerilog-2017 may be.
 KEYWORDS = frozenset(
@@ -65,10 +66,11 @@ def shown(line):
     return "".join(sign if sign.isprintable() else " " for sign in line)
 
 
-def module(made, title, about=(), remarks=None):
+def module(made, title, about=(), remarks=None, asserted=None):
     """The module of a circuit, whose variables must each be defined once.
 
-    `about` has lines for the comment above it, and `remarks` has further lines for an output, by its name.
+    `about` has lines for the comment above it, and `remarks` has further lines for an output, by its name. The
+    sentences of the specification `asserted` become assertions; the module then has a clock in any case.
     """
     scope = Ports()
     inputs, outputs = (tuple(scope.port(kind, name) for name in made.names(kind[0])) for kind in ("input", "output"))
@@ -76,19 +78,27 @@ def module(made, title, about=(), remarks=None):
     latches = tuple(scope.new(name) for name in made.names("l"))
     wires = {gate.literal // 2: scope.new(f"n{gate.literal // 2}") for gate in made.gates}
     said = equations(made, Names(inputs, latches, outputs, wires.__getitem__))
-    clocks = clocks if said.registers else ()
+    clocks = clocks if said.registers or asserted else ()
     ports = [*(("input", name) for name in (*clocks, *inputs)), *(("output", name) for name in outputs)]
     body = [
         *declared(said),
         *assigned(made, said, inputs, remarks or {}),
-        *(clocked(said.registers, *clocks) if clocks else []),
+        *(clocked(said.registers, *clocks) if said.registers else []),
+        *(asserting(made, asserted, (*inputs, *outputs), clocks, scope) if asserted else []),
     ]
-    lines = [
-        f"// {shown(line)}" for line in (*about, *timing(clocks), *scope.changed, *left_out(latches, said.registers))
-    ]
+    about = [*about, *timing(clocks if said.registers else ()), *scope.changed, *left_out(latches, said.registers)]
+    lines = [f"// {shown(line)}" for line in about]
     return "\n".join(
         [*lines, *heading(plain(title), ports), *(f"  {line}" if line else "" for line in body), "endmodule", ""]
     )
+
+
+def asserting(made, basic, ports, clocks, scope):
+    """The assertions of a specification in the names of the module's ports."""
+    names = dict(zip([*made.names("i"), *made.names("o")], map(identifier, ports)))
+    clock, reset = map(identifier, clocks)
+    lines = assertions.block(basic, names.__getitem__, clock, reset, lambda name: identifier(scope.new(name)))
+    return [f"// {shown(line[3:])}" if line.startswith("// ") else line for line in lines]
 
 
 def plain(title):
