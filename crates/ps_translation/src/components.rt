@@ -1,8 +1,8 @@
 //! Strongly connected components of lists of edges (Tarjan, "Depth-First Search and Linear Graph Algorithms", 1972).
 
-use crate::column::Column;
-use crate::stop::{Stop, index, number_of};
 use ps_keys::KeyList;
+use ps_parts::column::Column;
+use ps_parts::stop::{Stop, index, number_of};
 use std::alloc::Global;
 
 /// The end of a list.

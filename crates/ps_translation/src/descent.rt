@@ -7,15 +7,15 @@
 //! more often than there are components. States by which only turns were kept that do not matter are then met no more,
 //! or cannot be told apart.
 
-use crate::column::Column;
 use crate::components::component_numbers;
-use crate::diagrams::{Diagram, Diagrams};
 use crate::machine::{Arc, Machine, NONE};
 use crate::parity::edges_of;
-use crate::part::Part;
 use crate::product::Product;
-use crate::stop::{Stop, index, number_of};
 use ps_keys::KeyList;
+use ps_parts::column::Column;
+use ps_parts::diagrams::{Diagram, Diagrams};
+use ps_parts::part::Part;
+use ps_parts::stop::{Stop, index, number_of};
 use std::alloc::Global;
 
 /// The states of a product by what they accept.

@@ -8,33 +8,24 @@
 //! It is proved that the calls are safe and end, and nothing else: that an automaton is right has to be judged. A
 //! translation beyond a budget or a size gives none.
 //!
-//! The formula is simplified (`forms`) and parted where its top is Boolean (`split`); a part of a class without
-//! automata is brought nearer to a normal form (`normal`). Each part has a deterministic automaton (`part`), whose
-//! states are what is owed (`progression`), as diagrams (`diagrams`); where there would be too many parts, those with
-//! the same automaton are one (`shapes`). Their product (`product`) has a condition on the marks of all parts. Edges
-//! between its components lead as far down as they can (`descent`), and the alternating cycle decomposition (`cycles`,
-//! with `components`, `loops`, `nested`, `turns`) makes the condition a parity condition (`parity`). States that cannot
-//! be told apart are joined (`quotient`, with `classes`, `sources` and `renumbering`), and named by what they owe
-//! (`owing`, `names`). The text (`text`, with `header` and `output`) has short sums of products as labels (`letters`,
-//! `cover`, `labels`).
+//! The formula is simplified, and parted where its top is Boolean; each part has a deterministic automaton (ps_parts).
+//! Where there would be too many parts, those with the same automaton are one (`shapes`). Their product (`product`) has
+//! a condition on the marks of all parts. Edges between its components lead as far down as they can (`descent`), and
+//! the alternating cycle decomposition (`cycles`, with `components`, `loops`, `nested`, `turns`) makes the condition a
+//! parity condition (`parity`). States that cannot be told apart are joined (`quotient`, with `classes`, `sources` and
+//! `renumbering`), and named by what they owe (`owing`, `names`). The text (`text`, with `header` and `output`) has
+//! short sums of products as labels (`letters`, `cover`, `labels`).
 #![tactic(auto)]
 
-mod column;
 mod components;
 mod cycles;
 mod descent;
-mod diagrams;
-mod forms;
 mod machine;
-mod met;
 mod owing;
 mod parity;
-mod part;
 mod product;
-mod progression;
 mod quotient;
-mod split;
-mod stop;
+mod shapes;
 mod text;
 mod translate;
 

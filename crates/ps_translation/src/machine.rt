@@ -1,8 +1,8 @@
 //! Deterministic automata whose edges bear numbers.
 
-use crate::diagrams::{Diagram, Diagrams, REFUSED, View};
-use crate::stop::{Stop, index};
 use ps_keys::KeyList;
+use ps_parts::diagrams::{Diagram, Diagrams, REFUSED, View};
+use ps_parts::stop::{Stop, index};
 use std::alloc::Global;
 
 /// The most states of an automaton.

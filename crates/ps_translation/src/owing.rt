@@ -1,12 +1,12 @@
 //! What is owed in a state of a product, as formulas.
 
-use crate::diagrams::{self, Diagram};
-use crate::forms::{FALSE, Form, Forms, TRUE};
 use crate::product::Product;
-use crate::progression::Progression;
-use crate::stop::Stop;
 use ps_formula::NormalNode;
 use ps_keys::KeyList;
+use ps_parts::diagrams::{self, Diagram};
+use ps_parts::forms::{FALSE, Form, Forms, TRUE};
+use ps_parts::progression::Progression;
+use ps_parts::stop::Stop;
 use std::alloc::Global;
 
 /// What is owed in a state.

@@ -10,14 +10,14 @@ pub mod classes;
 pub mod renumbering;
 pub mod sources;
 
-use crate::column::Column;
-use crate::diagrams::{Diagram, Diagrams};
 use crate::machine::{Machine, NONE};
 use crate::quotient::classes::Classes;
 use crate::quotient::renumbering::Renumbering;
 use crate::quotient::sources::{Sources, sources_of};
-use crate::stop::{Stop, index, number_of};
 use ps_keys::KeyList;
+use ps_parts::column::Column;
+use ps_parts::diagrams::{Diagram, Diagrams};
+use ps_parts::stop::{Stop, index, number_of};
 use std::alloc::Global;
 
 /// Parts of classes: states that are to be told apart from the others.

@@ -7,16 +7,16 @@ pub mod letters;
 pub mod names;
 pub mod output;
 
-use crate::diagrams::{Diagram, Diagrams};
 use crate::parity::Parity;
-use crate::progression::Progression;
-use crate::stop::{Stop, index};
 use crate::text::header::add_header;
 use crate::text::labels::Labels;
 use crate::text::letters::{Letters, Way};
 use crate::text::names::{leave_out_standing, name_of};
 use crate::text::output::Output;
 use crate::translate::Made;
+use ps_parts::diagrams::{Diagram, Diagrams};
+use ps_parts::progression::Progression;
+use ps_parts::stop::{Stop, index};
 use ps_tlsf::Proposition;
 use std::alloc::Global;
 

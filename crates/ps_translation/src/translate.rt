@@ -1,16 +1,17 @@
 //! The translation of a specification.
 
 use crate::descent::descended;
-use crate::diagrams::{Diagram, Diagrams};
 use crate::machine::Machine;
 use crate::parity::{Parity, with_parity};
-use crate::part::{Kind, Part};
 use crate::product::{Product, product_of};
-use crate::progression::Progression;
 use crate::quotient::quotient;
-use crate::split::{Extent, Split, Way};
-use crate::stop::Stop;
+use crate::shapes::Shapes;
 use crate::text::text;
+use ps_parts::diagrams::{Diagram, Diagrams};
+use ps_parts::part::{Kind, Part};
+use ps_parts::progression::Progression;
+use ps_parts::split::{Extent, Split, Way};
+use ps_parts::stop::Stop;
 use ps_tlsf::Specification;
 use std::alloc::{AllocError, Global};
 
@@ -104,7 +105,7 @@ fn translation(
 ) -> Result<Made, Stop> {
     let nodes = specification.table.as_slice();
     let form = world.forms.of_table(nodes, specification.root)?;
-    let mut split = Split::new(alloc, way);
+    let mut split = Split::new(alloc, way, Shapes::new(alloc));
     let condition = split.function(world, form)?;
     of_parts(alloc, world, split.into_parts(), condition)
 }

@@ -1,9 +1,9 @@
 //! The largest loops that are accepting, or not.
 
 use crate::components::{Edge, components};
-use crate::diagrams::{Diagram, Diagrams, TRUE, Test, View};
 use crate::machine::Machine;
-use crate::stop::Stop;
+use ps_parts::diagrams::{Diagram, Diagrams, TRUE, Test, View};
+use ps_parts::stop::Stop;
 use std::alloc::Global;
 
 /// The most loops.

@@ -1,11 +1,11 @@
 //! Which of some loops are within others.
 
-use crate::column::Column;
 use crate::components::Edge;
-use crate::diagrams::Diagrams;
 use crate::machine::NONE;
-use crate::stop::{Stop, found, index, number_of};
 use ps_keys::KeyList;
+use ps_parts::column::Column;
+use ps_parts::diagrams::Diagrams;
+use ps_parts::stop::{Stop, found, index, number_of};
 use std::alloc::Global;
 
 /// Loops by their first edges. A loop that is within another has its first edge there.

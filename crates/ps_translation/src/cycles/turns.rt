@@ -1,9 +1,9 @@
 //! The children of loops that go through a state.
 
-use crate::column::Column;
 use crate::machine::NONE;
-use crate::stop::{Stop, found, index, number_of};
 use ps_keys::KeyList;
+use ps_parts::column::Column;
+use ps_parts::stop::{Stop, found, index, number_of};
 use std::alloc::Global;
 
 /// A child of a loop that goes through a state.

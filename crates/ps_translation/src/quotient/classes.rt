@@ -1,7 +1,7 @@
 //! Classes of states.
 
-use crate::column::Column;
-use crate::stop::{Stop, index};
+use ps_parts::column::Column;
+use ps_parts::stop::{Stop, index};
 use std::alloc::Global;
 
 /// The end of a list.

@@ -1,10 +1,10 @@
 //! Rows of states whose targets get new numbers.
 
-use crate::column::Column;
-use crate::diagrams::{Diagram, Diagrams, PROPOSITIONS, REFUSED, Test, View};
 use crate::machine::{Arc, Machine};
-use crate::stop::Stop;
 use ps_keys::KeyMap;
+use ps_parts::column::Column;
+use ps_parts::diagrams::{Diagram, Diagrams, PROPOSITIONS, REFUSED, Test, View};
+use ps_parts::stop::Stop;
 use std::alloc::Global;
 
 /// The nodes that were met, with what they become.

@@ -1,9 +1,9 @@
 //! For each state of an automaton, the states that lead to it.
 
-use crate::column::Column;
-use crate::diagrams::{Diagram, Diagrams};
 use crate::machine::Machine;
-use crate::stop::{Stop, index};
+use ps_parts::column::Column;
+use ps_parts::diagrams::{Diagram, Diagrams};
+use ps_parts::stop::{Stop, index};
 use std::alloc::Global;
 
 /// The end of a list.

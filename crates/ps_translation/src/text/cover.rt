@@ -4,8 +4,8 @@
 //! and Irredundant Normal Form Determination", 1970; on diagrams, Minato, "Fast Generation of Irredundant
 //! Sum-of-Products Forms from Binary Decision Diagrams", 1992).
 
-use crate::diagrams::{Diagram, Diagrams, FALSE, PROPOSITIONS, Sides, TRUE, Test};
-use crate::stop::Stop;
+use ps_parts::diagrams::{Diagram, Diagrams, FALSE, PROPOSITIONS, Sides, TRUE, Test};
+use ps_parts::stop::Stop;
 use std::alloc::Global;
 
 /// The most products of a sum.

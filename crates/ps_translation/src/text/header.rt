@@ -1,8 +1,8 @@
 //! The header of an automaton's text.
 
 use crate::parity::Parity;
-use crate::stop::Stop;
 use crate::text::output::Output;
+use ps_parts::stop::Stop;
 use ps_tlsf::{Proposition, Side};
 
 /// The most acceptance sets.

@@ -1,10 +1,10 @@
 //! The labels of edges, as texts.
 
-use crate::diagrams::{Diagram, Diagrams, PROPOSITIONS};
-use crate::stop::Stop;
 use crate::text::cover::{Product, cover};
 use crate::text::output::Output;
 use ps_keys::KeyMap;
+use ps_parts::diagrams::{Diagram, Diagrams, PROPOSITIONS};
+use ps_parts::stop::Stop;
 use std::alloc::Global;
 
 /// Where a label stands.

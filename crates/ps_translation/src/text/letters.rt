@@ -3,9 +3,9 @@
 //! They are found in one pass over the row, from its ends up: a node has the ends of its two sides, and for each of
 //! them the letters of both.
 
-use crate::diagrams::{Diagram, Diagrams, FALSE, PROPOSITIONS, REFUSED, TRUE, Test, View};
-use crate::stop::Stop;
 use ps_keys::KeyMap;
+use ps_parts::diagrams::{Diagram, Diagrams, FALSE, PROPOSITIONS, REFUSED, TRUE, Test, View};
+use ps_parts::stop::Stop;
 use std::alloc::Global;
 
 /// The number of ways at which what is known is forgotten, before the next row.

@@ -1,11 +1,11 @@
 //! The names of states: the formulas that are owed, and behind `given` those that are assumed.
 
-use crate::forms::{FALSE, Form, Forms, Sides, TRUE};
 use crate::owing::{Owing, owing_in, standing};
 use crate::product::Product;
-use crate::progression::Progression;
-use crate::stop::Stop;
 use ps_formula::NormalNode;
+use ps_parts::forms::{FALSE, Form, Forms, Sides, TRUE};
+use ps_parts::progression::Progression;
+use ps_parts::stop::Stop;
 use ps_tlsf::Proposition;
 use std::alloc::Global;
 

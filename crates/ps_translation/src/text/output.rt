@@ -1,6 +1,6 @@
 //! A text that is written.
 
-use crate::stop::Stop;
+use ps_parts::stop::Stop;
 use std::alloc::Global;
 use std::mem;
 

@@ -1,4 +1,0 @@
-use Rattle.ps_translation.proofs.diagrams.Diagrams.+paired_at.Given as goal
-
-abbrev pub decreases-paired_at : goal.decreases-paired_at
-decreases-paired_at l = l.depth

@@ -1,4 +1,0 @@
-use Rattle.ps_translation.proofs.diagrams.Diagrams.+replaced_at.Given as goal
-
-abbrev pub decreases-replaced_at : goal.decreases-replaced_at
-decreases-replaced_at l = l.depth

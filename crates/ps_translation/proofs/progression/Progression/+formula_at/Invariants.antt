@@ -1,4 +1,0 @@
-use Rattle.ps_translation.proofs.progression.Progression.+formula_at.Given as goal
-
-abbrev pub decreases-formula_at : goal.decreases-formula_at
-decreases-formula_at l = l.depth

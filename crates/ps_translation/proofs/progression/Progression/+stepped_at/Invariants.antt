@@ -1,4 +1,0 @@
-use Rattle.ps_translation.proofs.progression.Progression.+stepped_at.Given as goal
-
-abbrev pub decreases-stepped_at : goal.decreases-stepped_at
-decreases-stepped_at l = l.depth
