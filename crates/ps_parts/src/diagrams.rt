@@ -415,6 +415,25 @@ impl Diagrams {
         Err(Stop::Limit)
     }
 
+    /// Whether a diagram is true where, of the first 64 variables, just some are, one bit for each.
+    pub fn is_true_at(&self, diagram: Diagram, truths: u64) -> bool {
+        let mut node = diagram;
+        for _ in 0..=64 {
+            match self.view(node) {
+                View::Leaf(_) => break,
+                View::Test(test) => {
+                    let bit = 1u64.checked_shl(test.variable).unwrap_or(0);
+                    node = if truths & bit == 0 {
+                        test.low
+                    } else {
+                        test.high
+                    };
+                }
+            }
+        }
+        node == TRUE
+    }
+
     /// The row in which each of its ends is replaced by the diagram at the same place of a list; `REFUSED` stays.
     pub fn replaced(
         &mut self,

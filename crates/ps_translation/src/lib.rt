@@ -14,7 +14,7 @@
 //! the alternating cycle decomposition (`cycles`, with `components`, `loops`, `nested`, `turns`) makes the condition a
 //! parity condition (`parity`). States that cannot be told apart are joined (`quotient`, with `classes`, `sources` and
 //! `renumbering`), and named by what they owe (`owing`, `names`). The text (`text`, with `header` and `output`) has
-//! short sums of products as labels (`letters`, `cover`, `labels`).
+//! short sums of products as labels (`cover`, `labels`).
 #![tactic(auto)]
 
 mod components;

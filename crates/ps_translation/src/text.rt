@@ -3,18 +3,17 @@
 pub mod cover;
 pub mod header;
 pub mod labels;
-pub mod letters;
 pub mod names;
 pub mod output;
 
 use crate::parity::Parity;
 use crate::text::header::add_header;
 use crate::text::labels::Labels;
-use crate::text::letters::{Letters, Way};
 use crate::text::names::{leave_out_standing, name_of};
 use crate::text::output::Output;
 use crate::translate::Made;
 use ps_parts::diagrams::{Diagram, Diagrams};
+use ps_parts::letters::{Letters, Way};
 use ps_parts::progression::Progression;
 use ps_parts::stop::{Stop, index};
 use ps_tlsf::Proposition;

@@ -89,7 +89,7 @@ impl Loops {
     fn add_all(&mut self, diagrams: &Diagrams, edges: &[Edge], set: u64) -> Result<(), Stop> {
         for edges in loops_within(self.alloc, edges, set)? {
             let truths = self.wish.safeties | marks_of(&edges);
-            if accepts(diagrams, self.wish.condition, truths) == self.wish.wanted {
+            if diagrams.is_true_at(self.wish.condition, truths) == self.wish.wanted {
                 self.found.push(edges)?;
             } else {
                 self.pending.push(edges)?;
@@ -199,23 +199,4 @@ pub(crate) fn condition_of(machine: &Machine, edges: &[Edge]) -> Diagram {
 /// The marks of some edges.
 pub(crate) fn marks_of(edges: &[Edge]) -> u64 {
     edges.iter().fold(0, |marks, edge| marks | edge.marks)
-}
-
-/// Whether a condition is true where just some variables are.
-pub(crate) fn accepts(diagrams: &Diagrams, condition: Diagram, truths: u64) -> bool {
-    let mut node = condition;
-    for _ in 0..=64 {
-        match diagrams.view(node) {
-            View::Leaf(_) => break,
-            View::Test(test) => {
-                let bit = 1u64.checked_shl(test.variable).unwrap_or(0);
-                node = if truths & bit == 0 {
-                    test.low
-                } else {
-                    test.high
-                };
-            }
-        }
-    }
-    node == TRUE
 }

@@ -3,9 +3,9 @@
 //! They are found in one pass over the row, from its ends up: a node has the ends of its two sides, and for each of
 //! them the letters of both.
 
+use crate::diagrams::{Diagram, Diagrams, FALSE, PROPOSITIONS, REFUSED, TRUE, Test, View};
+use crate::stop::Stop;
 use ps_keys::KeyMap;
-use ps_parts::diagrams::{Diagram, Diagrams, FALSE, PROPOSITIONS, REFUSED, TRUE, Test, View};
-use ps_parts::stop::Stop;
 use std::alloc::Global;
 
 /// The number of ways at which what is known is forgotten, before the next row.
@@ -13,10 +13,10 @@ const WAYS: usize = 1 << 20;
 
 /// An end of a row.
 #[derive(Clone, Copy)]
-pub(crate) struct Way {
-    pub(crate) end: Diagram,
+pub struct Way {
+    pub end: Diagram,
     /// The letters that lead to it.
-    pub(crate) letters: Diagram,
+    pub letters: Diagram,
 }
 
 /// No end.
@@ -31,7 +31,7 @@ struct Span {
 
 /// The ways of the nodes that were met.
 #[derive(Drop)]
-pub(crate) struct Letters {
+pub struct Letters {
     alloc: Global,
     ways: Vec<Way>,
     /// The ways of each node, by the numbers of their ends.
@@ -40,7 +40,7 @@ pub(crate) struct Letters {
 
 impl Letters {
     /// Of no nodes.
-    pub(crate) fn new(alloc: Global) -> Self {
+    pub fn new(alloc: Global) -> Self {
         Letters {
             alloc,
             ways: Vec::new(alloc),
@@ -49,7 +49,7 @@ impl Letters {
     }
 
     /// The ends of a row but for `REFUSED`, with their letters.
-    pub(crate) fn of(&mut self, diagrams: &mut Diagrams, row: Diagram) -> Result<Vec<Way>, Stop> {
+    pub fn of(&mut self, diagrams: &mut Diagrams, row: Diagram) -> Result<Vec<Way>, Stop> {
         if self.ways.len() > WAYS {
             self.ways = Vec::new(self.alloc);
             self.spans = KeyMap::new(self.alloc);
