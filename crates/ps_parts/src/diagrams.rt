@@ -8,6 +8,13 @@
 //!
 //! Each step of an operation is taken from a budget; an operation on diagrams stops where the budget ends.
 
+pub mod narrowing;
+pub mod quantifiers;
+pub mod results;
+pub mod searching;
+pub mod substitution;
+
+use crate::diagrams::results::{Key, Results};
 use crate::met::Met;
 use crate::stop::{Stop, index, number_of};
 use ps_keys::{KeyList, KeyMap};
@@ -34,6 +41,9 @@ const LEAF: u32 = u32::MAX;
 /// The number of steps, in nodes made and results kept.
 const STEPS: u32 = 12_000_000;
 
+/// The most steps, so that the number of a node has less than 32 bits.
+const MOST_STEPS: u32 = 1 << 30;
+
 /// The most nodes of a diagram whose variables are listed.
 const NODES: usize = 65_536;
 
@@ -55,6 +65,13 @@ pub struct Test {
     pub variable: u32,
     pub low: Diagram,
     pub high: Diagram,
+}
+
+/// A variable with a truth.
+#[derive(Clone, Copy)]
+pub struct Literal {
+    pub variable: u32,
+    pub value: bool,
 }
 
 /// The two diagrams of a node at a variable.
@@ -95,6 +112,8 @@ pub struct Diagrams {
     nodes: KeyList<(u32, u32, u32)>,
     /// The results of choices.
     choices: KeyMap<(u32, u32, u32), u32>,
+    /// Results of the other operations on Boolean diagrams.
+    results: Results,
     /// The results of pairings of rows.
     pairings: KeyMap<(u32, u32), u32>,
     /// The pairs of ends that are leaves of paired rows.
@@ -106,18 +125,34 @@ pub struct Diagrams {
 impl Diagrams {
     /// The constant diagrams.
     pub fn new(alloc: Global) -> Result<Self, Stop> {
+        Diagrams::with_steps(alloc, STEPS)
+    }
+
+    /// The constant diagrams, with a number of steps for all operations on them, at most 2^30.
+    pub fn with_steps(alloc: Global, steps: u32) -> Result<Self, Stop> {
         let mut diagrams = Diagrams {
             alloc,
             nodes: KeyList::new(alloc),
             choices: KeyMap::new(alloc),
+            results: Results::new(alloc),
             pairings: KeyMap::new(alloc),
             pairs: KeyList::new(alloc),
-            steps: STEPS,
+            steps: steps.min(MOST_STEPS),
         };
         for number in [0, 1, u32::MAX] {
             diagrams.leaf(number)?;
         }
         Ok(diagrams)
+    }
+
+    /// The number of steps that are left.
+    pub fn steps(&self) -> u32 {
+        self.steps
+    }
+
+    /// The number of nodes.
+    pub fn len(&self) -> usize {
+        self.nodes.len()
     }
 
     /// Takes a step from the budget.
@@ -154,6 +189,16 @@ impl Diagrams {
             low: FALSE,
             high: TRUE,
         })
+    }
+
+    /// The diagram that is true where a literal is.
+    pub fn literal(&mut self, literal: Literal) -> Result<Diagram, Stop> {
+        let truth = self.variable(literal.variable)?;
+        if literal.value {
+            Ok(truth)
+        } else {
+            self.negated(truth)
+        }
     }
 
     /// What a node is.
@@ -293,6 +338,18 @@ impl Diagrams {
     /// The negation.
     pub fn negated(&mut self, diagram: Diagram) -> Result<Diagram, Stop> {
         self.choose(diagram, FALSE, TRUE)
+    }
+
+    /// The diagram that is true where the first is and the second is not.
+    pub fn difference(&mut self, first: Diagram, second: Diagram) -> Result<Diagram, Stop> {
+        self.choose(second, FALSE, first)
+    }
+
+    /// Keeps a result, and returns it.
+    fn keep(&mut self, key: Key, made: Diagram) -> Result<Diagram, Stop> {
+        self.step()?;
+        self.results.put(key, made)?;
+        Ok(made)
     }
 
     /// Whether a row ends at a node.

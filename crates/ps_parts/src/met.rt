@@ -36,6 +36,11 @@ impl Met {
         u32::try_from(*number).ok()
     }
 
+    /// How many numbers were met.
+    pub fn len(&self) -> usize {
+        self.numbers.len()
+    }
+
     /// The numbers, the least first.
     pub fn sorted(&self, alloc: Global) -> Result<Vec<u32>, Stop> {
         let mut sorted = Vec::new(alloc);

@@ -52,8 +52,17 @@ pub struct Progression {
 impl Progression {
     /// Without formulas.
     pub fn new(alloc: Global) -> Result<Self, Stop> {
+        Progression::over(alloc, Diagrams::new(alloc)?)
+    }
+
+    /// Without formulas, with a number of steps.
+    pub fn with_steps(alloc: Global, steps: u32) -> Result<Self, Stop> {
+        Progression::over(alloc, Diagrams::with_steps(alloc, steps)?)
+    }
+
+    /// Without formulas, over diagrams.
+    fn over(alloc: Global, diagrams: Diagrams) -> Result<Self, Stop> {
         let forms = Forms::new(alloc)?;
-        let diagrams = Diagrams::new(alloc)?;
         Ok(Progression {
             alloc,
             forms,
