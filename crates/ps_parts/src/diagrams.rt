@@ -110,9 +110,7 @@ pub struct Diagrams {
     alloc: Global,
     /// The nodes: a variable and two nodes; or `LEAF` and a number, twice.
     nodes: KeyList<(u32, u32, u32)>,
-    /// The results of choices.
-    choices: KeyMap<(u32, u32, u32), u32>,
-    /// Results of the other operations on Boolean diagrams.
+    /// Results of choices, and of the other operations on Boolean diagrams.
     results: Results,
     /// The results of pairings of rows.
     pairings: KeyMap<(u32, u32), u32>,
@@ -133,7 +131,6 @@ impl Diagrams {
         let mut diagrams = Diagrams {
             alloc,
             nodes: KeyList::new(alloc),
-            choices: KeyMap::new(alloc),
             results: Results::new(alloc),
             pairings: KeyMap::new(alloc),
             pairs: KeyList::new(alloc),
@@ -271,11 +268,11 @@ impl Diagrams {
         self.keep_choice(choice, test)
     }
 
-    /// Notes that the result of a choice is a test, and returns it.
+    /// Keeps that the result of a choice is a test, and returns it.
     fn keep_choice(&mut self, choice: Choice, test: Test) -> Result<Diagram, Stop> {
         let made = self.test(test)?;
         let Choice { truth, one, other } = choice;
-        self.choices.put((truth, one, other), made)?;
+        self.results.put((truth, one, other), made)?;
         Ok(made)
     }
 
@@ -316,7 +313,7 @@ impl Diagrams {
         if one == TRUE && other == FALSE {
             return Some(truth);
         }
-        self.choices.get((truth, one, other))
+        self.results.get((truth, one, other))
     }
 
     /// The diagram that is `low` where a variable is false, and `high` where it is true.
