@@ -3,7 +3,7 @@ use Rattle.ps_parts.proofs.split.Split.+function.Given as goal
 
 -- a conjunction is parted at the depth of its operands
 abbrev pub decreases-conjunction : goal.decreases-conjunction
-decreases-conjunction l = 2 * l.depth + 1
+decreases-conjunction g l = 2 * l.depth + 1
 
 abbrev pub decreases-function_at : goal.decreases-function_at
-decreases-function_at l = 2 * l.depth
+decreases-function_at g l = 2 * l.depth

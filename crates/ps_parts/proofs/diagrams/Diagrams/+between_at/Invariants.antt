@@ -1,4 +1,4 @@
-use Rattle.ps_parts.proofs.diagrams.narrowing.Diagrams.+between_at.Given as goal
+use Rattle.ps_parts.proofs.diagrams.Diagrams.+between_at.Given as goal
 
 abbrev pub decreases-between_at : goal.decreases-between_at
 decreases-between_at l = l.depth

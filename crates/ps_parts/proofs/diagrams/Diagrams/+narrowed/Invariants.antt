@@ -1,4 +1,4 @@
-use Rattle.ps_parts.proofs.diagrams.narrowing.Diagrams.+narrowed.Given as goal
+use Rattle.ps_parts.proofs.diagrams.Diagrams.+narrowed.Given as goal
 
 abbrev pub decreases-narrowed : goal.decreases-narrowed
 decreases-narrowed l = l.depth
