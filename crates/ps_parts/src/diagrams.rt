@@ -6,12 +6,13 @@
 //! a diagram above the first variable that is no proposition is the table of what each letter leads to: its row. The
 //! nodes at which a row ends are its ends.
 //!
-//! Each step of an operation is taken from a budget; an operation on diagrams stops where the budget ends.
+//! A variable is also its level: whoever wants another order numbers the variables by it. Each step of an operation is
+//! taken from a budget; an operation on diagrams stops where the budget ends.
 
-pub mod narrowing;
-pub mod quantifiers;
-pub mod results;
-pub mod searching;
+mod narrowing;
+mod quantifiers;
+mod results;
+mod searching;
 pub mod substitution;
 
 use crate::diagrams::results::{Key, Results};
@@ -87,6 +88,18 @@ struct Choice {
     truth: Diagram,
     one: Diagram,
     other: Diagram,
+}
+
+impl Choice {
+    /// The same choice: `truth` is true where it chooses `one`, and false where it chooses `other`.
+    fn simplified(self) -> Self {
+        let Choice { truth, one, other } = self;
+        Choice {
+            truth,
+            one: if one == truth { TRUE } else { one },
+            other: if other == truth { FALSE } else { other },
+        }
+    }
 }
 
 /// The ends of a row, as far as its nodes were met.
@@ -250,6 +263,7 @@ impl Diagrams {
 
     /// The result of a choice, at a depth.
     fn chosen(&mut self, depth: u32, choice: Choice) -> Result<Diagram, Stop> {
+        let choice = choice.simplified();
         if let Some(known) = self.chosen_at_once(choice) {
             return Ok(known);
         }

@@ -10,6 +10,7 @@
 //! | `part` | the deterministic automaton of a part, row by row |
 //! | `progression` | what a formula owes at the next index, once a letter has been read: the states of those automata |
 //! | `diagrams` | decision diagrams, in which both are written, with a budget of steps |
+//! | in `diagrams` | `quantifiers`, `narrowing`, `substitution` with copies, `searching`; `results` that are kept |
 //! | `letters` | the letters that lead to each end of a row |
 //! | `column`, `met` | a number for each index; the numbers that a walk has met |
 #![tactic(auto)]

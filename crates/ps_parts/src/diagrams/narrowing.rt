@@ -9,8 +9,8 @@ use crate::stop::Stop;
 
 impl Diagrams {
     /// The generalised cofactor: at a letter of `care` the given diagram, elsewhere as it is at a letter of `care`
-    /// nearby. So by a conjunction of literals it is the diagram with these truths put in, and some diagrams take at all
-    /// letters just the values together that they take in `care`. If `care` is false, it is the given diagram.
+    /// nearby. So by a conjunction of literals it is the diagram with these truths put in, and some diagrams take at
+    /// all letters just the values together that they take in `care`. If `care` is false, it is the given diagram.
     pub fn constrained(&mut self, diagram: Diagram, care: Diagram) -> Result<Diagram, Stop> {
         self.narrowed(DEPTH, Operation::Constrained, diagram, care)
     }
@@ -50,8 +50,8 @@ impl Diagrams {
         self.choose(made, high, low)
     }
 
-    /// A diagram that is true where `lower` is and only where `upper` is, and that tests few variables: each is left out
-    /// if the bounds allow it, the first one first. `lower` is true only where `upper` is.
+    /// A diagram that is true where `lower` is and only where `upper` is, and that tests few variables: each is left
+    /// out if the bounds allow it, the first one first. `lower` is true only where `upper` is.
     pub fn between(&mut self, lower: Diagram, upper: Diagram) -> Result<Diagram, Stop> {
         self.between_at(DEPTH, lower, upper)
     }

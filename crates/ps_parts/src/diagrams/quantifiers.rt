@@ -1,7 +1,7 @@
 //! What holds for some, or for all, truths of some variables.
 //!
-//! The variables are given as a cube, their conjunction. That of a conjunction is made at once (Burch, Clarke, McMillan,
-//! Dill, Hwang, "Symbolic Model Checking: 10^20 States and Beyond", 1990).
+//! The variables are given as a cube, their conjunction. That of a conjunction is made at once (Burch, Clarke,
+//! McMillan, Dill, Hwang, "Symbolic Model Checking: 10^20 States and Beyond", 1990).
 
 use crate::diagrams::results::{Operation, key_of_both};
 use crate::diagrams::{DEPTH, Diagram, Diagrams, FALSE, Literal, TRUE, Test, View};

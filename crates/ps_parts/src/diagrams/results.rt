@@ -1,7 +1,7 @@
 //! Results that are kept as long as there is room.
 //!
-//! A table has one place for all keys with the same last bits of their hash, and a new result takes the place of the one
-//! that was there. So it stays small, and a look-up is short; what has lost its place is made again.
+//! A table has one place for all keys with the same last bits of their hash, and a new result takes the place of the
+//! one that was there. So it stays small, and a look-up is short; what has lost its place is made again.
 
 use crate::diagrams::Diagram;
 use crate::stop::Stop;

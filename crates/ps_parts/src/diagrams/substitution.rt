@@ -9,8 +9,8 @@ use std::alloc::Global;
 /// What replaces no variable.
 const SAME: u32 = u32::MAX;
 
-/// Diagrams that replace variables, all at once; other variables stay. It notes results, so it serves one store only, and
-/// the diagrams are set before it is applied.
+/// Diagrams that replace variables, all at once; other variables stay. It notes results, so it serves one store only,
+/// and the diagrams are set before it is applied.
 #[derive(Drop)]
 pub struct Substitution {
     made: Column,
@@ -68,8 +68,8 @@ impl Substitution {
     }
 }
 
-/// Copies of diagrams in another store. It notes them, so it serves one pair of stores only, and variables are set before
-/// it copies.
+/// Copies of diagrams in another store. It notes them, so it serves one pair of stores only, and variables are set
+/// before it copies.
 #[derive(Drop)]
 pub struct Transfer {
     variables: Column,
