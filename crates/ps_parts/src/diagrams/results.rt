@@ -22,6 +22,9 @@ pub(crate) type Key = (u32, u32, u32);
 /// The bit that tells a result of `exists_both` from a choice, whose third diagram has a smaller number.
 const OF_BOTH: u32 = 1 << 31;
 
+/// The bits that tell a result of `spares` from those, since no diagram has so great a number.
+const OF_SPARING: u32 = 3 << 30;
+
 /// Operations on two diagrams.
 #[derive(Clone, Copy, PartialEq, Eq)]
 pub(crate) enum Operation {
@@ -30,6 +33,7 @@ pub(crate) enum Operation {
     Constrained,
     Restricted,
     Between,
+    Within,
 }
 
 impl Operation {
@@ -41,6 +45,7 @@ impl Operation {
             Operation::Constrained => 3,
             Operation::Restricted => 4,
             Operation::Between => 5,
+            Operation::Within => 6,
         };
         (first, second, u32::MAX - number)
     }
@@ -49,6 +54,11 @@ impl Operation {
 /// The key of a result of `exists_both`.
 pub(crate) fn key_of_both(cube: Diagram, first: Diagram, second: Diagram) -> Key {
     (first, second, cube | OF_BOTH)
+}
+
+/// The key of a result of `spares`.
+pub(crate) fn key_of_sparing(variable: u32, lower: Diagram, upper: Diagram) -> Key {
+    (lower, upper, variable | OF_SPARING)
 }
 
 /// A place where no result stands.

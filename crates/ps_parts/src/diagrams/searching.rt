@@ -1,6 +1,7 @@
 //! What is asked of a diagram.
 
-use crate::diagrams::{DEPTH, Diagram, Diagrams, FALSE, Literal, View};
+use crate::diagrams::results::{Key, Operation, key_of_sparing};
+use crate::diagrams::{DEPTH, Diagram, Diagrams, FALSE, Literal, TRUE, View};
 use crate::met::Met;
 use crate::stop::Stop;
 
@@ -42,7 +43,77 @@ impl Diagrams {
 
     /// Whether a diagram is true only where another is.
     pub fn is_within(&mut self, first: Diagram, second: Diagram) -> Result<bool, Stop> {
-        Ok(self.difference(first, second)? == FALSE)
+        self.within_at(DEPTH, first, second)
+    }
+
+    /// Like `is_within`, at a depth.
+    fn within_at(&mut self, depth: u32, first: Diagram, second: Diagram) -> Result<bool, Stop> {
+        if let Some(known) = self.within_at_once(first, second) {
+            return Ok(known);
+        }
+        if depth == 0 {
+            return Err(Stop::Limit);
+        }
+        let variable = self.level(first).min(self.level(second));
+        let left = self.sides(first, variable);
+        let right = self.sides(second, variable);
+        let is_within = self.within_at(depth - 1, left.low, right.low)?
+            && self.within_at(depth - 1, left.high, right.high)?;
+        self.keep_truth(Operation::Within.key(first, second), is_within)
+    }
+
+    /// The result of `is_within`, if it is known without looking further down.
+    fn within_at_once(&self, first: Diagram, second: Diagram) -> Option<bool> {
+        if first == FALSE || second == TRUE || first == second {
+            return Some(true);
+        }
+        if first == TRUE || second == FALSE {
+            return Some(false);
+        }
+        let known = self.results.get(Operation::Within.key(first, second))?;
+        Some(known == TRUE)
+    }
+
+    /// Whether some diagram between two bounds does not depend on a variable. The lower bound is true only where the
+    /// upper one is.
+    pub fn spares(&mut self, variable: u32, lower: Diagram, upper: Diagram) -> Result<bool, Stop> {
+        self.spares_at(DEPTH, variable, lower, upper)
+    }
+
+    /// Like `spares`, at a depth.
+    fn spares_at(
+        &mut self,
+        depth: u32,
+        variable: u32,
+        lower: Diagram,
+        upper: Diagram,
+    ) -> Result<bool, Stop> {
+        let first = self.level(lower).min(self.level(upper));
+        if lower == FALSE || upper == TRUE || first > variable {
+            return Ok(true);
+        }
+        let key = key_of_sparing(variable, lower, upper);
+        if let Some(known) = self.results.get(key) {
+            return Ok(known == TRUE);
+        }
+        if depth == 0 {
+            return Err(Stop::Limit);
+        }
+        let least = self.sides(lower, first);
+        let most = self.sides(upper, first);
+        let spares = if first == variable {
+            self.is_within(least.low, most.high)? && self.is_within(least.high, most.low)?
+        } else {
+            self.spares_at(depth - 1, variable, least.low, most.low)?
+                && self.spares_at(depth - 1, variable, least.high, most.high)?
+        };
+        self.keep_truth(key, spares)
+    }
+
+    /// Keeps a truth, and returns it.
+    fn keep_truth(&mut self, key: Key, truth: bool) -> Result<bool, Stop> {
+        self.keep(key, if truth { TRUE } else { FALSE })?;
+        Ok(truth)
     }
 
     /// The variables that a diagram depends on, the least first.
