@@ -43,6 +43,26 @@ def shared(family):
     return made
 
 
+def wires(n):
+    """Outputs that are the inputs."""
+    inputs, outputs = specified.numbered("i", n), specified.numbered("o", n)
+    return inputs, outputs, {"ASSERT": [f"{o} <-> {i}" for i, o in zip(inputs, outputs)]}
+
+
+def latches(n):
+    """Bits that are set and reset."""
+    sets, resets, bits = (specified.numbered(letter, n) for letter in "srb")
+    return sets + resets, bits, {
+        "PRESET": [f"!{b}" for b in bits],
+        "ASSERT": [f"(X {b}) <-> ({s} || ({b} && !{r}))" for s, r, b in zip(sets, resets, bits)],
+    }
+
+
+def shift(n):
+    """An output that is the input so many steps before."""
+    return ["r"], ["g"], {"ASSERT": [f"({'X ' * n}g) <-> r"]}
+
+
 def told(family):
     return lambda n: specified.text(*family(n))
 
@@ -71,6 +91,9 @@ FAMILIES = {
     "door": told(specified.door),
     "gr1": told(shared(specified.gr1)),
     "streett": told(shared(specified.streett)),
+    "wires": told(wires),
+    "latches": told(latches),
+    "shift": told(shift),
     "amba": example("amba", "n"),
     "buffer": example("buffer", "receivers"),
 }
