@@ -18,6 +18,9 @@ use std::alloc::Global;
 /// The most parts.
 const PARTS: usize = 64;
 
+/// The most parts where each operand is one of its own.
+const EACH: usize = 512;
+
 /// The steps of the budget that are spared for other ways, if a formula is to be parted into fewer parts.
 const SPARED: usize = 9_000_000;
 
@@ -52,6 +55,9 @@ pub enum Extent {
     Many,
     /// The same, but parts with the same automaton are one, as `Merging` tells.
     Merged,
+    /// Into a part for each operand of a conjunction, also inside `G`, but that those which depend on finitely many letters
+    /// are one.
+    Each,
 }
 
 impl Extent {
@@ -61,6 +67,7 @@ impl Extent {
             Extent::Few => 4,
             Extent::Some => 12,
             Extent::Many | Extent::Merged => PARTS,
+            Extent::Each => EACH,
         }
     }
 
@@ -159,7 +166,7 @@ impl<M: Merging + Drop> Split<M> {
         let most = if self.steps > 0 {
             self.way.extent.most()
         } else {
-            PARTS
+            self.way.extent.most().max(PARTS)
         };
         let is_long = self.way.extent.is_narrow() && self.steps > most.saturating_mul(2);
         if self.parts.len() > most || is_long {
@@ -187,6 +194,14 @@ impl<M: Merging + Drop> Split<M> {
         }
         if depth == 0 {
             return Err(Stop::Limit);
+        }
+        if self.way.extent == Extent::Each && is_many(world, form) {
+            return self.each(depth - 1, world, form, is_negated);
+        }
+        if self.way.extent == Extent::Each
+            && let Some(inner) = globally_many(world, form)?
+        {
+            return self.globally_each(depth - 1, world, inner, is_negated);
         }
         if let Some(kind) = kind_of(world, form) {
             return self.single(world, kind, form, is_negated);
@@ -221,6 +236,76 @@ impl<M: Merging + Drop> Split<M> {
             made = world.diagrams.both(made, one)?;
         }
         Ok(made)
+    }
+
+    /// Like `function_at`, of a conjunction: its bounded operands are a part, and so are those of the form `G f` where f
+    /// speaks of one letter; each other operand is a part of its own.
+    #[cycle(function)]
+    fn each(
+        &mut self,
+        depth: u32,
+        world: &mut Progression,
+        form: Form,
+        is_negated: bool,
+    ) -> Result<Diagram, Stop> {
+        let mut made = diagrams::TRUE;
+        let mut bounded = TRUE;
+        let mut instant = TRUE;
+        for operand in &world.forms.operands(form)? {
+            if world.forms.class(*operand).is_bounded() {
+                bounded = world.forms.both(bounded, *operand)?;
+            } else if let Some(inner) = globally_instant(world, *operand)? {
+                instant = world.forms.both(instant, inner)?;
+            } else {
+                let one = self.function_at(depth, world, *operand, is_negated)?;
+                made = world.diagrams.both(made, one)?;
+            }
+        }
+        let kept = world.forms.release(FALSE, instant)?;
+        let rest = self.safety(world, kept, is_negated)?;
+        made = world.diagrams.both(made, rest)?;
+        let rest = self.safety(world, bounded, is_negated)?;
+        world.diagrams.both(made, rest)
+    }
+
+    /// Like `function_at`, of `G f` where f is a conjunction: `G` of each operand is a part, but that those which speak of
+    /// one letter are one.
+    #[cycle(function)]
+    fn globally_each(
+        &mut self,
+        depth: u32,
+        world: &mut Progression,
+        inner: Form,
+        is_negated: bool,
+    ) -> Result<Diagram, Stop> {
+        let mut made = diagrams::TRUE;
+        let mut instant = TRUE;
+        for operand in &world.forms.operands(inner)? {
+            if is_instant(&world.forms, *operand)? {
+                instant = world.forms.both(instant, *operand)?;
+            } else {
+                let kept = world.forms.release(FALSE, *operand)?;
+                let one = self.function_at(depth, world, kept, is_negated)?;
+                made = world.diagrams.both(made, one)?;
+            }
+        }
+        let kept = world.forms.release(FALSE, instant)?;
+        let rest = self.safety(world, kept, is_negated)?;
+        world.diagrams.both(made, rest)
+    }
+
+    /// The variable of a part that is a safety.
+    fn safety(
+        &mut self,
+        world: &mut Progression,
+        form: Form,
+        is_negated: bool,
+    ) -> Result<Diagram, Stop> {
+        match form {
+            TRUE => Ok(diagrams::TRUE),
+            FALSE => Ok(diagrams::FALSE),
+            _ => self.single(world, Kind::Safety, form, is_negated),
+        }
     }
 
     /// The diagram of the conjunction of the operands `G F f`, which are one part.
@@ -313,6 +398,51 @@ fn kind_of(world: &Progression, form: Form) -> Option<Kind> {
         return Some(Kind::Recurrence);
     }
     None
+}
+
+/// Whether a formula is a conjunction of which some operand depends on infinitely many letters.
+fn is_many(world: &Progression, form: Form) -> bool {
+    matches!(world.forms.node(form), NormalNode::And(..)) && !world.forms.class(form).is_bounded()
+}
+
+/// The conjunction f if a formula is `G f`, and f is a conjunction that speaks of several letters.
+fn globally_many(world: &Progression, form: Form) -> Result<Option<Form>, Stop> {
+    let Some(inner) = globally(&world.forms, form) else {
+        return Ok(None);
+    };
+    let is_many = matches!(world.forms.node(inner), NormalNode::And(..))
+        && !is_instant(&world.forms, inner)?;
+    Ok(if is_many { Some(inner) } else { None })
+}
+
+/// The formula f if a formula is `G f`, and f speaks of one letter.
+fn globally_instant(world: &Progression, form: Form) -> Result<Option<Form>, Stop> {
+    let Some(inner) = globally(&world.forms, form) else {
+        return Ok(None);
+    };
+    let is_instant = is_instant(&world.forms, inner)?;
+    Ok(if is_instant { Some(inner) } else { None })
+}
+
+/// The formula f if a formula is `G f`.
+fn globally(forms: &Forms, form: Form) -> Option<Form> {
+    match forms.node(form) {
+        NormalNode::Release(FALSE, f) => Some(f),
+        _ => None,
+    }
+}
+
+/// Whether a formula speaks of one letter: it has no temporal operator.
+fn is_instant(forms: &Forms, form: Form) -> Result<bool, Stop> {
+    if !forms.class(form).is_bounded() {
+        return Ok(false);
+    }
+    let below = forms.below(form)?;
+    Ok(
+        !below
+            .iter()
+            .any(|each| matches!(forms.node(*each), NormalNode::Next(_))),
+    )
 }
 
 /// Whether a formula is a conjunction whose operands are parted.
