@@ -24,7 +24,7 @@ pub trait KnownFinders {
 pub struct OwnFinders;
 
 impl KnownFinders for OwnFinders {
-    ghost finders = { finders_of own_solver (replay_of []) (own_proposer 1) own_translator };
+    ghost finders = { finders_of own_solver (replay_of []) (own_proposer 2) own_translator };
 }
 
 /// Whatever is given to the program, an input has at most one answer, but for what commands may choose. `judge` may

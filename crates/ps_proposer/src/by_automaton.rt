@@ -1,4 +1,4 @@
-//! The winner of the game of the translation's automaton.
+//! The winner of an automaton's game.
 
 use crate::arranging::arranged;
 use ps_circuit::Circuit;
@@ -7,7 +7,6 @@ use ps_simulate::Role;
 use ps_specification::{Proposal, order_of};
 use ps_synthesis::{Attempt, Problem, SynthFault, Synthesis, attempted};
 use ps_tlsf::Specification;
-use ps_translation::translated;
 use std::alloc::{AllocError, Global};
 
 /// Who wins, and the winner's circuit.
@@ -17,12 +16,14 @@ struct Won {
     circuit: Circuit,
 }
 
-/// The winner's circuit, or none if the specification has no translation, or the circuit is too large.
-pub fn winner_of_translation(
+/// The circuit of who wins the game of an automaton's text, for a specification; none without a text, or if the circuit
+/// is too large.
+pub fn winner_by_automaton(
     alloc: Global,
     specification: &Specification,
+    text: Option<Vec<u8>>,
 ) -> Result<Option<Proposal>, AllocError> {
-    let Some(hoa) = translated(alloc, specification)? else {
+    let Some(hoa) = text else {
         return Ok(None);
     };
     let won = winner_of(alloc, &hoa, order_of(specification));

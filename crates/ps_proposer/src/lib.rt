@@ -5,12 +5,14 @@
 //!
 //! | Type | What it gives for a specification |
 //! |---|---|
-//! | [`OwnProposer`] | at its one place, the circuit of who wins the game of the translation's automaton |
+//! | [`OwnProposer`] | first the winner's circuit by symbolic synthesis, then that by the translation's automaton |
 //! | [`OwnTranslator`] | the translation's automaton |
 #![tactic(auto)]
 
 mod arranging;
 mod by_automaton;
+mod by_game;
+mod choosing;
 mod proposer;
 mod translator;
 

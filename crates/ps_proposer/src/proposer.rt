@@ -1,12 +1,12 @@
 //! psyn's own proposer.
 
-use crate::by_automaton::winner_of_translation;
+use crate::choosing::{first_proposal, second_proposal};
 use ps_specification::{Proposal, Proposer};
 use ps_tlsf::Specification;
 use std::alloc::{AllocError, Global};
 
 /// How many places it has.
-const PLACES: u32 = 1;
+const PLACES: u32 = 2;
 
 /// psyn's own proposer.
 #[derive(Drop)]
@@ -15,7 +15,7 @@ pub struct OwnProposer;
 impl Proposer for OwnProposer {
     ghost use Rattle.ps_specification.specs.Proposing.{own_proposer};
 
-    ghost known = { λ proposer. own_proposer 1 };
+    ghost known = { λ proposer. own_proposer 2 };
 
     fn most(&self) -> u32 {
         PLACES
@@ -25,8 +25,12 @@ impl Proposer for OwnProposer {
         &self,
         alloc: Global,
         specification: &Specification,
-        _place: u32,
+        place: u32,
     ) -> Result<Option<Proposal>, AllocError> {
-        winner_of_translation(alloc, specification)
+        if place == 0 {
+            first_proposal(alloc, specification)
+        } else {
+            second_proposal(alloc, specification)
+        }
     }
 }

@@ -80,7 +80,8 @@ pub fn judged_by_core(
         formulas: &specification.table,
         root: specification.root,
     };
-    satisfied_by_core(alloc, circuit, sentence, order_of(specification), role, core)
+    let order = order_of(specification);
+    satisfied_by_core(alloc, circuit, sentence, order, role, core)
 }
 
 /// Whether the automaton accepts exactly the lassos that satisfy the specification; if not, a lasso on which they

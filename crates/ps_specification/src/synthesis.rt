@@ -10,7 +10,7 @@ ghost use Rattle.ps_specification.specs.Promises.{IsAnswerTo, KeepsSpecification
 ghost use Rattle.ps_specification.specs.Requirements.{order_in, requirement_of};
 
 use crate::fault::SpecificationFault;
-use crate::judging::judged;
+use crate::judging::judged_by_core;
 use crate::proposing::{Proposal, Proposer};
 use ps_circuit::Circuit;
 use ps_models::laws::judgement_is_one;
@@ -142,7 +142,8 @@ fn wins(
         proposal.now.role (requirement_of (specification_data specification.now)) proposal.now.circuit) }
 {
     judgement_is_one();
-    match judged(alloc, &proposal.circuit, specification, proposal.role) {
+    let core = proposal.core.as_slice();
+    match judged_by_core(alloc, &proposal.circuit, specification, proposal.role, core) {
         Ok(Judgement::Wins) => Ok(true),
         Ok(Judgement::Loses(_)) => Ok(false),
         Err(ProductFault::Symbols) => Ok(false),

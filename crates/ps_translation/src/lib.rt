@@ -4,6 +4,7 @@
 //! |---|---|
 //! | `translated(specification)` | the text of an automaton, in the Hanoi Omega-Automata format, or none |
 //! | `titled(specification, title)` | the same, with a name |
+//! | `translated_within(specification, steps)` | the same as `translated`, within a budget of steps |
 //!
 //! It is proved that the calls are safe and end, and nothing else: that an automaton is right has to be judged. A
 //! translation beyond a budget or a size gives none.
@@ -29,4 +30,4 @@ mod shapes;
 mod text;
 mod translate;
 
-pub use translate::{titled, translated};
+pub use translate::{titled, translated, translated_within};

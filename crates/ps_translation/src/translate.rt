@@ -15,6 +15,9 @@ use ps_parts::stop::Stop;
 use ps_tlsf::Specification;
 use std::alloc::{AllocError, Global};
 
+/// The steps of each way in which the formula is parted.
+const STEPS: u32 = 12_000_000;
+
 /// The text of a deterministic parity automaton in the HOA format that accepts the lassos which satisfy the formula of
 /// a specification; or None, if none is found within a budget of steps. Its propositions are those of the
 /// specification, in their order. That the automaton is right is promised by no clause: whoever needs it has to judge
@@ -26,13 +29,27 @@ pub fn translated(
     titled(alloc, specification, None)
 }
 
+/// Like `translated`, with a budget of so many steps for each way in which the formula is parted.
+pub fn translated_within(
+    alloc: Global,
+    specification: &Specification,
+    steps: u32,
+) -> Result<Option<Vec<u8>>, AllocError> {
+    found(automaton(alloc, specification, None, steps))
+}
+
 /// Like `translated`, with a title, a string with its quotes, as the name of the automaton.
 pub fn titled(
     alloc: Global,
     specification: &Specification,
     title: Option<&[u8]>,
 ) -> Result<Option<Vec<u8>>, AllocError> {
-    match automaton(alloc, specification, title) {
+    found(automaton(alloc, specification, title, STEPS))
+}
+
+/// What was found; None if a limit was passed.
+fn found(text: Result<Vec<u8>, Stop>) -> Result<Option<Vec<u8>>, AllocError> {
+    match text {
         Ok(text) => Ok(Some(text)),
         Err(Stop::Limit) => Ok(None),
         Err(Stop::Memory) => Err(AllocError),
@@ -45,6 +62,7 @@ fn automaton(
     alloc: Global,
     specification: &Specification,
     title: Option<&[u8]>,
+    steps: u32,
 ) -> Result<Vec<u8>, Stop> {
     for (extent, is_negated) in [
         (Extent::Few, false),
@@ -57,7 +75,7 @@ fn automaton(
         (Extent::Merged, true),
     ] {
         let way = Way { is_negated, extent };
-        if let Some(text) = by_way(alloc, specification, title, way)? {
+        if let Some(text) = by_way(alloc, specification, title, way, steps)? {
             return Ok(text);
         }
     }
@@ -70,8 +88,9 @@ fn by_way(
     specification: &Specification,
     title: Option<&[u8]>,
     way: Way,
+    steps: u32,
 ) -> Result<Option<Vec<u8>>, Stop> {
-    let mut world = Progression::new(alloc)?;
+    let mut world = Progression::with_steps(alloc, steps)?;
     let result = written(alloc, &mut world, specification, title, way);
     let is_normalised = world.is_normalised;
     drop(world);

@@ -43,7 +43,7 @@ fn answered<R: Source, W: Sink>(alloc: Global, reader: &mut R, writer: &mut W) -
     ensures consumed { ConsumesAtMost (R.remaining reader.old) (R.remaining reader.new)
         (input_limit + 1) }
     ensures answered { (reply : Reply)
-        × Replies (finders_of own_solver (replay_of []) (own_proposer 1) own_translator) (R.remaining reader.old)
+        × Replies (finders_of own_solver (replay_of []) (own_proposer 2) own_translator) (R.remaining reader.old)
         (R.has_failed reader.new) reply
         × Writes (sink_state W.contents W.has_failed W.has_stalled W.is_flushed writer.old)
         (sink_state W.contents W.has_failed W.has_stalled W.is_flushed writer.new)

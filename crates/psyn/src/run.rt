@@ -36,7 +36,7 @@ pub fn run<R: Source, W: Sink>(
     ensures consumed { ConsumesAtMost (R.remaining reader.old) (R.remaining reader.new)
         (input_limit + 1) }
     ensures answered { (reply : Reply)
-        × Replies (finders_of (known built_in) (known replay) (own_proposer 1) own_translator)
+        × Replies (finders_of (known built_in) (known replay) (own_proposer 2) own_translator)
         (R.remaining reader.old) (R.has_failed reader.new) reply
         × Writes (sink_state W.contents W.has_failed W.has_stalled W.is_flushed writer.old)
         (sink_state W.contents W.has_failed W.has_stalled W.is_flushed writer.new)
