@@ -4,3 +4,4 @@ pub mod Judging
 pub mod Comparing
 pub mod Trying
 pub mod Claims
+pub mod Grouping

@@ -1,7 +1,8 @@
-//! A controller is judged by one sentence of a formula after another, and an environment by the whole formula.
+//! A controller is judged by one sentence of a formula after another, and an environment by the whole formula, or by a
+//! core.
 //!
-//! A sentence is first tried without its antecedents. One joins where the circuit violates it on a counterexample; if it
-//! violates none, the counterexample is one of the whole formula.
+//! A sentence is first tried without its antecedents. Those join that the circuit violates on a counterexample, a few at
+//! a time; if it violates none, the counterexample is one of the whole formula.
 
 ghost use Rattle.std.specs.Prelude.{◌≡◌, ◌<◌, Contains, IfNone, IfOk, IfSome, List, OnOk, length, vec_len};
 ghost use Rattle.ps_formula.specs.Formulas.{Formula, formula_at, implies};
@@ -9,33 +10,41 @@ ghost use Rattle.ps_formula.specs.declared.node.Node.{Node};
 ghost use Rattle.ps_sentences.specs.Sentences.{AreSentencesOf};
 ghost use Rattle.ps_sentences.specs.Tables.{AreIn, IsGrownTable, listed_formulas};
 ghost use Rattle.ps_simulate.specs.declared.role.Role.TheVariants.{Controller, Environment};
-ghost use Rattle.ps_models.specs.Inner.Claims.{HasSentences, HasStimulus, HoldOn, IsKept, sentence_at};
-ghost use Rattle.ps_models.specs.Inner.Claims.{sentences_of};
+ghost use Rattle.ps_models.specs.Inner.Claims.{HasSentences, IsClaim, IsKept, sentence_at, sentences_of};
 ghost use Rattle.ps_models.specs.Inner.Trying.{IsSentenceTrial, IsTrial, IsTrialOf};
 
-use crate::trial::{Trial, first_violated};
+use crate::by_core::{environment_verdict, names_none};
+use crate::by_groups::known_by_groups;
+use crate::claims::longer_claim;
+use crate::trial::Trial;
 use ps_formula::{Formulas, Node};
 use ps_sentences::{Parting, conjunction, parted};
-use ps_simulate::{Role, circuit_has_one_values};
+use ps_simulate::Role;
 use ps_verify::Judgement;
 use std::alloc::AllocError;
 
-/// The verdict by a formula, which for a controller is taken apart into sentences. Fails if out of memory.
+/// The verdict by a formula, which is taken apart into sentences. An environment is judged by the whole formula if the
+/// core names none of them. Fails if out of memory.
 pub(crate) fn verdict_by_sentences(
     trial: Trial,
     formulas: &Formulas,
     root: u32,
+    core: &[u32],
 ) -> Result<Judgement, AllocError>
     requires symbols { IsTrial trial }
     requires root { root < length formulas.now }
     ensures { IfOk result (IsTrialOf trial.entry (formula_at formulas.now root)) }
 {
+    let mut parting = parted(trial.alloc, formulas, root)?;
     match trial.role {
-        Role::Controller => {
-            let mut parting = parted(trial.alloc, formulas, root)?;
-            controller_verdict(trial, &mut parting)
+        Role::Controller => controller_verdict(trial, &mut parting),
+        Role::Environment => {
+            if names_none(core, parting.sentences.len()) {
+                trial.verdict(formulas, root)
+            } else {
+                environment_verdict(trial, &mut parting, core)
+            }
         }
-        Role::Environment => trial.verdict(formulas, root),
     }
 }
 
@@ -46,7 +55,11 @@ fn controller_verdict(trial: Trial, parting: &mut Parting) -> Result<Judgement, 
     requires parting { HasSentences parting.old }
     ensures { (f : Formula) → AreSentencesOf f (sentences_of parting.old) → IfOk result (IsTrialOf trial.entry f) }
 {
+    let known = known_by_groups(trial, parting)?;
     for place in 0..parting.sentences.len() {
+        if known[place] {
+            continue;
+        }
         let judgement = verdict_at(trial, parting, place)?;
         if let Judgement::Loses(_) = judgement {
             return Ok(judgement);
@@ -86,16 +99,68 @@ fn sentence_verdict(
       consequent = formula_at table.old consequent;
     })) }
 {
-    let mut assumed = table.add(Node::Constant(true))?;
-    for _round in 0..antecedents.len() {
-        let judgement = verdict_given(trial, table, assumed, consequent)?;
-        let Some(more) = next_antecedent(trial, table, antecedents, &judgement)? else {
-            return Ok(judgement);
-        };
-        assumed = table.add(Node::And(assumed, more))?;
+    let assumed = table.add(Node::Constant(true))?;
+    let rounds = antecedents.len();
+    let attempt = early_verdict(trial, table, antecedents, assumed, consequent, rounds)?;
+    let Attempt {
+        assumed: _,
+        verdict,
+    } = attempt;
+    if let Some(judgement) = verdict {
+        return Ok(judgement);
     }
     let all = conjunction(table, antecedents)?;
     verdict_given(trial, table, all, consequent)
+}
+
+/// What some antecedents of a sentence tell.
+#[derive(Drop)]
+pub(crate) struct Attempt {
+    /// Their conjunction.
+    pub assumed: u32,
+    /// The verdict by the sentence, if they give it.
+    pub verdict: Option<Judgement>,
+}
+
+/// Tries the antecedents that are assumed, and then more, so many times: those that a counterexample violates join, one
+/// at first, and later as many as have joined before.
+pub(crate) fn early_verdict(
+    trial: Trial,
+    table: &mut Formulas,
+    antecedents: &[u32],
+    mut assumed: u32,
+    consequent: u32,
+    rounds: usize,
+) -> Result<Attempt, AllocError>
+    requires symbols { IsTrial trial }
+    requires role { trial.role ≡ Controller }
+    requires antecedents { AreIn table.old antecedents.now }
+    requires assumed { IsClaim table.old antecedents.now table.old assumed }
+    requires consequent { consequent < length table.old }
+    ensures assumed { IfOk result (λ attempt. IsClaim table.old antecedents.now table.new attempt.assumed) }
+    ensures verdict { IfOk result (λ attempt. IfSome attempt.verdict (IsSentenceTrial trial.entry (record {
+      antecedents = listed_formulas table.old antecedents.now;
+      consequent = formula_at table.old consequent;
+    }))) }
+{
+    let mut most = 1usize;
+    let mut joined = 0usize;
+    for _round in 0..rounds {
+        let judgement = verdict_given(trial, table, assumed, consequent)?;
+        let Some(more) = longer_claim(trial, table, antecedents, assumed, &judgement, most)? else {
+            return Ok(Attempt {
+                assumed,
+                verdict: Some(judgement),
+            });
+        };
+        assumed = more;
+        joined = joined.saturating_add(most);
+        most = joined;
+    }
+    Ok(Attempt {
+        assumed,
+        verdict: None,
+    })
 }
 
 /// The verdict by an implication.
@@ -114,30 +179,4 @@ fn verdict_given(
 {
     let root = table.add(Node::Implies(antecedent, consequent))?;
     trial.verdict(table, root)
-}
-
-/// The first of the formulas that the circuit violates on the stimulus of a judgement; `None` if it violates none, or
-/// if there is no stimulus.
-fn next_antecedent(
-    trial: Trial,
-    table: &Formulas,
-    formulas: &[u32],
-    judgement: &Judgement,
-) -> Result<Option<u32>, AllocError>
-    requires symbols { IsTrial trial }
-    requires there { AreIn table.now formulas.now }
-    requires judgement { HasStimulus trial judgement.now }
-    ensures found { IfOk result (λ found. IfSome found (Contains formulas.now)) }
-    ensures none { IfOk result (λ found. IfNone found
-        (HoldOn trial.entry judgement.now (listed_formulas table.now formulas.now))) }
-{
-    trial.circuit.parts_fit();
-    circuit_has_one_values();
-    match judgement {
-        Judgement::Wins => Ok(None),
-        Judgement::Loses(stimulus) => {
-            let word = trial.word(stimulus)?;
-            first_violated(table, formulas, &word)
-        }
-    }
 }

@@ -2,10 +2,13 @@
 //! an environment does; if not, gives a counterexample.
 //!
 //! A controller's circuit wins if all its lasso traces satisfy the formula, and an environment's circuit wins if none
-//! does. For a controller the formula is taken apart into sentences (`ps_sentences`), by one of which after another the
-//! circuit is judged, on the cone of the outputs that it mentions. The circuit's product with the tableau of a formula
-//! (for a controller, of its negation) has a fair lasso (a walk to a closed walk on which no until is always postponed)
-//! exactly if the circuit loses.
+//! does. The circuit's product with the tableau of a formula (for a controller, of its negation) has a fair lasso (a walk
+//! to a closed walk on which no until is always postponed) exactly if the circuit loses.
+//!
+//! For a controller the formula is taken apart into sentences (`ps_sentences`). Sentences with the same antecedents whose
+//! consequents depend on the same latches are judged together; where that does not show that they are obeyed, each is
+//! judged by itself. Each product is of the cone of the outputs that its formula mentions, and antecedents join as
+//! counterexamples ask for them. For an environment a caller may name a core of sentences, which is judged first.
 //!
 //! An automaton and a formula agree if the automaton accepts exactly the lassos that satisfy the formula. Two products
 //! with the automaton decide that. In the product with the tableau of the negated formula, a fair lasso whose greatest
@@ -16,6 +19,7 @@
 //! | Call | What it gives |
 //! |---|---|
 //! | `satisfied(circuit, sentence, order, role)` | a `Judgement`: the circuit wins, or a stimulus on which it loses |
+//! | `satisfied_by_core(circuit, sentence, order, role, core)` | the same, an environment first by some sentences |
 //! | `agreed(automaton, sentence)` | an `Agreement`: they agree on each lasso, or a lasso on which they differ |
 //! | `laws::judgement_is_one` | a law: a circuit wins exactly if no stimulus shows that it loses |
 //! | `laws::losing_word_is_wrong` | a law: on a stimulus on which a circuit loses, each word of the circuit is wrong |
@@ -31,7 +35,11 @@
 mod agreeing;
 mod agreement;
 pub mod agreement_laws;
+mod by_core;
+mod by_groups;
 mod by_sentences;
+mod claims;
+mod grouping;
 pub mod laws;
 mod satisfying;
 mod sentence;
@@ -40,5 +48,5 @@ mod verdict;
 
 pub use agreeing::agreed;
 pub use agreement::{Agreement, AgreementFault, Lasso};
-pub use satisfying::satisfied;
+pub use satisfying::{satisfied, satisfied_by_core};
 pub use sentence::Sentence;

@@ -53,10 +53,35 @@ pub fn satisfied(
     ensures refused { IfErr result (IsRefusalFor order role (map bytes_of sentence.entry.names.now)
         sentence.entry.controllable.now circuit.now) }
 {
+    satisfied_by_core(alloc, circuit, sentence, order, role, &[])
+}
+
+/// Decides whether the circuit wins, as [`satisfied`] does, but judges an environment first by a *core*, of sentences
+/// that together none of its lasso traces may satisfy. The core names them by their places in the list that
+/// [`parted`](ps_sentences::parted) makes of the formula; places past its end are passed over. If some trace satisfies
+/// the core, the sentences that it violates join one by one. The result is right by the whole formula whatever the core
+/// is. If the core names no sentence, an environment is judged by the whole formula at once; for a controller, the core
+/// is not looked at.
+///
+/// # Errors
+///
+/// Fails as [`satisfied`] does.
+pub fn satisfied_by_core(
+    alloc: Global,
+    circuit: &Circuit,
+    sentence: Sentence,
+    order: Order,
+    role: Role,
+    core: &[u32],
+) -> Result<Judgement, ProductFault>
+    ensures judged { IfOk result (IsJudgementFor order role (named_formula sentence.entry) circuit.now) }
+    ensures refused { IfErr result (IsRefusalFor order role (map bytes_of sentence.entry.names.now)
+        sentence.entry.controllable.now circuit.now) }
+{
     circuit_has_one_values();
     circuit.parts_fit();
     let part = reduced(alloc, circuit)?;
-    satisfied_by_all(alloc, &part, sentence, order, role)
+    satisfied_by_all(alloc, &part, sentence, order, role, core)
 }
 
 /// The judgement on a circuit, all of whose latches an output depends on.
@@ -66,6 +91,7 @@ fn satisfied_by_all(
     sentence: Sentence,
     order: Order,
     role: Role,
+    core: &[u32],
 ) -> Result<Judgement, ProductFault>
     ensures judged { IfOk result (IsJudgementFor order role (named_formula sentence.entry) circuit.now) }
     ensures refused { IfErr result (IsRefusalFor order role (map bytes_of sentence.entry.names.now)
@@ -88,7 +114,7 @@ fn satisfied_by_all(
         roles: &roles,
         role,
     };
-    let judgement = verdict_by_sentences(trial, sentence.formulas, sentence.root)?;
+    let judgement = verdict_by_sentences(trial, sentence.formulas, sentence.root, core)?;
     Ok(judgement)
 }
 

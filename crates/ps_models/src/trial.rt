@@ -1,11 +1,8 @@
 //! A circuit that is tried by one formula after another.
 
-ghost use Rattle.std.specs.Prelude.{◌≤◌, ◌<◌, All, Contains, IfNone, IfOk, IfSome, length, map};
+ghost use Rattle.std.specs.Prelude.{◌≤◌, ◌<◌, IfOk, length, map};
 ghost use Rattle.ps_formula.specs.Formulas.{formula_at};
 ghost use Rattle.ps_hoa.specs.Memory.{bytes_of};
-ghost use Rattle.ps_label.specs.Words.{lasso_word};
-ghost use Rattle.ps_sentences.specs.Sentences.{AllHold};
-ghost use Rattle.ps_sentences.specs.Tables.{AreIn, listed_formulas};
 ghost use Rattle.ps_simulate.specs.LassoFaults.{AreWide};
 ghost use Rattle.ps_simulate.specs.Lassos.{IsWordOf};
 ghost use Rattle.ps_simulate.specs.Symbols.{AreDistinct};
@@ -78,24 +75,4 @@ impl<'a> Trial<'a> {
             Err(LassoFault::Symbols) => unreachable!(),
         }
     }
-}
-
-/// The first of the formulas that the word violates. Fails if out of memory.
-pub(crate) fn first_violated(
-    table: &Formulas,
-    formulas: &[u32],
-    word: &TraceWord,
-) -> Result<Option<u32>, AllocError>
-    requires there { AreIn table.now formulas.now }
-    requires some { 0 < length word.now.lap }
-    ensures found { IfOk result (λ found. IfSome found (Contains formulas.now)) }
-    ensures none { IfOk result (λ found. IfNone found
-        (AllHold (lasso_word word.now.stem word.now.lap) 0 (listed_formulas table.now formulas.now))) }
-{
-    for &formula in formulas {
-        if !table.holds(formula, word.stem(), word.lap())? {
-            return Ok(Some(formula));
-        }
-    }
-    Ok(None)
 }

@@ -1,9 +1,10 @@
 -- Layers distribute over conjunctions, and keep equivalence.
 use Rattle.std.proofs.Common.{◌≡◌, ◌∙◌, ℕ, ◌⊎◌, ◌+◌, inl, inr, List, [], ◌∷◌, ◌++◌, refl, ap, true}
+use Rattle.std.specs.Prelude.{◌↔◌}
 use Rattle.ps_formula.proofs.Dualities.{keeps_like}
 use Rattle.ps_formula.specs.Formulas.{Formula, and_of, constant, formula_at, formula_of, formulas_of, implies}
 use Rattle.ps_formula.specs.Formulas.{weak_until}
-use Rattle.ps_formula.specs.Satisfaction.{Keeps}
+use Rattle.ps_formula.specs.Satisfaction.{Keeps, Satisfies}
 use Rattle.ps_formula.specs.declared.node.Node.{Node}
 use Rattle.ps_sentences.specs.Inner.Layers.{AreLayers, IsLayer, around, node_around, within}
 use Rattle.ps_sentences.specs.Sentences.{IsEquivalent}
@@ -30,27 +31,23 @@ equivalent_is {f} is = rw (← is) (equivalent_refl f)
 
 -- ## One layer
 
--- an operator that does not read the table further
+-- an operator that does not read the table further, along one word
+pub around_along : (nodes : List Node) (layer : Layer) (f g : Formula) (w : ℕ → ℕ) →
+    ((k : ℕ) → (Satisfies f w k) ↔ (Satisfies g w k)) → (i : ℕ) →
+    (Satisfies (around nodes layer f) w i) ↔ (Satisfies (around nodes layer g) w i)
+around_along nodes Next f g w e i = e (i + 1)
+around_along nodes Globally f g w e i =
+    (keeps_like (λ k never. never) (λ k s. (e k).0 s) i, keeps_like (λ k never. never) (λ k s. (e k).1 s) i)
+around_along nodes (Given left) f g w e i = (λ h s. (e i).0 (h s), λ h s. (e i).1 (h s))
+around_along nodes (Unless right) f g w e i = (
+  keeps_like (λ k s. s) (λ k s. elim s [ inl here ↦ inl ((e k).0 here) | inr there ↦ inr there ]) i,
+  keeps_like (λ k s. s) (λ k s. elim s [ inl here ↦ inl ((e k).1 here) | inr there ↦ inr there ]) i,
+)
+
 pub around_like : (nodes : List Node) (layer : Layer) (f g : Formula) → IsEquivalent f g →
     IsEquivalent (around nodes layer f) (around nodes layer g)
-around_like nodes Next f g e = record { each = λ w i decided. e.each w (i + 1) decided }
-around_like nodes Globally f g e = record {
-  each = λ w i decided. (
-    keeps_like (λ k never. never) (λ k s. (e.each w k decided).0 s) i,
-    keeps_like (λ k never. never) (λ k s. (e.each w k decided).1 s) i,
-  );
-}
-around_like nodes (Given left) f g e = record {
-  each = λ w i decided. (
-    λ h s. (e.each w i decided).0 (h s),
-    λ h s. (e.each w i decided).1 (h s),
-  );
-}
-around_like nodes (Unless right) f g e = record {
-  each = λ w i decided. (
-    keeps_like (λ k s. s) (λ k s. elim s [ inl here ↦ inl ((e.each w k decided).0 here) | inr there ↦ inr there ]) i,
-    keeps_like (λ k s. s) (λ k s. elim s [ inl here ↦ inl ((e.each w k decided).1 here) | inr there ↦ inr there ]) i,
-  );
+around_like nodes layer f g e = record {
+  each = λ w i decided. around_along nodes layer f g w (λ k. e.each w k decided) i;
 }
 
 -- what is kept twice
@@ -71,27 +68,26 @@ either_both (inl p, inl q) = inl (p, q)
 either_both (inl p, inr r) = inr r
 either_both (inr r, other) = inr r
 
+pub around_each : (nodes : List Node) (layer : Layer) (f g : Formula) (w : ℕ → ℕ) (i : ℕ) →
+    (Satisfies (around nodes layer (and_of f g)) w i) ↔
+    (Satisfies (around nodes layer f) w i × Satisfies (around nodes layer g) w i)
+around_each nodes Next f g w i = (λ h. h, λ h. h)
+around_each nodes Globally f g w i = (
+  λ h. (keeps_like (λ k never. never) (λ k s. s.0) i h, keeps_like (λ k never. never) (λ k s. s.1) i h),
+  λ h. keeps_both i h.0 h.1,
+)
+around_each nodes (Given left) f g w i = (λ h. (λ s. (h s).0, λ s. (h s).1), λ h s. (h.0 s, h.1 s))
+around_each nodes (Unless right) f g w i = (
+  λ h. (
+    keeps_like (λ k s. s) (λ k s. elim s [ inl both ↦ inl both.0 | inr there ↦ inr there ]) i h,
+    keeps_like (λ k s. s) (λ k s. elim s [ inl both ↦ inl both.1 | inr there ↦ inr there ]) i h,
+  ),
+  λ h. keeps_like (λ k s. s) (λ k s. either_both s) i (keeps_both i h.0 h.1),
+)
+
 pub around_both : (nodes : List Node) (layer : Layer) (f g : Formula) →
     IsEquivalent (around nodes layer (and_of f g)) (and_of (around nodes layer f) (around nodes layer g))
-around_both nodes Next f g = record { each = λ w i decided. (λ h. h, λ h. h) }
-around_both nodes Globally f g = record {
-  each = λ w i decided. (
-    λ h. (keeps_like (λ k never. never) (λ k s. s.0) i h, keeps_like (λ k never. never) (λ k s. s.1) i h),
-    λ h. keeps_both i h.0 h.1,
-  );
-}
-around_both nodes (Given left) f g = record {
-  each = λ w i decided. (λ h. (λ s. (h s).0, λ s. (h s).1), λ h s. (h.0 s, h.1 s));
-}
-around_both nodes (Unless right) f g = record {
-  each = λ w i decided. (
-    λ h. (
-      keeps_like (λ k s. s) (λ k s. elim s [ inl both ↦ inl both.0 | inr there ↦ inr there ]) i h,
-      keeps_like (λ k s. s) (λ k s. elim s [ inl both ↦ inl both.1 | inr there ↦ inr there ]) i h,
-    ),
-    λ h. keeps_like (λ k s. s) (λ k s. either_both s) i (keeps_both i h.0 h.1),
-  );
-}
+around_both nodes layer f g = record { each = λ w i decided. around_each nodes layer f g w i }
 
 pub around_true : (nodes : List Node) (layer : Layer) →
     IsEquivalent (around nodes layer (constant true)) (constant true)

@@ -6,6 +6,6 @@ pub mod SplitLemmas
 pub mod ConjunctLemmas
 pub mod OwingLemmas
 pub mod ListingLemmas
-pub mod ResultLemmas
 pub mod ConjunctionLemmas
+pub mod SharingLemmas
 pub mod MentionLemmas

@@ -2,6 +2,7 @@
 
 pub mod Layers
 pub mod Shapes
+pub mod Sharing
 pub mod Conjuncts
 pub mod Owing
 pub mod Conjoining

@@ -1,7 +1,8 @@
 //! Operators that distribute over `&&`.
 
-ghost use Rattle.std.specs.Prelude.{◌≡◌};
+ghost use Rattle.std.specs.Prelude.{◌≡◌, IfSome};
 ghost use Rattle.ps_sentences.specs.Inner.Layers.{node_around};
+ghost use Rattle.ps_sentences.specs.Inner.Sharing.{IsSharedBy};
 
 use ps_formula::Node;
 
@@ -30,4 +31,36 @@ impl Layer {
             Layer::Unless(g) => Node::WeakUntil(operand, g),
         }
     }
+}
+
+/// A layer with two operands.
+#[derive(Clone, Copy, Debug)]
+pub(crate) struct Shared {
+    pub layer: Layer,
+    pub first: u32,
+    pub second: u32,
+}
+
+/// The layer that two nodes have in common, with their operands.
+pub(crate) fn shared_layer(first: Node, second: Node) -> Option<Shared>
+    ensures { IfSome result (IsSharedBy first second) }
+{
+    match (first, second) {
+        (Node::Next(f), Node::Next(g)) => around_both(Layer::Next, f, g),
+        (Node::Globally(f), Node::Globally(g)) => around_both(Layer::Globally, f, g),
+        (Node::Implies(left, f), Node::Implies(other, g)) if left == other => {
+            around_both(Layer::Given(left), f, g)
+        }
+        _ => None,
+    }
+}
+
+fn around_both(layer: Layer, first: u32, second: u32) -> Option<Shared>
+    ensures { result ≡ Some (record { layer = layer; first = first; second = second }) }
+{
+    Some(Shared {
+        layer,
+        first,
+        second,
+    })
 }

@@ -8,6 +8,7 @@
 //! | `parted(formulas, root)` | a [`Parting`]: sentences whose conjunction is the formula |
 //! | `implications(table, lists, sentences)` | the sentences as formulas |
 //! | `conjunction(table, formulas)` | the conjunction of formulas |
+//! | `merged(table, formulas)` | the same, within operators that neighbours have in common |
 //! | `mentioned(formulas, root)` | the propositions that a formula mentions, as a letter |
 //! | `truth_depends_on_mentions` | a law: a formula's truth depends on the propositions that it mentions alone |
 //!
@@ -26,6 +27,6 @@ mod parting;
 mod shapes;
 mod splitting;
 
-pub use joining::{conjunction, implications};
+pub use joining::{conjunction, implications, merged};
 pub use mentions::{mentioned, truth_depends_on_mentions};
 pub use parting::{Parting, Sentence, parted};

@@ -16,7 +16,7 @@ ghost use Rattle.ps_specification.specs.Requirements.{order_in, requirement_of};
 use ps_automaton::Automaton;
 use ps_circuit::Circuit;
 use ps_machine::Order;
-use ps_models::{Agreement, AgreementFault, Sentence, agreed, satisfied};
+use ps_models::{Agreement, AgreementFault, Sentence, agreed, satisfied_by_core};
 use ps_product::ProductFault;
 use ps_simulate::Role;
 use ps_tlsf::{Specification, names_of, outputs_of};
@@ -50,6 +50,28 @@ pub fn judged(
         (names_in (map name_data specification.now.propositions.items))
         (outputs_in (map name_data specification.now.propositions.items)) circuit.now) }
 {
+    judged_by_core(alloc, circuit, specification, role, &[])
+}
+
+/// Decides whether the circuit wins, as [`judged`] does, but judges an environment first by a *core*: some sentences of
+/// the specification that together none of its lasso traces may satisfy. The core names them by their places in the
+/// list that [`parted`](ps_sentences::parted) makes of the specification's formula, its `table` and `root`; places past
+/// the end of the list are passed over. The core can make the call slow, but not wrong. Fails as [`judged`] does.
+pub fn judged_by_core(
+    alloc: Global,
+    circuit: &Circuit,
+    specification: &Specification,
+    role: Role,
+    core: &[u32],
+) -> Result<Judgement, ProductFault>
+    requires roots { HasRoots specification.now }
+    requires distinct { AreDistinct (names_in (map name_data specification.now.propositions.items)) }
+    ensures judged { IfOk result (IsJudgementFor (order_in (specification_data specification.now)) role
+        (requirement_of (specification_data specification.now)) circuit.now) }
+    ensures refused { IfErr result (IsRefusalFor (order_in (specification_data specification.now)) role
+        (names_in (map name_data specification.now.propositions.items))
+        (outputs_in (map name_data specification.now.propositions.items)) circuit.now) }
+{
     let names = names_of(alloc, &specification.propositions)?;
     let outputs = outputs_of(alloc, &specification.propositions)?;
     let sentence = Sentence {
@@ -58,7 +80,7 @@ pub fn judged(
         formulas: &specification.table,
         root: specification.root,
     };
-    satisfied(alloc, circuit, sentence, order_of(specification), role)
+    satisfied_by_core(alloc, circuit, sentence, order_of(specification), role, core)
 }
 
 /// Whether the automaton accepts exactly the lassos that satisfy the specification; if not, a lasso on which they

@@ -10,6 +10,7 @@
 //! | `translate_specification(text, translator)` | the HOA text of an automaton that agrees |
 //! | `compared(automaton, specification)` | an `Agreement`: they agree, or a word on which they differ |
 //! | `judged(circuit, specification, role)` | a `Judgement`: the circuit wins, or a stimulus on which it loses |
+//! | `judged_by_core(circuit, specification, role, core)` | the same, an environment first by some sentences |
 //! | `shrunk_for(circuit, specification, role, steps)` | a `Reduction`: a circuit that wins, or a losing stimulus |
 //! | `order_of(specification)` | who moves first |
 //! | [`Translator`], `OwnTranslator` | what translates specifications to automata (a trait); psyn's own |
@@ -26,7 +27,7 @@ mod translating;
 mod translator;
 
 pub use fault::SpecificationFault;
-pub use judging::{compared, judged, order_of};
+pub use judging::{compared, judged, judged_by_core, order_of};
 pub use laws::no_specification_has_both;
 pub use shrinking::shrunk_for;
 pub use synthesis::{Winner, synthesise_specification};

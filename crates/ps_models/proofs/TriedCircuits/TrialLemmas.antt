@@ -4,13 +4,16 @@ use Rattle.std.specs.Prelude.{IfNone}
 use Rattle.ps_circuit.specs.Circuits.{IsCircuit}
 use Rattle.ps_circuit.specs.Values.{HasOneValues}
 use Rattle.ps_formula.proofs.LassoTruths.{lasso_is_decided}
-use Rattle.ps_formula.specs.Formulas.{Formula, implies}
+use Rattle.ps_formula.specs.Formulas.{Formula, formula_at, implies}
 use Rattle.ps_formula.specs.Satisfaction.{Satisfies}
+use Rattle.ps_formula.specs.declared.node.Node.{Node}
 use Rattle.ps_label.specs.Words.{lasso_word}
 use Rattle.ps_sentences.proofs.OwingLemmas.{sentence_still, sentences_still}
-use Rattle.ps_sentences.proofs.GrownLemmas.{all_at, all_over, grown_refl, grown_trans, mapped_at, mapped_from}
+use Rattle.ps_sentences.proofs.GrownLemmas.{all_at, all_over, formula_kept, formulas_kept, grown_refl, grown_trans}
+use Rattle.ps_sentences.proofs.GrownLemmas.{mapped_at, mapped_from}
 use Rattle.ps_sentences.specs.Partings.{IsSentenceIn, lists_of, sentence_of}
 use Rattle.ps_sentences.specs.Sentences.{AllHold, AreSentencesOf, IsObeyed, SentenceData}
+use Rattle.ps_sentences.specs.Tables.{AreIn, IsGrownTable, listed_formulas}
 use Rattle.ps_sentences.specs.declared.parting.Parting.{Parting}
 use Rattle.ps_sentences.specs.declared.parting.Sentence.{Sentence}
 use Rattle.ps_simulate.specs.Lassos.{IsWordOf}
@@ -150,3 +153,13 @@ pub sentence_trial_at : (t : Trial) {s other : SentenceData} {judgement told : J
 sentence_trial_at t {s} {other} {judgement} {told} same too is =
     subst (λ (x : SentenceData). IsSentenceTrial t x told) same
     (subst (λ (j : Judgement). IsSentenceTrial t s j) too is)
+
+abbrev pub sentence_on : List Node → List ℕ → ℕ → SentenceData
+sentence_on nodes ks k = record { antecedents = listed_formulas nodes ks; consequent = formula_at nodes k }
+
+-- a sentence's formulas stay while the table grows
+pub kept_sentence : {old new : List Node} → IsGrownTable old new → (ks : List ℕ) (k : ℕ) → AreIn old ks →
+    k < length old →
+    sentence_on new ks k ≡ sentence_on old ks k
+kept_sentence grows ks k there low =
+    λ i. record { antecedents = formulas_kept grows ks there i; consequent = formula_kept grows k low i }

@@ -4,8 +4,11 @@
 -- - `IsKept p q`: the table grows, and the sentences stay
 -- - `HasStimulus t judgement`: the stimulus, if there is one, can be read by the circuit
 -- - `HoldOn t judgement fs`: the formulas hold on each word of the circuit on the judgement's stimulus
+-- - `NoneHolds w i fs`: the word satisfies none of the formulas at the index
+-- - `AreAmong goals named`: the named formulas are among the goals
 -- - `IsClaim nodes goals new claim`: a formula of the grown table holds where the goals hold
 use Rattle.std.specs.Prelude.{◌≡◌, ◌<◌, ℕ, Bool, List, length, map, slice_index_or}
+use Rattle.std.specs.List.{AllByRecursion, Contains}
 use Rattle.ps_formula.specs.Formulas.{Formula, formula_at}
 use Rattle.ps_formula.specs.Satisfaction.{Satisfies}
 use Rattle.ps_formula.specs.declared.node.Node.{Node}
@@ -51,6 +54,12 @@ abbrev pub HoldOn : Trial → Judgement → List Formula → Type 0
 HoldOn t Wins fs = Unit {0}
 HoldOn t (Loses stimulus) fs =
     (stem lap : List ℕ) → IsWordOn (names_in t) t.circuit.now stimulus stem lap → AllHold (lasso_word stem lap) 0 fs
+
+abbrev pub NoneHolds : (w : ℕ → ℕ) → (i : ℕ) → List Formula → Type 0
+NoneHolds w i fs = AllByRecursion (λ f. ¬ Satisfies f w i) fs
+
+abbrev pub AreAmong : (goals named : List ℕ) → Type 0
+AreAmong goals named = AllByRecursion (Contains goals) named
 
 pub record IsClaim (nodes : List Node) (goals : List ℕ) (new : List Node) (claim : ℕ) : Type 0 where
   pub grows : IsGrownTable nodes new

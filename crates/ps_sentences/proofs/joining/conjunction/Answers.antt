@@ -1,7 +1,8 @@
 use Rattle.std.proofs.Common.{sym, take}
 use Rattle.std.proofs.lemmas.List.{take_more}
 use Rattle.ps_sentences.proofs.ConjunctionLemmas.{joined_at, joined_more, joined_none}
-use Rattle.ps_sentences.proofs.GrownLemmas.{all_at}
+use Rattle.ps_sentences.proofs.GrownLemmas.{all_at, still_in}
+use Rattle.ps_sentences.proofs.SharingLemmas.{joined_two}
 use Rattle.ps_sentences.proofs.joining.conjunction.Goals as goal
 
 pub loop-formula-init : goal.loop-formula-init
@@ -11,6 +12,8 @@ pub loop-formula-preserved : goal.loop-formula-preserved
 loop-formula-preserved c =
     let formulas = c.args.formulas.now in
     let k = c.loop-formula.formula-index in
+    let inv = c.loop-formula.invariant in
     let low = all_at _ formulas k 0 c.requires c.loop-formula-test.true in
     joined_at (sym (take_more formulas k 0 c.loop-formula-test.true))
-    (joined_more (take k formulas) c.loop-formula.invariant low c.in_ok-all-2.ensures.ok c.in_ok-all-2.ensures.table)
+    (joined_more (take k formulas) inv low
+    (joined_two inv.there (still_in inv.grows _ low) c.in_ok-all-2.ensures.ok c.in_ok-all-2.ensures.table))

@@ -1,11 +1,11 @@
 use Rattle.std.proofs.Common.{◌++◌, ◌∙◌, ◌≡◌, ap, append-nil, map, refl}
+use Rattle.std.proofs.lemmas.Result.{on_ok_weaker}
 use Rattle.ps_sentences.proofs.OwingLemmas.{only_grows, parts_replace, replaced, takes_rest}
-use Rattle.ps_sentences.proofs.ResultLemmas.{on_ok}
 use Rattle.ps_sentences.specs.Inner.Owing.{sentence_with}
 use Rattle.ps_sentences.proofs.parting.Parting.conclude.Goals as goal
 
 pub returns-clause-apart : goal.returns-clause-apart
-returns-clause-apart c = on_ok c.add_each.result c.add_each.ensures (λ more pending.
+returns-clause-apart c = on_ok_weaker c.add_each.result (λ more pending.
     let parts = c.in_ok-parts.parts.items in
     let are = c.in_ok-parts.ensures.conjuncts in
     let all : c.add_each.new.sentences.items ≡
@@ -15,3 +15,4 @@ returns-clause-apart c = on_ok c.add_each.result c.add_each.ensures (λ more pen
     takes_rest (append-nil pending)
     (replaced (parts_replace (only_grows are.grows refl) c.args.sentence c.requires parts are.there all are.is)
     pending))
+    c.add_each.ensures

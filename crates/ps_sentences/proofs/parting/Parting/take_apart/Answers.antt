@@ -1,8 +1,8 @@
 use Rattle.std.proofs.Common.{◌∙◌, ap, append-nil, refl, sym}
+use Rattle.std.proofs.lemmas.Result.{on_ok_weaker}
 use Rattle.ps_sentences.proofs.ListingLemmas.{list_replaces}
 use Rattle.ps_sentences.proofs.OwingLemmas.{both_replaces, only_grows, replaced, takes_rest, takes_through}
 use Rattle.ps_sentences.proofs.OwingLemmas.{true_replaces}
-use Rattle.ps_sentences.proofs.ResultLemmas.{on_ok}
 use Rattle.ps_sentences.proofs.SplitLemmas.{shape_at}
 use Rattle.ps_sentences.specs.declared.layers.Layer.{Layer}
 use Rattle.ps_sentences.specs.declared.shapes.Shape.TheVariants.{Within}
@@ -16,10 +16,11 @@ returns-in-True-clause-apart c =
     c.args.pending.now.items)
 
 pub returns-in-Both-clause-apart : goal.returns-in-Both-clause-apart
-returns-in-Both-clause-apart c = on_ok c.add_both.result c.add_both.ensures (λ all.
+returns-in-Both-clause-apart c = on_ok_weaker c.add_both.result (λ all.
     let shape = shape_at c.in-Both.is c.in_ok-next_shape.ensures.shape in
     takes_rest (sym all) (replaced (both_replaces (only_grows shape.grows refl) c.args.sentence c.requires c.in-Both.f
     c.in-Both.g shape.has.0 shape.has.1 refl shape.has.2) c.args.pending.now.items))
+    c.add_both.ensures
 
 pub returns-in_ok-push-in-Some-clause-apart : goal.returns-in_ok-push-in-Some-clause-apart
 returns-in_ok-push-in-Some-clause-apart c =
@@ -32,7 +33,7 @@ returns-in_ok-push-in-Some-clause-apart c =
     c.args.pending.now.items)
 
 pub returns-in-None-clause-apart : goal.returns-in-None-clause-apart
-returns-in-None-clause-apart c = on_ok c.conclude.result c.conclude.ensures.apart (λ takes.
+returns-in-None-clause-apart c = on_ok_weaker c.conclude.result (λ takes.
     let added = rw c.in-None.is at c.in_ok-list-in-Within-Given-default.ensures.list in
     let shape = c.in_ok-next_shape.ensures.shape in
     takes_through {mid = record {
@@ -41,8 +42,10 @@ returns-in-None-clause-apart c = on_ok c.conclude.result c.conclude.ensures.apar
       sentences = c.args.self.now.sentences;
     }} _ c.args.pending.now.items shape.grows refl refl (takes_through _ c.args.pending.now.items added.0.grows added.1
     added.0.sentences (takes c.args.pending.now.items)))
+    c.conclude.ensures.apart
 
 pub returns-in-Within-clause-apart : goal.returns-in-Within-clause-apart
-returns-in-Within-clause-apart c = on_ok c.conclude-in-Within.result c.conclude-in-Within.ensures.apart (λ takes.
+returns-in-Within-clause-apart c = on_ok_weaker c.conclude-in-Within.result (λ takes.
     takes_through _ c.args.pending.now.items c.in_ok-next_shape.ensures.shape.grows refl refl
     (takes c.args.pending.now.items))
+    c.conclude-in-Within.ensures.apart

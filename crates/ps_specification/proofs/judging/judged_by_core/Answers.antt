@@ -4,7 +4,7 @@ use Rattle.ps_hoa.specs.Memory.{bytes_of}
 use Rattle.ps_simulate.specs.Symbols.{AreDistinct}
 use Rattle.ps_tlsf.specs.NameViews.{name_data}
 use Rattle.ps_tlsf.specs.Names.{Name, names_in}
-use Rattle.ps_specification.proofs.judging.judged.Goals as goal
+use Rattle.ps_specification.proofs.judging.judged_by_core.Goals as goal
 
 pub invariant_of-sentence-clause-few : goal.invariant_of-sentence-clause-few
 invariant_of-sentence-clause-few c =

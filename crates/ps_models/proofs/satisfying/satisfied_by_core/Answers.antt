@@ -2,7 +2,7 @@ use Rattle.ps_product.proofs.CircuitFunctions.GroupLemmas.{ok_map}
 use Rattle.ps_verify.proofs.PartJudgements.{err_map, refused_alike}
 use Rattle.ps_models.specs.Sentences.{named_formula}
 use Rattle.ps_models.proofs.JudgedCircuits.PartSentences.{sentence_judged_alike}
-use Rattle.ps_models.proofs.satisfying.satisfied.Goals as goal
+use Rattle.ps_models.proofs.satisfying.satisfied_by_core.Goals as goal
 
 pub returns-clause-judged : goal.returns-clause-judged
 returns-clause-judged c =

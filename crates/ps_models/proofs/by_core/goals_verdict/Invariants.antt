@@ -1,0 +1,6 @@
+use Rattle.std.proofs.Common.{◌<◌}
+use Rattle.ps_models.specs.Inner.Claims.{IsClaim}
+use Rattle.ps_models.proofs.by_core.goals_verdict.Given as goal
+
+abbrev pub invariant-loop-round : goal.invariant-loop-round
+invariant-loop-round l = record { claim : IsClaim l.fn.table l.goals l.table l.claim; some : 0 < l.most }
