@@ -11,7 +11,7 @@ use ps_translation::{translated, translated_within};
 use std::alloc::{AllocError, Global};
 
 /// How many latches are few.
-const FEW: usize = 8;
+const FEW: usize = 10;
 
 /// The steps of a translation that is asked for fewer latches: a twentieth of all.
 const STEPS: u32 = 600_000;
