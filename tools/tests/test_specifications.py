@@ -152,7 +152,8 @@ class Specifications(OnFiles):
             ):
                 with self.subTest(words):
                     done = self.tool(*words, given=b"// A comment." + b"\n" * 3000 + HEAD + MAIN)
-                    self.assertEqual((done.stdout.splitlines()[0], done.stderr), (said, b""))
+                    remark = b"in this controller some outputs never change: g is 1\n" if "synth" in words else b""
+                    self.assertEqual((done.stdout.splitlines()[0], done.stderr), (said, remark))
         self.file("automaton.tlsf", AUTOMATON)
         self.assertEqual(self.tool("verify", "automaton.tlsf", "grant.aag").stdout, b"wins\n")
 
