@@ -29,8 +29,8 @@ use Rattle.ps_program.specs.Commands.TranslationTexts.{AnswersTranslate}
 use Rattle.ps_program.specs.Commands.Verifying.{AnswersVerify}
 use Rattle.ps_program.specs.Commands.VerifyingTlsf.{AnswersVerifyTlsf}
 
--- the answer to a command line and the texts after it; if the command uses a solver, the proposer or the translator, the
--- answer depends on what is known about it
+-- the answer to a command line and the texts after it; if the command uses a solver, the proposer or the translator,
+-- the answer depends on what is known about it
 abbrev pub AnswersLine : Finders → Line → List ℕ → Result Reply (List ℕ) → Type 0
 AnswersLine finders Refused texts outcome = outcome ≡ Ok usage
 AnswersLine finders Help texts outcome = outcome ≡ Ok help
@@ -48,7 +48,8 @@ AnswersLine finders Agree texts outcome = AnswersAgree texts outcome
 AnswersLine finders Translate text outcome = AnswersTranslate finders.translator text outcome
 AnswersLine finders (Solve compact) texts outcome = AnswersSolve finders.solvers.built_in compact texts outcome
 AnswersLine finders (Game order) texts outcome = AnswersGameText order texts outcome
-AnswersLine finders (Cert order compact) texts outcome = AnswersCert finders.solvers.built_in order compact texts outcome
+AnswersLine finders (Cert order compact) texts outcome =
+    AnswersCert finders.solvers.built_in order compact texts outcome
 AnswersLine finders (Synth asked) texts outcome = AnswersSynth finders.solvers asked texts outcome
 AnswersLine finders SynthTlsf text outcome = AnswersSynthTlsf finders.proposer text outcome
 

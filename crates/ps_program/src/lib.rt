@@ -7,7 +7,7 @@
 //! | `send(sink, text)` | writes a text and flushes, or a `WriteFault` |
 //! | `Watched::new` | a [`Source`] or a [`Sink`] of std |
 //! | `first_line`, `read_line` | an input, cut after its first line; what this asks for, as a [`Line`] |
-//! | `answer_to(input, built_in, replay, proposer, translator)` | the [`Answer`] to an input: what is written, and the exit status |
+//! | `answer_to(input, built_in, replay, proposer, translator)` | the [`Answer`] to an input, and the exit status |
 //! | `closed`, `check`, `judge`, `sim`, `lasso`, `verify`, `shrink`, `game` | answers without a solver |
 //! | `lasso_tlsf`, `verify_tlsf`, `shrink_tlsf`, `agree` | answers about a specification |
 //! | `synth_tlsf`, `translate` | answers by a proposer, or by a translator |

@@ -5,7 +5,7 @@
 //!
 //! | Type | What it gives for a specification |
 //! |---|---|
-//! | [`OwnProposer`] | at its one place, the circuit of who wins the game of the translation's automaton, if there is one |
+//! | [`OwnProposer`] | at its one place, the circuit of who wins the game of the translation's automaton |
 //! | [`OwnTranslator`] | the translation's automaton |
 #![tactic(auto)]
 

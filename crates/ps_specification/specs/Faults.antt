@@ -2,8 +2,8 @@
 -- - `IsProposalFault proposer spec fault`: the reason for this fault, once the specification was parsed
 -- - `IsSpecificationFault proposer text fault`: the reason for which a text gets this fault instead of a circuit; none
 --   is stated for `OutOfMemory`
--- - `fault_of_text fault`, `fault_of_synthesis fault`: how a fault of a specification's text, or of an automaton's text,
---   is told
+-- - `fault_of_text fault`, `fault_of_synthesis fault`: how a fault of a specification's text, or of an automaton's
+--   text, is told
 use Rattle.std.specs.Prelude.{◌≡◌, ⊤, ℕ, List, Ok, Err}
 use Rattle.ps_hoa.specs.declared.fault.HoaCause.{HoaCause}
 use Rattle.ps_hoa.specs.declared.fault.HoaCause.TheVariants as causes

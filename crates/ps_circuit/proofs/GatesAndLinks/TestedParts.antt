@@ -1,6 +1,8 @@
 -- The tests of a circuit's parts succeed if and only if the parts meet the conditions.
-use Rattle.std.proofs.Common.{◌≡◌, ◌≢◌, ◌==◌, ◌^◌, ℕ, ◌+◌, ◌<◌, Bool, true, false, not, ◌&&◌, ◌||◌, List, [], ◌∷◌, ◌++◌, map, length, take}
-use Rattle.std.proofs.Common.{get_or, refl, sym, ◌∙◌, subst, arith, rules, All, AllPairs, Contains, Option, None, Some, Vec, ap, ap₂, inl, inr}
+use Rattle.std.proofs.Common.{◌≡◌, ◌≢◌, ◌==◌, ◌^◌, ℕ, ◌+◌, ◌<◌, Bool, true, false, not, ◌&&◌, ◌||◌, List, [], ◌∷◌, ◌++◌}
+use Rattle.std.proofs.Common.{map, length, take}
+use Rattle.std.proofs.Common.{get_or, refl, sym, ◌∙◌, subst, arith, rules, All, AllPairs, Contains, Option, None, Some}
+use Rattle.std.proofs.Common.{Vec, ap, ap₂, inl, inr}
 use Rattle.std.specs.List.{flat_map, list_all, list_any}
 use Rattle.std.specs.Cmp.Derive.{both_true}
 use Rattle.std.proofs.lemmas.Bool.{and_parts, eqb-true, eq-eqb, not-true}
@@ -94,7 +96,8 @@ record AreNamesFor (count : ℕ) (names : List (Option (List ℕ))) : Type 0 whe
 names-true : (count : ℕ) (names : List (Option (List ℕ))) → are_names_for count names ≡ true → AreNamesFor count names
 names-true count names e = record {
   each = eqb-true (length names) count (and_parts _ _ e).0;
-  valid = λ k d lt. name-true (get_or names k d) (AllPass-from_list_all is_symbol_name names (and_parts _ _ e).1 k d lt);
+  valid =
+      λ k d lt. name-true (get_or names k d) (AllPass-from_list_all is_symbol_name names (and_parts _ _ e).1 k d lt);
 }
 
 names-test : (count : ℕ) (names : List (Option (List ℕ))) → length names ≡ count → All IsSymbolName names →

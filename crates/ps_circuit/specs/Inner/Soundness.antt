@@ -3,7 +3,8 @@
 -- - `is_known variables literal`, `are_known variables c`: tests of a used literal, and of each
 -- - `is_symbol_name name`, `are_names_for count names`, `are_named c`: tests of an optional name, of the names of
 --   `count` inputs, latches or outputs, and of all names
-use Rattle.std.specs.Prelude.{◌≢◌, ℕ, ◌==◌, ◌||◌, ◌&&◌, not, Bool, true, List, length, All, AllPairs, Option, None, Some}
+use Rattle.std.specs.Prelude.{◌≢◌, ℕ, ◌==◌, ◌||◌, ◌&&◌, not, Bool, true, List, length, All, AllPairs, Option, None}
+use Rattle.std.specs.Prelude.{Some}
 use Rattle.std.specs.List.{list_all, list_any}
 use Rattle.ps_circuit.specs.Circuits.{CircuitData, IsDefinition}
 use Rattle.ps_circuit.specs.Literals.{variable}

@@ -91,7 +91,8 @@ module _ (below : Below) where
   solved_line finders may (line.ShrinkTlsf role) texts solved = absurd solved
   solved_line finders may line.Agree texts solved = absurd solved
   solved_line finders may line.Translate texts solved = absurd solved
-  solved_line finders may (line.Solve compact) texts solved = solve_some below finders.solvers.built_in compact texts may
+  solved_line finders may (line.Solve compact) texts solved =
+      solve_some below finders.solvers.built_in compact texts may
   solved_line finders may (line.Game order) texts solved = absurd solved
   solved_line finders may (line.Cert order compact) texts solved =
       cert_some below finders.solvers.built_in order compact texts may

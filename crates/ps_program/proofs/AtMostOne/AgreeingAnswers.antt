@@ -329,7 +329,8 @@ module _ (games : OneGame) (certificates : OneCertificate) (flaws : OneFlaw) (ci
   line_one finders line.Translate text x y h k = translate_one_or finders.translator text x y h k
   line_one finders (line.Solve compact) texts x y h k = solve_one_or finders.solvers.built_in compact texts x y h k
   line_one finders (line.Game order) texts x y h k = inl (game_one order texts x y h k)
-  line_one finders (line.Cert order compact) texts x y h k = cert_one_or finders.solvers.built_in order compact texts x y h k
+  line_one finders (line.Cert order compact) texts x y h k =
+      cert_one_or finders.solvers.built_in order compact texts x y h k
   line_one finders (line.Synth asked) texts x y h k = synth_one_or finders.solvers asked texts asked.cert x y h k
   line_one finders line.SynthTlsf text x y h k =
       synth_tlsf_one_or not_both_players text finders.proposer x y h k

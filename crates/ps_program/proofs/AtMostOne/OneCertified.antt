@@ -249,7 +249,8 @@ module _ (files : OneFile) (refusals : OneRefusal) (outcomes : OneOutcome) (game
   synth_one : (texts : List ℕ) → IsOne (AnswersSynth finders.solvers asked texts)
   synth_one texts x y h k = then_one (CutsInTwo texts) (λ (parts : List ℕ × List ℕ). AnswersReport
       (once_fed parts.1 finders.solvers.replay) asked parts.0) (cut_one texts) (λ parts. search (rules, report_one)) x y
-      (subst (λ b. AnswersBy b finders.solvers asked texts x) cert h) (subst (λ b. AnswersBy b finders.solvers asked texts y) cert k)
+      (subst (λ b. AnswersBy b finders.solvers asked texts x) cert h)
+      (subst (λ b. AnswersBy b finders.solvers asked texts y) cert k)
 
   outcome_of : (input : List ℕ) → IsLine (first_line input) (line.Synth asked) → (a : Reply) →
       AnswersInput finders input a →

@@ -236,7 +236,8 @@ HasOneAnswer finders = (input : List ℕ) (a b : Reply) → AnswersWhole finders
 -- if `synth` is given a certificate, and its solver only returns the result of parsing that certificate, there is one
 -- answer
 abbrev pub HasOneCertified : Finders → Type 0
-HasOneCertified finders = IsReplaying finders.solvers.replay → (asked : SynthLine) → asked.cert ≡ true → (input : List ℕ) →
+HasOneCertified finders = IsReplaying finders.solvers.replay → (asked : SynthLine) → asked.cert ≡ true →
+    (input : List ℕ) →
     IsLine (first_line input) (Synth asked)
     → (a b : Reply) → AnswersWhole finders input a → AnswersWhole finders input b → a ≡ b
 

@@ -14,7 +14,8 @@ returns-then-parts c = elim c.then-parts.branch [
 
 pub returns-in-Some : goal.returns-in-Some
 returns-in-Some c =
-    let defines = rw (c.in-Some.is, c.deref.ensures.value, c.in_ok-definitions.ensures) at c.in_ok-variables.ensures.some
+    let defines =
+    rw (c.in-Some.is, c.deref.ensures.value, c.in_ok-definitions.ensures) at c.in_ok-variables.ensures.some
     in (
       λ known. draft-true (grind arith) (grind arith) defines (grind arith),
       λ draft. grind (arith, draft-test defines draft),

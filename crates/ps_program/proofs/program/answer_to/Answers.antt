@@ -14,7 +14,8 @@ returns-clause-answer g c =
     let line = c.in_ok-line.line in
     let input = c.args.input.now in
     settled (AnswersLine finders line c.first_line.result.1.now) c.answer_line-answer.result c.settle.result
-    (λ (answer : Answer). AnswersInput finders input (reply_of answer)) c.answer_line-answer.ensures.answer c.settle.ensures
+    (λ (answer : Answer). AnswersInput finders input (reply_of answer)) c.answer_line-answer.ensures.answer
+    c.settle.ensures
     (λ (answer : Answer) (told : Result Reply (List ℕ)) answers same. (
       line,
       subst (λ (first : List ℕ). IsLine first line) c.first_line.ensures.line c.in_ok-line.ensures,
