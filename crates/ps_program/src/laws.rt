@@ -30,10 +30,10 @@ impl KnownFinders for OwnFinders {
 /// Whatever is given to the program, an input has at most one answer, but for what commands may choose. `judge` may
 /// name any of the lost cycles, which one player loses; `verify` and `shrink` may show any stimulus on which the
 /// circuit loses, `agree` any lasso on which automaton and specification differ, `shrink` any circuit that wins and is
-/// not larger. Two answers without a fault have the same regions if they are of `solve` or `cert`, and the same status and
-/// first line if of `synth`, with one game if without `--tlsf`; those of `translate` are automata that agree with the
-/// specification. With `synth --cert` there is one answer, if the second solver only returns the certificate that it
-/// was fed.
+/// not larger. Two answers without a fault have the same regions if they are of `solve` or `cert`, and the same status
+/// and first line if of `synth`, with one game if without `--tlsf`; those of `translate` are automata that agree with
+/// the specification. With `synth --cert` there is one answer, if the second solver only returns the certificate that
+/// it was fed.
 pub fn one_answer<F: KnownFinders>()
     ensures answer { HasOneAnswer F.finders }
     ensures certified { HasOneCertified F.finders }
