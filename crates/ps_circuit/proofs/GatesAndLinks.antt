@@ -7,3 +7,4 @@ pub mod MadeLemmas
 pub mod MadeSound
 pub mod Ordered
 pub mod Rising
+pub mod TestedParts

@@ -5,3 +5,4 @@ pub mod Names
 pub mod NearAndFar
 pub mod Reading
 pub mod RisingGates
+pub mod Soundness

@@ -1,6 +1,6 @@
 //! Circuits.
 
-ghost use Rattle.std.specs.Prelude.{◌≡◌, ℕ, ◌<◌, length, map, slice_index_or, IfOk, None};
+ghost use Rattle.std.specs.Prelude.{◌≡◌, ℕ, ◌<◌, length, map, slice_index_or, IfOk, IfNone, IfSome, None};
 ghost use Rattle.std.specs.Option.{option_copied};
 ghost use Rattle.ps_components.specs.Orders.{IsOrder, IsFirstOnCycle};
 ghost use Rattle.ps_circuit.specs.Circuits.{CircuitData, IsDraft, IsCircuit, IsMadeOf, ReadsGate};
@@ -11,6 +11,7 @@ use crate::links::links_of;
 use crate::literal::Literal;
 use crate::parts::{Gate, Latch, Parts};
 use crate::rising::by_variable;
+use crate::soundness::is_draft;
 use ps_components::{Arrangement, arrange};
 use std::alloc::{AllocError, Global};
 use std::marker::Model;
@@ -85,6 +86,21 @@ impl Circuit {
         match arrangement {
             Arrangement::Order(order) => Ok(Circuit { parts, order }),
             Arrangement::Cyclic(gate) => Err(CircuitFault::Cyclic { gate }),
+        }
+    }
+
+    /// The circuit of these parts, or none if they are not those of a circuit. Fails if out of memory.
+    pub fn checked(alloc: Global, parts: Parts) -> Result<Option<Self>, AllocError>
+        ensures made { IfOk result (λ found. IfSome found (IsMadeOf (data_of parts))) }
+        ensures none { IfOk result (λ found. IfNone found (¬ IsCircuit (data_of parts))) }
+    {
+        if !is_draft(alloc, &parts)? {
+            return Ok(None);
+        }
+        match Circuit::new(alloc, parts) {
+            Ok(circuit) => Ok(Some(circuit)),
+            Err(CircuitFault::Cyclic { .. }) => Ok(None),
+            Err(CircuitFault::OutOfMemory) => Err(AllocError),
         }
     }
 

@@ -12,6 +12,7 @@
 //! | `Literal::negated`, `variable`, `is_negated`, `number` | its negation, its parts and its number |
 //! | `Builder::new(given)` | a builder over given variables; no call changes an existing gate |
 //! | `Builder::and`, `or`, `mux` | the literal of a conjunction, disjunction or choice, or an `EncodeFault` |
+//! | `Circuit::checked(parts)` | the circuit of any parts, or none if they are not those of a circuit |
 //! | `Circuit::in_order(parts)` | a circuit of parts in which each gate comes after those that it reads |
 //! | `Circuit::inputs`, `latches`, `outputs`, `gates` | its parts |
 //! | `Circuit::order` | an order in which the gates can be evaluated |
@@ -43,6 +44,7 @@ mod parts;
 mod reader;
 mod rising;
 mod sizes;
+mod soundness;
 mod variables;
 mod writer;
 

@@ -94,7 +94,8 @@ pub fn lines<L: Line>(
     Ok(items)
 }
 
-fn can_define(literal: u64, most: u32) -> bool
+/// Whether a literal may define a variable.
+pub fn can_define(literal: u64, most: u32) -> bool
     ensures { IsTrue result ↔ IsDefinition most literal }
 {
     literal % 2 == 0 && literal >= 2 && literal <= 2 * u64::from(most) + 1
