@@ -33,10 +33,6 @@ ENDS = {
     "with the priorities of its chain",
     "ps_tlsf/specs/Reading.antt: answer_of": "the specification that a TLSF text means, or its first error: "
     "the grammar of the format",
-    "ps_specification/specs/Faults.antt: IsSpecificationFault": "the reason for which a text gets this fault in place "
-    "of a circuit: 75 and 76 among them",
-    "ps_specification/specs/Faults.antt: IsSureSpecificationFault": "a fault that is possible with a solver "
-    "that never errs",
     "ps_hoa/specs/Texts.antt: ReadsFile": "what an HOA text means, or its first error: the grammar of the format",
     "ps_pgsolver/specs/Reading.antt: Answer": "what a game text means, or its first error",
     "ps_pgsolver/specs/Reading.antt: text_limit": "the length of the longest game text that is read, 16,777,216 bytes",
@@ -57,7 +53,7 @@ ENDS = {
 STD = [
     ("ℕ Bool List", "the natural numbers, the truth values, lists"),
     ("◌≡◌ ◌≢◌", "equal, not equal"),
-    ("◌↔◌ ◌⊎◌", "exactly if; or (`⊥`, `¬` and `Unit`: never true; not; always true)"),
+    ("◌↔◌ ◌⊎◌ ⊤", "exactly if; or; always true (`⊥`, `¬` and `Unit`: never true; not; always true)"),
     ("zero suc", "0, and a number plus 1"),
     ("◌+◌ ◌-◌ ◌*◌ ◌^◌", "sum; difference, 0 if it would be negative; product; power"),
     ("◌/◌ ◌%◌", "quotient, rounded down; remainder"),
@@ -68,7 +64,7 @@ STD = [
     ("if◌then◌else◌ cond", "a choice by a truth value"),
     ("Option Some None", "a value, or none"),
     ("IsSomeAnd", "there is a value, and the property holds of it"),
-    ("Result Ok IfOk IfErr", "a value or an error; if there is a value (an error), the property holds of it"),
+    ("Result Ok Err IfOk IfErr", "a value or an error; if there is a value (an error), the property holds of it"),
     ("◌∷◌ ◌++◌", "an element before a list (`[]`: the empty list); two lists joined"),
     (
         "length map filter fold",

@@ -3,6 +3,7 @@ pub mod CommandLine
 pub mod Commands
 pub mod Cut
 pub mod Faults
+pub mod Finders
 pub mod Help
 pub mod Inner
 pub mod Input

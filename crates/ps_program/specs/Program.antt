@@ -6,7 +6,6 @@ use Rattle.ps_program.specs.declared.commands.Line.TheVariants.{Refused, Help, C
 use Rattle.ps_program.specs.declared.commands.Line.TheVariants.{LassoTlsf, Verify, VerifyTlsf, Shrink, ShrinkTlsf}
 use Rattle.ps_program.specs.declared.commands.Line.TheVariants.{Agree, Game, Solve, Translate}
 use Rattle.ps_program.specs.declared.commands.Line.TheVariants.{Cert, Synth, SynthTlsf}
-use Rattle.ps_specification.specs.Translating.{own_translator}
 use Rattle.ps_program.specs.CommandLine.{IsLine}
 use Rattle.ps_program.specs.Commands.Checks.{AnswersClosed, AnswersCheck}
 use Rattle.ps_program.specs.Commands.Comparing.{AnswersAgree}
@@ -21,7 +20,7 @@ use Rattle.ps_program.specs.Commands.Satisfying.{AnswersLassoTlsf}
 use Rattle.ps_program.specs.Commands.Shrinking.{AnswersShrink}
 use Rattle.ps_program.specs.Commands.ShrinkingTlsf.{AnswersShrinkTlsf}
 use Rattle.ps_program.specs.Commands.Simulating.{AnswersSim}
-use Rattle.ps_program.specs.Solvers.{Solvers}
+use Rattle.ps_program.specs.Finders.{Finders}
 use Rattle.ps_program.specs.Commands.Solving.{AnswersSolve}
 use Rattle.ps_program.specs.Streams.{SinkState, AppendsSome, Breaks}
 use Rattle.ps_program.specs.Commands.Synthesis.{AnswersSynth}
@@ -30,47 +29,48 @@ use Rattle.ps_program.specs.Commands.TranslationTexts.{AnswersTranslate}
 use Rattle.ps_program.specs.Commands.Verifying.{AnswersVerify}
 use Rattle.ps_program.specs.Commands.VerifyingTlsf.{AnswersVerifyTlsf}
 
--- the answer to a command line and the texts after it; if the command uses a solver, the answer depends on what is
--- known about the solver
-abbrev pub AnswersLine : Solvers → Line → List ℕ → Result Reply (List ℕ) → Type 0
-AnswersLine solvers Refused texts outcome = outcome ≡ Ok usage
-AnswersLine solvers Help texts outcome = outcome ≡ Ok help
-AnswersLine solvers Closed texts outcome = AnswersClosed texts outcome
-AnswersLine solvers Check texts outcome = AnswersCheck texts outcome
-AnswersLine solvers (Judge compact) texts outcome = AnswersJudge compact texts outcome
-AnswersLine solvers Sim texts outcome = AnswersSim texts outcome
-AnswersLine solvers (Lasso role) texts outcome = AnswersLasso role texts outcome
-AnswersLine solvers (LassoTlsf role) texts outcome = AnswersLassoTlsf role texts outcome
-AnswersLine solvers (Verify order role) texts outcome = AnswersVerify order role texts outcome
-AnswersLine solvers (VerifyTlsf role) texts outcome = AnswersVerifyTlsf role texts outcome
-AnswersLine solvers (Shrink order role) texts outcome = AnswersShrink order role texts outcome
-AnswersLine solvers (ShrinkTlsf role) texts outcome = AnswersShrinkTlsf role texts outcome
-AnswersLine solvers Agree texts outcome = AnswersAgree texts outcome
-AnswersLine solvers Translate text outcome = AnswersTranslate own_translator text outcome
-AnswersLine solvers (Solve compact) texts outcome = AnswersSolve solvers.built_in compact texts outcome
-AnswersLine solvers (Game order) texts outcome = AnswersGameText order texts outcome
-AnswersLine solvers (Cert order compact) texts outcome = AnswersCert solvers.built_in order compact texts outcome
-AnswersLine solvers (Synth asked) texts outcome = AnswersSynth solvers asked texts outcome
-AnswersLine solvers SynthTlsf text outcome = AnswersSynthTlsf own_translator solvers.built_in text outcome
+-- the answer to a command line and the texts after it; if the command uses a solver, the proposer or the translator,
+-- the answer depends on what is known about it
+abbrev pub AnswersLine : Finders → Line → List ℕ → Result Reply (List ℕ) → Type 0
+AnswersLine finders Refused texts outcome = outcome ≡ Ok usage
+AnswersLine finders Help texts outcome = outcome ≡ Ok help
+AnswersLine finders Closed texts outcome = AnswersClosed texts outcome
+AnswersLine finders Check texts outcome = AnswersCheck texts outcome
+AnswersLine finders (Judge compact) texts outcome = AnswersJudge compact texts outcome
+AnswersLine finders Sim texts outcome = AnswersSim texts outcome
+AnswersLine finders (Lasso role) texts outcome = AnswersLasso role texts outcome
+AnswersLine finders (LassoTlsf role) texts outcome = AnswersLassoTlsf role texts outcome
+AnswersLine finders (Verify order role) texts outcome = AnswersVerify order role texts outcome
+AnswersLine finders (VerifyTlsf role) texts outcome = AnswersVerifyTlsf role texts outcome
+AnswersLine finders (Shrink order role) texts outcome = AnswersShrink order role texts outcome
+AnswersLine finders (ShrinkTlsf role) texts outcome = AnswersShrinkTlsf role texts outcome
+AnswersLine finders Agree texts outcome = AnswersAgree texts outcome
+AnswersLine finders Translate text outcome = AnswersTranslate finders.translator text outcome
+AnswersLine finders (Solve compact) texts outcome = AnswersSolve finders.solvers.built_in compact texts outcome
+AnswersLine finders (Game order) texts outcome = AnswersGameText order texts outcome
+AnswersLine finders (Cert order compact) texts outcome =
+    AnswersCert finders.solvers.built_in order compact texts outcome
+AnswersLine finders (Synth asked) texts outcome = AnswersSynth finders.solvers asked texts outcome
+AnswersLine finders SynthTlsf text outcome = AnswersSynthTlsf finders.proposer text outcome
 
 -- the answer to an input
-abbrev pub AnswersInput : Solvers → List ℕ → Reply → Type 0
-AnswersInput solvers input reply =
+abbrev pub AnswersInput : Finders → List ℕ → Reply → Type 0
+AnswersInput finders input reply =
     (line : Line) × IsLine (first_line input) line
-    × ((outcome : Result Reply (List ℕ)) × AnswersLine solvers line (behind_line input) outcome ×
+    × ((outcome : Result Reply (List ℕ)) × AnswersLine finders line (behind_line input) outcome ×
     (reply ≡ printed outcome))
 
 -- the answer to an input; an input that is too long is answered by the line that reports a fault
-abbrev pub AnswersWhole : Solvers → List ℕ → Reply → Type 0
-AnswersWhole solvers input reply = ((input_limit < length input) × (reply ≡ read_fault))
-    ⊎ ((length input ≤ input_limit) × AnswersInput solvers input reply)
+abbrev pub AnswersWhole : Finders → List ℕ → Reply → Type 0
+AnswersWhole finders input reply = ((input_limit < length input) × (reply ≡ read_fault))
+    ⊎ ((length input ≤ input_limit) × AnswersInput finders input reply)
 
 -- what the program answers to the input that a source gives: `read_fault` if a read failed, and otherwise an answer to
 -- the input, or `out_of_memory`
-abbrev pub Replies : Solvers → Option (List ℕ) → Bool → Reply → Type 0
-Replies solvers known true reply = reply ≡ read_fault
-Replies solvers known false reply = (reply ≡ out_of_memory)
-    ⊎ ((input : List ℕ) × AgreesWith known input × AnswersWhole solvers input reply)
+abbrev pub Replies : Finders → Option (List ℕ) → Bool → Reply → Type 0
+Replies finders known true reply = reply ≡ read_fault
+Replies finders known false reply = (reply ≡ out_of_memory)
+    ⊎ ((input : List ℕ) × AgreesWith known input × AnswersWhole finders input reply)
 
 -- the program has written and flushed the whole answer
 pub record WritesAll (before after : SinkState) (reply : Reply) (status : ℕ) : Type 0 where

@@ -8,7 +8,7 @@ ghost use Rattle.ps_program.specs.Inner.Usages.{usage_of, with_flags};
 ghost use Rattle.ps_program.specs.Outcomes.{Gives};
 ghost use Rattle.ps_program.specs.Program.{AnswersLine};
 ghost use Rattle.ps_program.specs.Replies.{reply_of};
-ghost use Rattle.ps_program.specs.Solvers.{solvers_of};
+ghost use Rattle.ps_program.specs.Finders.{finders_of};
 
 pub mod agree;
 pub mod cert;
@@ -34,7 +34,7 @@ use crate::command_line::{
 use clap::ArgMatches;
 use ps_machine::{Order, Solver};
 use ps_simulate::Role;
-use ps_specification::OwnTranslator;
+use ps_specification::{Proposer, Translator};
 use std::alloc::Global;
 
 /// What a first line asks for.
@@ -418,15 +418,17 @@ impl Line {
 }
 
 /// The answer to a command line with the texts that follow it, or the command's fault.
-pub(crate) fn answer_line<S: Solver, T: Solver>(
+pub(crate) fn answer_line<S: Solver, T: Solver, P: Proposer, U: Translator>(
     alloc: Global,
     line: Line,
     texts: &[u8],
     built_in: &mut S,
     replay: &mut T,
+    proposer: &P,
+    translator: &U,
 ) -> Result<Answer, Refusal>
-    ensures answer { Gives reply_of (AnswersLine (solvers_of (S.known built_in.old) (T.known replay.old)) line
-        texts.now) result }
+    ensures answer { Gives reply_of (AnswersLine (finders_of (S.known built_in.old) (T.known replay.old)
+        (P.known proposer.now) (U.may_give translator.now)) line texts.now) result }
     ensures built_in_kept { (S.known built_in.new).is_sure ≡ (S.known built_in.old).is_sure }
     ensures replay_kept { (T.known replay.new).is_sure ≡ (T.known replay.old).is_sure }
 {
@@ -444,11 +446,11 @@ pub(crate) fn answer_line<S: Solver, T: Solver>(
         Line::Shrink { order, role } => shrink::shrink(alloc, order, role, texts),
         Line::ShrinkTlsf(role) => shrink_tlsf::shrink_tlsf(alloc, role, texts),
         Line::Agree => agree::agree(alloc, texts),
-        Line::Translate => translate::translate(alloc, texts, &OwnTranslator),
+        Line::Translate => translate::translate(alloc, texts, translator),
         Line::Solve { compact } => solve::solve(alloc, texts, built_in, compact),
         Line::Game(order) => game::game(alloc, order, texts),
         Line::Cert { order, compact } => cert::cert(alloc, order, texts, built_in, compact),
         Line::Synth(asked) => synth::synth(alloc, asked, texts, built_in, replay),
-        Line::SynthTlsf => synth_tlsf::synth_tlsf(alloc, texts, &OwnTranslator, built_in),
+        Line::SynthTlsf => synth_tlsf::synth_tlsf(alloc, texts, proposer),
     }
 }

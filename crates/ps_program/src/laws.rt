@@ -2,6 +2,8 @@
 
 ghost use Rattle.std.specs.Prelude.{ℕ, List, []};
 ghost use Rattle.ps_solver.specs.Solving.{own_solver, replay_of};
+ghost use Rattle.ps_specification.specs.Proposing.{own_proposer};
+ghost use Rattle.ps_specification.specs.Translating.{own_translator};
 ghost use Rattle.ps_program.specs.Laws.Answered.{MayCertify, MayReplay};
 ghost use Rattle.ps_program.specs.Laws.Answered.{ArePrinted, HasSomeAnswer, HasSomeLine, HasSomeSolved};
 ghost use Rattle.ps_program.specs.Laws.Answered.{HasSomeSynthesis};
@@ -10,29 +12,31 @@ ghost use Rattle.ps_program.specs.Laws.Exchanged.{ChecksCertificates, ConfirmsLo
 ghost use Rattle.ps_program.specs.Laws.Exchanged.{ReadsLosingSpecified};
 ghost use Rattle.ps_program.specs.Laws.Exchanged.{VerifiesCircuits, VerifiesSmaller, VerifiesSmallerSpecified};
 ghost use Rattle.ps_program.specs.Laws.Exchanged.{VerifiesWinners};
-ghost use Rattle.ps_program.specs.Solvers.{Solvers, solvers_of};
+ghost use Rattle.ps_program.specs.Finders.{Finders, finders_of};
 
-/// What is known of two solvers: any two, so a type with an `impl` of this trait needs no values.
-pub trait KnownSolvers {
-    ghost solvers: { Solvers };
+/// What is known of two solvers, a proposer and a translator: any, so a type with an `impl` of this trait needs no
+/// values.
+pub trait KnownFinders {
+    ghost finders: { Finders };
 }
 
-/// psyn's own solvers, the second of them not yet fed a text.
-pub struct OwnSolvers;
+/// psyn's own, the second solver not yet fed a text.
+pub struct OwnFinders;
 
-impl KnownSolvers for OwnSolvers {
-    ghost solvers = { solvers_of own_solver (replay_of []) };
+impl KnownFinders for OwnFinders {
+    ghost finders = { finders_of own_solver (replay_of []) (own_proposer 1) own_translator };
 }
 
-/// Whatever the solvers, an input has at most one answer, but for what commands may choose. `judge` may name any of the
-/// lost cycles, which one player loses; `verify` and `shrink` may show any stimulus on which the circuit loses, `agree`
-/// any lasso on which automaton and specification differ, `shrink` any circuit that wins and is not larger. Two answers
-/// without a fault have the same regions if they are of `solve` or `cert`, and the same status and first line if of
-/// `synth`, with one game if without `--tlsf`; those of `translate` are automata that agree with the specification.
-/// With `synth --cert` there is one answer, if the second solver only returns the certificate that it was fed.
-pub fn one_answer<S: KnownSolvers>()
-    ensures answer { HasOneAnswer S.solvers }
-    ensures certified { HasOneCertified S.solvers }
+/// Whatever is given to the program, an input has at most one answer, but for what commands may choose. `judge` may
+/// name any of the lost cycles, which one player loses; `verify` and `shrink` may show any stimulus on which the
+/// circuit loses, `agree` any lasso on which automaton and specification differ, `shrink` any circuit that wins and is
+/// not larger. Two answers without a fault have the same regions if they are of `solve` or `cert`, and the same status
+/// and first line if of `synth`, with one game if without `--tlsf`; those of `translate` are automata that agree with
+/// the specification. With `synth --cert` there is one answer, if the second solver only returns the certificate that
+/// it was fed.
+pub fn one_answer<F: KnownFinders>()
+    ensures answer { HasOneAnswer F.finders }
+    ensures certified { HasOneCertified F.finders }
 {
     ps_pgsolver::one_answer();
     ps_certificate::certificate_text_has_one_answer();
@@ -57,8 +61,8 @@ pub fn one_answer<S: KnownSolvers>()
 
 /// A command reads as many texts as the table says. The answer reports a missing one, unless the flags exclude each
 /// other.
-pub fn missing_text_is_told<S: KnownSolvers>()
-    ensures { NeedsItsTexts S.solvers }
+pub fn missing_text_is_told<F: KnownFinders>()
+    ensures { NeedsItsTexts F.finders }
 {}
 
 /// Each first line has a meaning, and each input an answer, but for `verify` and `shrink`, where a proof would have to
@@ -69,11 +73,11 @@ pub fn missing_text_is_told<S: KnownSolvers>()
 /// too or, with `--cert`, a second solver that may answer with what parsing any text gives that it is fed, and so is
 /// not sure (a sure one returns only valid certificates). What `synth` prints must also be what parsing gives: the
 /// circuit and, with `--full`, the certificate and the game, unless its text is longer than the parser accepts.
-pub fn some_answer<S: KnownSolvers>()
+pub fn some_answer<F: KnownFinders>()
     ensures line { HasSomeLine }
-    ensures answer { HasSomeAnswer S.solvers }
-    ensures solved { HasSomeSolved S.solvers }
-    ensures synthesis { HasSomeSynthesis S.solvers }
+    ensures answer { HasSomeAnswer F.finders }
+    ensures solved { HasSomeSolved F.finders }
+    ensures synthesis { HasSomeSynthesis F.finders }
 {
     ps_pgsolver::some_answer();
     ps_pgsolver::read_game_is_game();
@@ -111,8 +115,8 @@ pub fn own_solvers_may_answer()
 }
 
 /// What `synth` prints is as `some_answer` needs it, if the numbers of circuit, game and certificate fit in 64 bits.
-pub fn fitting_texts_are_printed<S: KnownSolvers>()
-    ensures { ArePrinted S.solvers.built_in }
+pub fn fitting_texts_are_printed<F: KnownFinders>()
+    ensures { ArePrinted F.finders.solvers.built_in }
 {
     ps_synthesis::written_texts_are_read();
     ps_traces::certified_circuit_of_file_answers();
@@ -140,8 +144,8 @@ pub fn losing_stimulus_is_confirmed()
 
 /// Whatever the solver, `verify` answers `wins`, and nothing else, for each circuit that `synth` prints, given the same
 /// automaton and order of moves and, for an environment, `--env`.
-pub fn circuits_are_verified<S: KnownSolvers>()
-    ensures { VerifiesCircuits S.solvers.built_in }
+pub fn circuits_are_verified<F: KnownFinders>()
+    ensures { VerifiesCircuits F.finders.solvers.built_in }
 {
     ps_automaton::refusal_is_one();
     ps_circuit::one_answer();

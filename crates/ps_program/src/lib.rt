@@ -1,5 +1,5 @@
 //! What the program psyn reads, answers and writes. It calls two solvers: `built_in` solves games, `replay` is fed
-//! the text of a certificate.
+//! the text of a certificate; and for a specification a proposer of circuits, or a translator.
 //!
 //! | Call | What it gives |
 //! |---|---|
@@ -7,10 +7,11 @@
 //! | `send(sink, text)` | writes a text and flushes, or a `WriteFault` |
 //! | `Watched::new` | a [`Source`] or a [`Sink`] of std |
 //! | `first_line`, `read_line` | an input, cut after its first line; what this asks for, as a [`Line`] |
-//! | `answer_to(input, built_in, replay)` | the [`Answer`] to an input: what is written, and the exit status |
+//! | `answer_to(input, built_in, replay, proposer, translator)` | the [`Answer`] to an input, and the exit status |
 //! | `closed`, `check`, `judge`, `sim`, `lasso`, `verify`, `shrink`, `game` | answers without a solver |
-//! | `lasso_tlsf`, `verify_tlsf`, `shrink_tlsf`, `agree`, `translate` | answers about a specification |
-//! | `solve`, `cert`, `synth`, `synth_tlsf` | answers by a solver |
+//! | `lasso_tlsf`, `verify_tlsf`, `shrink_tlsf`, `agree` | answers about a specification |
+//! | `synth_tlsf`, `translate` | answers by a proposer, or by a translator |
+//! | `solve`, `cert`, `synth` | answers by a solver |
 //! | `two_texts`, `read_game`, `read_game_of`, `certify`, `print`, `settle` | what these answers are made with |
 //! | `lines_are_read`, `missing_text_is_told` | laws: how command lines are read; a missing text is told |
 //! | `one_answer` | a law: an input has at most one answer, unless its command may choose |
@@ -68,7 +69,7 @@ pub use commands::{Line, SynthLine, TextKind};
 pub use cut::first_line;
 pub use fault::{FaultLine, Place};
 pub use laws::{
-    KnownSolvers, OwnSolvers, certificates_are_checked, circuits_are_verified,
+    KnownFinders, OwnFinders, certificates_are_checked, circuits_are_verified,
     fitting_texts_are_printed, losing_stimulus_is_confirmed, losing_stimulus_is_read,
     missing_text_is_told, one_answer, own_solvers_may_answer, smaller_circuits_are_verified,
     smaller_specified_circuits_are_verified, some_answer, specified_circuits_are_verified,

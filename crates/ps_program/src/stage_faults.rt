@@ -70,7 +70,6 @@ impl From<SpecificationFault> for Refusal {
         let place = match fault {
             SpecificationFault::Text { cause: _, offset } => Place::Byte(offset),
             SpecificationFault::NotTranslated | SpecificationFault::NotJudged => Place::Nowhere,
-            SpecificationFault::Synthesis(fault) => return Refusal::from(fault),
             SpecificationFault::OutOfMemory => return Refusal::OutOfMemory,
         };
         Refusal::Fault(FaultLine {

@@ -1,8 +1,7 @@
 pub mod BothPlayers
 pub mod DistinctNames
-pub mod FaultReasons
 pub mod FormulaJudges
-pub mod MoreAnswers
+pub mod ProposalReasons
 pub mod RoutedBits
 pub mod TranslationReasons
 pub mod SameNames

@@ -3,16 +3,21 @@
 -- - `is_translation_of`: a text has one file, so it is a translation exactly if that file is one
 -- - `translation_text_reason`: a fault of the automaton's text
 -- - `translation_reason`: of a fault of a translator's text, for the specification's text
-use Rattle.std.proofs.Common.{◌≡◌, ◌∙◌, ◌↔◌, ℕ, List, Ok, Some, ap, subst, sym}
+use Rattle.std.proofs.Common.{◌≡◌, ◌≢◌, ◌∙◌, ◌↔◌, ℕ, List, Result, Ok, Err, Some, ap, subst, sym}
+use Rattle.ps_text.specs.Answers.{Found}
+use Rattle.ps_automaton.specs.Answers.{IsAdmitted, IsRefused}
+use Rattle.ps_automaton.specs.declared.fault.AutomatonFault.{AutomatonFault}
+use Rattle.ps_automaton.specs.declared.fault.AutomatonFault.TheVariants as automaton
 use Rattle.ps_automaton.specs.Automata.{AutomatonData, IsBuiltFrom}
 use Rattle.ps_automaton.specs.Chains.{Chain}
 use Rattle.ps_hoa.specs.Files.{FileData}
 use Rattle.ps_hoa.specs.declared.fault.HoaCause.{HoaCause}
 use Rattle.ps_hoa.specs.declared.fault.HoaCause.TheVariants as causes
-use Rattle.ps_hoa.specs.Texts.{at_offset}
+use Rattle.ps_hoa.specs.Texts.{ReadsFile, at_offset}
 use Rattle.ps_models.specs.Agreements.{ArePropositionsOf, IsAcceptedWrongly, IsAgreeing, IsRejectedWrongly}
 use Rattle.ps_synthesis.specs.Promises.{IsAcceptedText}
 use Rattle.ps_synthesis.specs.Stages.{IsTextFault}
+use Rattle.ps_synthesis.specs.SynthFaults.{HasNoAutomaton}
 use Rattle.ps_synthesis.specs.declared.fault.SynthFault.{SynthFault}
 use Rattle.ps_synthesis.specs.declared.fault.SynthFault.TheVariants as synth
 use Rattle.ps_tlsf.specs.Reading.{answer_of}
@@ -24,8 +29,22 @@ use Rattle.ps_specification.specs.Translating.{IsBeyondLimits, MayGive}
 use Rattle.ps_specification.specs.TranslationFaults.{IsTranslationFault, IsTranslationFaultBy}
 use Rattle.ps_specification.specs.declared.fault.SpecificationFault.{SpecificationFault}
 use Rattle.ps_specification.specs.declared.fault.SpecificationFault.TheVariants as specification
-use Rattle.ps_specification.proofs.FaultReasons.{Apart, OneFile, file_or, no_automaton, no_file, no_limit}
-use Rattle.ps_specification.proofs.FaultReasons.{no_limit_in_file}
+
+-- laws of other crates, on which this file relies: an HOA text has one answer, and a file is admitted or refused
+abbrev OneFile : Type 0
+OneFile = (text : List ℕ) (a b : Result FileData (Found HoaCause)) → ReadsFile text a → ReadsFile text b → a ≡ b
+
+abbrev Apart : Type 0
+Apart = (file : FileData) (fault : AutomatonFault) → fault ≢ automaton.OutOfMemory → IsAdmitted file →
+    IsRefused file fault → ⊥
+
+abbrev file_or : FileData → Result FileData (Found HoaCause) → FileData
+file_or other (Ok file) = file
+file_or other (Err found) = other
+
+abbrev cause_or : HoaCause → Result FileData (Found HoaCause) → HoaCause
+cause_or other (Ok file) = other
+cause_or other (Err found) = found.cause
 
 module _ (one : OneFile) (hoa : List ℕ) where
   pub within_limits : (file : FileData) → IsAcceptedText hoa file → IsBeyondLimits hoa → ⊥
@@ -45,21 +64,37 @@ module _ (one : OneFile) (hoa : List ℕ) where
   )
 
 module _ (one : OneFile) (apart : Apart) (hoa : List ℕ) (spec : Specification) where
+  no_limit : (cause : HoaCause) (offset : ℕ) → ReadsFile hoa (at_offset cause offset) → cause ≢ causes.Limit →
+      IsBeyondLimits hoa → ⊥
+  no_limit cause offset reads other (at, limit) =
+      other (ap (cause_or causes.Limit) (one hoa (at_offset cause offset) (at_offset causes.Limit at) reads limit))
+
+  no_file : (cause : HoaCause) (offset : ℕ) → ReadsFile hoa (at_offset cause offset) → IsTranslationOf spec hoa → ⊥
+  no_file cause offset reads of =
+      let same = one hoa (Ok of.file) (at_offset cause offset) of.accepted.reads reads in cc
+
+  no_limit_in_file : (fault : AutomatonFault) → HasNoAutomaton hoa fault → IsBeyondLimits hoa → ⊥
+  no_limit_in_file fault refused (at, limit) =
+      let same = one hoa (Ok refused.file) (at_offset causes.Limit at) refused.reads limit in cc
+
+  no_automaton : (fault : AutomatonFault) → HasNoAutomaton hoa fault → IsTranslationOf spec hoa → ⊥
+  no_automaton fault refused of =
+      let same = one hoa (Ok of.file) (Ok refused.file) of.accepted.reads refused.reads in
+      apart refused.file fault refused.cause
+      (subst IsAdmitted (ap (file_or of.file) same) of.accepted.admitted) refused.refused
+
   cause_reason : (cause : HoaCause) (offset : ℕ) → IsTextFault hoa (synth.Text cause offset) →
       IsTranslationFaultBy spec hoa (fault_of_hoa cause)
   cause_reason causes.Limit offset reads = (offset, reads)
   cause_reason cause offset reads = (
-    no_limit one apart hoa cause offset reads (λ same. cc),
-    λ of. no_file one apart hoa cause offset reads (of.file, of.accepted),
+    no_limit cause offset reads (λ same. cc),
+    no_file cause offset reads,
   )
 
   pub translation_text_reason : (fault : SynthFault) → IsTextFault hoa fault →
       IsTranslationFaultBy spec hoa (fault_of_synthesis fault)
   translation_text_reason (synth.Text cause offset) h = cause_reason cause offset h
-  translation_text_reason (synth.Automaton fault) h = (
-    no_limit_in_file one apart hoa fault h,
-    λ of. no_automaton one apart hoa fault h (of.file, of.accepted),
-  )
+  translation_text_reason (synth.Automaton fault) h = (no_limit_in_file fault h, no_automaton fault h)
   translation_text_reason synth.OutOfMemory h = tt
   translation_text_reason (synth.BadCycle ids) h = absurd h
   translation_text_reason (synth.Certificate cause offset) h = absurd h
@@ -75,7 +110,6 @@ translation_reason Gave text spec hoa reads gave specification.NotTranslated h =
 translation_reason Gave text spec hoa reads gave specification.NotJudged h =
     record { spec = spec; reads = reads; given = Some hoa; gave = gave; holds = h }
 translation_reason Gave text spec hoa reads gave specification.OutOfMemory h = tt
-translation_reason Gave text spec hoa reads gave (specification.Synthesis fault) h = absurd h
 translation_reason Gave text spec hoa reads gave (specification.Text cause offset) h = absurd h
 
 -- what a comparison tells of the file from which an automaton was built

@@ -2,6 +2,7 @@ pub mod FaultNames
 pub mod Faults
 pub mod Inner
 pub mod Promises
+pub mod Proposing
 pub mod Reductions
 pub mod Requirements
 pub mod Translating

@@ -2,12 +2,9 @@
 -- - `MayGive`: a relation between a specification and what a translator may give for it
 -- - `own_translator`: what psyn's own translator may give, of which nothing is known
 -- - `IsBeyondLimits hoa`: the text exceeds a limit of the parser of HOA texts
--- - `DescribesAutomaton hoa`: the text describes a file that has an automaton
 use Rattle.std.specs.Prelude.{ℕ, List, Option, Err}
-use Rattle.ps_hoa.specs.Files.{FileData}
 use Rattle.ps_hoa.specs.Texts.{ReadsFile}
 use Rattle.ps_hoa.specs.declared.fault.HoaCause.TheVariants as causes
-use Rattle.ps_synthesis.specs.Promises.{IsAcceptedText}
 use Rattle.ps_tlsf.specs.Specifications.{Specification}
 
 abbrev pub MayGive : Type 1
@@ -18,6 +15,3 @@ own_translator spec given = Unit {0}
 
 abbrev pub IsBeyondLimits : List ℕ → Type 0
 IsBeyondLimits hoa = (offset : ℕ) × ReadsFile hoa (Err (record { cause = causes.Limit; offset = offset }))
-
-abbrev pub DescribesAutomaton : List ℕ → Type 0
-DescribesAutomaton hoa = (file : FileData) × IsAcceptedText hoa file

@@ -21,15 +21,12 @@ pub enum SpecificationFault {
         /// Its offset in bytes, from 0.
         offset: usize,
     },
-    /// The translator gave no automaton, or one whose text exceeds a limit of the parser.
-    #[error("no automaton was found for the specification")]
+    /// No circuit was proposed; or the translator gave no automaton, or one whose text exceeds a limit of the parser.
+    #[error("no circuit or automaton was found for the specification")]
     NotTranslated,
-    /// The translator's text is not accepted, or what came of it is wrong by the specification.
-    #[error("the translation of the specification is wrong")]
+    /// Each circuit that was proposed is wrong by the specification, or the translator's automaton is.
+    #[error("what was found for the specification is wrong")]
     NotJudged,
-    /// The solver returned no valid certificate, or the circuit is too large.
-    #[error("{0}")]
-    Synthesis(SynthFault),
     /// Out of memory.
     #[error("out of memory")]
     OutOfMemory,
@@ -46,7 +43,6 @@ impl SpecificationFault {
             SpecificationFault::Text { cause, .. } => cause.number(),
             SpecificationFault::NotTranslated => 75,
             SpecificationFault::NotJudged => 76,
-            SpecificationFault::Synthesis(fault) => fault.number(),
             SpecificationFault::OutOfMemory => SynthFault::OutOfMemory.number(),
         }
     }
@@ -59,7 +55,6 @@ impl SpecificationFault {
             SpecificationFault::Text { cause, .. } => cause.name(),
             SpecificationFault::NotTranslated => "NotTranslated",
             SpecificationFault::NotJudged => "NotJudged",
-            SpecificationFault::Synthesis(fault) => fault.name(),
             SpecificationFault::OutOfMemory => SynthFault::OutOfMemory.name(),
         }
     }
@@ -98,9 +93,8 @@ impl From<SynthFault> for SpecificationFault {
                 cause: HoaCause::Limit,
                 offset: _,
             } => SpecificationFault::NotTranslated,
-            SynthFault::Text { .. } | SynthFault::Automaton(_) => SpecificationFault::NotJudged,
             SynthFault::OutOfMemory => SpecificationFault::OutOfMemory,
-            fault => SpecificationFault::Synthesis(fault),
+            _ => SpecificationFault::NotJudged,
         }
     }
 }

@@ -5,7 +5,6 @@ ghost use Rattle.ps_tlsf.specs.SpecificationViews.{specification_data};
 ghost use Rattle.ps_specification.specs.Translating.{MayGive};
 
 use ps_tlsf::Specification;
-use ps_translation::titled;
 use std::alloc::{AllocError, Global};
 
 /// A translator promises nothing, for what it gives is judged.
@@ -23,23 +22,4 @@ pub trait Translator: Drop {
     ) -> Result<Option<Vec<u8>>, AllocError>
         ensures { IfOk result (λ given. may_give self.now (specification_data specification.now)
             (option_map (λ text. text.items) given)) };
-}
-
-/// psyn's own translator.
-#[derive(Drop)]
-pub struct OwnTranslator;
-
-impl Translator for OwnTranslator {
-    ghost use Rattle.ps_specification.specs.Translating.{own_translator};
-
-    ghost may_give = { λ translator. own_translator };
-
-    fn translate(
-        &self,
-        alloc: Global,
-        specification: &Specification,
-        title: Option<&[u8]>,
-    ) -> Result<Option<Vec<u8>>, AllocError> {
-        titled(alloc, specification, title)
-    }
 }

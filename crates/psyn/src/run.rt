@@ -1,8 +1,10 @@
 //! The program.
 
 ghost use Rattle.std.specs.Prelude.{◌≡◌, ◌+◌, false};
+ghost use Rattle.ps_specification.specs.Proposing.{own_proposer};
+ghost use Rattle.ps_specification.specs.Translating.{own_translator};
 ghost use Rattle.ps_program.specs.Input.{ConsumesAtMost, input_limit};
-ghost use Rattle.ps_program.specs.Solvers.{solvers_of};
+ghost use Rattle.ps_program.specs.Finders.{finders_of};
 ghost use Rattle.ps_program.specs.Streams.{sink_state};
 ghost use Rattle.ps_program.specs.Replies.{Reply};
 ghost use Rattle.ps_program.specs.Program.{Replies, Writes};
@@ -11,10 +13,12 @@ use ps_machine::Solver;
 use ps_program::{
     FAULT, InputFault, OUT_OF_MEMORY, READ_FAULT, Sink, Source, answer_to, read_input, send,
 };
+use ps_proposer::{OwnProposer, OwnTranslator};
+use ps_specification::{Proposer, Translator};
 use std::alloc::Global;
 
 /// Reads the whole input, writes its answer, and returns the exit status. `built_in` solves games, unless the input has
-/// a certificate, which `replay` takes.
+/// a certificate, which `replay` takes. Circuits and automata for specifications are psyn's own.
 ///
 /// Reading stops at the first read that fails, or at the first byte past `INPUT_LIMIT`; writing, at the first write or
 /// flush that fails, or write that accepts no bytes. Then the exit status is 1, and the output is a prefix of the
@@ -32,21 +36,32 @@ pub fn run<R: Source, W: Sink>(
     ensures consumed { ConsumesAtMost (R.remaining reader.old) (R.remaining reader.new)
         (input_limit + 1) }
     ensures answered { (reply : Reply)
-        × Replies (solvers_of (known built_in) (known replay)) (R.remaining reader.old) (R.has_failed reader.new) reply
+        × Replies (finders_of (known built_in) (known replay) (own_proposer 1) own_translator)
+        (R.remaining reader.old) (R.has_failed reader.new) reply
         × Writes (sink_state W.contents W.has_failed W.has_stalled W.is_flushed writer.old)
         (sink_state W.contents W.has_failed W.has_stalled W.is_flushed writer.new)
         reply result }
 {
-    run_by(alloc, reader, writer, &mut built_in, &mut replay)
+    run_by(
+        alloc,
+        reader,
+        writer,
+        &mut built_in,
+        &mut replay,
+        &OwnProposer,
+        &OwnTranslator,
+    )
 }
 
-/// As `run`, with solvers whose types are known at compile time.
-pub fn run_by<R: Source, W: Sink, S: Solver, T: Solver>(
+/// As `run`, with solvers, a proposer and a translator whose types are known at compile time.
+pub fn run_by<R: Source, W: Sink, S: Solver, T: Solver, P: Proposer, U: Translator>(
     alloc: Global,
     reader: &mut R,
     writer: &mut W,
     built_in: &mut S,
     replay: &mut T,
+    proposer: &P,
+    translator: &U,
 ) -> u8
     requires reader { R.has_failed reader.old ≡ false }
     requires writer { W.has_failed writer.old ≡ false }
@@ -54,8 +69,8 @@ pub fn run_by<R: Source, W: Sink, S: Solver, T: Solver>(
     ensures consumed { ConsumesAtMost (R.remaining reader.old) (R.remaining reader.new)
         (input_limit + 1) }
     ensures answered { (reply : Reply)
-        × Replies (solvers_of (S.known built_in.old) (T.known replay.old)) (R.remaining reader.old)
-        (R.has_failed reader.new) reply
+        × Replies (finders_of (S.known built_in.old) (T.known replay.old) (P.known proposer.now)
+        (U.may_give translator.now)) (R.remaining reader.old) (R.has_failed reader.new) reply
         × Writes (sink_state W.contents W.has_failed W.has_stalled W.is_flushed writer.old)
         (sink_state W.contents W.has_failed W.has_stalled W.is_flushed writer.new)
         reply result }
@@ -63,7 +78,14 @@ pub fn run_by<R: Source, W: Sink, S: Solver, T: Solver>(
     ensures replay_kept { (T.known replay.new).is_sure ≡ (T.known replay.old).is_sure }
 {
     match read_input(alloc, reader) {
-        Ok(input) => match answer_to(alloc, input.as_slice(), built_in, replay) {
+        Ok(input) => match answer_to(
+            alloc,
+            input.as_slice(),
+            built_in,
+            replay,
+            proposer,
+            translator,
+        ) {
             Ok(answer) => write_reply(writer, answer.text.as_slice(), answer.status),
             Err(_) => write_reply(writer, OUT_OF_MEMORY, FAULT),
         },

@@ -30,6 +30,7 @@ use Rattle.ps_program.specs.Replies.{Reply, text_reply}
 use Rattle.ps_program.specs.Commands.Shrinking.{AnswersShrink}
 use Rattle.ps_program.specs.Commands.ShrinkingTlsf.{AnswersShrinkTlsf}
 use Rattle.ps_program.specs.Commands.Simulating.{AnswersSim}
+use Rattle.ps_program.specs.Finders.{Finders}
 use Rattle.ps_program.specs.Solvers.{Solvers}
 use Rattle.ps_program.specs.Commands.Solving.{AnswersGame, AnswersSolve}
 use Rattle.ps_program.specs.Commands.Synthesis.{AnswersBy, AnswersReport}
@@ -60,7 +61,6 @@ use Rattle.ps_solver.proofs.CertificateThere.{NoCycle, NoFlaw}
 use Rattle.ps_program.proofs.ByCommand.JudgeLemmas.{OneSolution, OneJudged, OneLoser, NoFlawAndCycle}
 use Rattle.ps_program.proofs.ByCommand.JudgeLemmas.{judges_one_or}
 use Rattle.ps_solution.specs.Solved.{SolutionData}
-use Rattle.ps_specification.specs.Translating.{own_translator}
 
 module _ (games : OneGame) (certificates : OneCertificate) (flaws : OneFlaw) (circuits : OneCircuit)
     (stimuli : OneStimulus) (files : OneFile) (refusals : OneRefusal) (outcomes : OneOutcome) (verdicts : OneVerdict)
@@ -310,35 +310,36 @@ module _ (games : OneGame) (certificates : OneCertificate) (flaws : OneFlaw) (ci
 
   -- any two results of a command line are equal, or the command allows several results; in the second case, the two
   -- agree as `AgreeOrFault` states
-  line_one : (solvers : Solvers) (l : Line) (texts : List ℕ) (x y : Result Reply (List ℕ)) →
-      AnswersLine solvers l texts x → AnswersLine solvers l texts y →
+  line_one : (finders : Finders) (l : Line) (texts : List ℕ) (x y : Result Reply (List ℕ)) →
+      AnswersLine finders l texts x → AnswersLine finders l texts y →
       (x ≡ y) ⊎ (IsUndetermined l texts × AgreeOrFault l texts (printed x) (printed y))
-  line_one solvers line.Refused texts x y h k = inl (ended_one _ x y h k)
-  line_one solvers line.Help texts x y h k = inl (ended_one _ x y h k)
-  line_one solvers line.Closed texts x y h k = inl (search (rules, then_one, certified_one, tests_one))
-  line_one solvers line.Check texts x y h k = inl (search (rules, then_one, certified_one, tests_one))
-  line_one solvers (line.Judge compact) texts x y h k = judge_one_or compact texts x y h k
-  line_one solvers line.Sim texts x y h k = inl (sim_one texts x y h k)
-  line_one solvers (line.Lasso role) texts x y h k = inl (lasso_one role texts x y h k)
-  line_one solvers (line.LassoTlsf role) texts x y h k = inl (lasso_tlsf_one circuits stimuli words role texts x y h k)
-  line_one solvers (line.Verify order role) texts x y h k = verify_or_one order role texts x y h k
-  line_one solvers (line.VerifyTlsf role) texts x y h k = verify_tlsf_or_one role texts x y h k
-  line_one solvers (line.Shrink order role) texts x y h k = shrink_or_one order role texts x y h k
-  line_one solvers (line.ShrinkTlsf role) texts x y h k = shrink_tlsf_or_one role texts x y h k
-  line_one solvers line.Agree texts x y h k = agree_or_one texts x y h k
-  line_one solvers line.Translate text x y h k = translate_one_or own_translator text x y h k
-  line_one solvers (line.Solve compact) texts x y h k = solve_one_or solvers.built_in compact texts x y h k
-  line_one solvers (line.Game order) texts x y h k = inl (game_one order texts x y h k)
-  line_one solvers (line.Cert order compact) texts x y h k = cert_one_or solvers.built_in order compact texts x y h k
-  line_one solvers (line.Synth asked) texts x y h k = synth_one_or solvers asked texts asked.cert x y h k
-  line_one solvers line.SynthTlsf text x y h k =
-      synth_tlsf_one_or not_both_players text own_translator solvers.built_in x y h k
+  line_one finders line.Refused texts x y h k = inl (ended_one _ x y h k)
+  line_one finders line.Help texts x y h k = inl (ended_one _ x y h k)
+  line_one finders line.Closed texts x y h k = inl (search (rules, then_one, certified_one, tests_one))
+  line_one finders line.Check texts x y h k = inl (search (rules, then_one, certified_one, tests_one))
+  line_one finders (line.Judge compact) texts x y h k = judge_one_or compact texts x y h k
+  line_one finders line.Sim texts x y h k = inl (sim_one texts x y h k)
+  line_one finders (line.Lasso role) texts x y h k = inl (lasso_one role texts x y h k)
+  line_one finders (line.LassoTlsf role) texts x y h k = inl (lasso_tlsf_one circuits stimuli words role texts x y h k)
+  line_one finders (line.Verify order role) texts x y h k = verify_or_one order role texts x y h k
+  line_one finders (line.VerifyTlsf role) texts x y h k = verify_tlsf_or_one role texts x y h k
+  line_one finders (line.Shrink order role) texts x y h k = shrink_or_one order role texts x y h k
+  line_one finders (line.ShrinkTlsf role) texts x y h k = shrink_tlsf_or_one role texts x y h k
+  line_one finders line.Agree texts x y h k = agree_or_one texts x y h k
+  line_one finders line.Translate text x y h k = translate_one_or finders.translator text x y h k
+  line_one finders (line.Solve compact) texts x y h k = solve_one_or finders.solvers.built_in compact texts x y h k
+  line_one finders (line.Game order) texts x y h k = inl (game_one order texts x y h k)
+  line_one finders (line.Cert order compact) texts x y h k =
+      cert_one_or finders.solvers.built_in order compact texts x y h k
+  line_one finders (line.Synth asked) texts x y h k = synth_one_or finders.solvers asked texts asked.cert x y h k
+  line_one finders line.SynthTlsf text x y h k =
+      synth_tlsf_one_or not_both_players text finders.proposer x y h k
 
-  answers_one : (solvers : Solvers) (input : List ℕ) (a b : Reply) → AnswersInput solvers input a →
-      AnswersInput solvers input b → (a ≡ b) ⊎
+  answers_one : (finders : Finders) (input : List ℕ) (a b : Reply) → AnswersInput finders input a →
+      AnswersInput finders input b → (a ≡ b) ⊎
       ((l : Line) × IsLine (first_line input) l × IsUndetermined l (behind_line input) ×
       AgreeOrFault l (behind_line input) a b)
-  answers_one solvers input a b (l, is_line, (outcome, answers, e)) (l', is_line', (outcome', answers', e')) =
+  answers_one finders input a b (l, is_line, (outcome, answers, e)) (l', is_line', (outcome', answers', e')) =
       by (grind (arith, line_one, same))
     where
       same : l ≡ l'
@@ -358,8 +359,8 @@ module _ (games : OneGame) (certificates : OneCertificate) (flaws : OneFlaw) (ci
       by (inl one) = inl (e ∙ ap printed one ∙ sym e')
       by (inr (choice, alike)) = inr (l, is_line, choice, printed_so alike)
 
-  pub whole_one : (solvers : Solvers) → HasOneAnswer solvers
-  whole_one solvers input a b (inl (long, e)) (inl (long', e')) = inl (e ∙ sym e')
-  whole_one solvers input a b (inl (long, e)) (inr (short, h)) = absurd (omega (arith, long, short))
-  whole_one solvers input a b (inr (short, h)) (inl (long, e)) = absurd (omega (arith, long, short))
-  whole_one solvers input a b (inr (short, h)) (inr (short', k)) = answers_one solvers input a b h k
+  pub whole_one : (finders : Finders) → HasOneAnswer finders
+  whole_one finders input a b (inl (long, e)) (inl (long', e')) = inl (e ∙ sym e')
+  whole_one finders input a b (inl (long, e)) (inr (short, h)) = absurd (omega (arith, long, short))
+  whole_one finders input a b (inr (short, h)) (inl (long, e)) = absurd (omega (arith, long, short))
+  whole_one finders input a b (inr (short, h)) (inr (short', k)) = answers_one finders input a b h k

@@ -26,6 +26,7 @@ use Rattle.ps_program.specs.Outcomes.{Then}
 use Rattle.ps_program.specs.Program.{AnswersLine}
 use Rattle.ps_program.specs.Replies.{Reply, text_reply}
 use Rattle.ps_program.specs.Commands.Satisfying.{AnswersLassoTlsf, RunsSpecified}
+use Rattle.ps_program.specs.Finders.{Finders}
 use Rattle.ps_program.specs.Solvers.{Solvers}
 use Rattle.ps_program.specs.Commands.Synthesis.{AnswersBy, AnswersReport}
 use Rattle.ps_solver.specs.Solvers.{once_fed}
@@ -95,13 +96,13 @@ one_text false false true compact texts allowed fewer = allowed refl
 one_text false false false true texts allowed fewer = allowed refl
 one_text false false false false texts allowed fewer = fewer
 
-synth_given_missing : (solvers : Solvers) (tlsf moore : Bool) (asked : SynthLine) (texts : List ℕ) →
+synth_given_missing : (finders : Finders) (tlsf moore : Bool) (asked : SynthLine) (texts : List ℕ) →
     synth_line tlsf moore asked ≢ Refused → HasFewerSeparators (synth_count asked.cert - 1) texts →
-    Fails (AnswersLine solvers (synth_line tlsf moore asked) texts) missing_text
-synth_given_missing solvers true moore asked texts allowed fewer =
+    Fails (AnswersLine finders (synth_line tlsf moore asked) texts) missing_text
+synth_given_missing finders true moore asked texts allowed fewer =
     absurd (one_text asked.full asked.cert moore asked.compact texts allowed fewer)
-synth_given_missing solvers false moore asked texts allowed fewer =
-    λ outcome answers. synth_missing solvers asked asked.cert texts outcome fewer answers
+synth_given_missing finders false moore asked texts allowed fewer =
+    λ outcome answers. synth_missing finders.solvers asked asked.cert texts outcome fewer answers
 
 synth_counted : (cert : Bool) → 1 + length (filter (λ (each : Text × TextKind). cert)
     ((cert_flag, kind.Certificate) ∷ [])) ≡ synth_count cert
@@ -144,10 +145,10 @@ lasso_tlsf_missing : (role : Role) (texts : List ℕ) → HasFewerSeparators 2 t
 lasso_tlsf_missing role texts fewer = three_needed (λ parts. Then (ReadsSpecificationText parts.0) (λ spec.
     RunsSpecified role spec parts.1 parts.2)) texts fewer
 
-lasso_given_missing : (solvers : Solvers) (tlsf : Bool) (role : Role) (texts : List ℕ) → HasFewerSeparators 2 texts →
-    Fails (AnswersLine solvers (if tlsf then LassoTlsf role else Lasso role) texts) missing_text
-lasso_given_missing solvers true role texts fewer = lasso_tlsf_missing role texts fewer
-lasso_given_missing solvers false role texts fewer = lasso_missing role texts fewer
+lasso_given_missing : (finders : Finders) (tlsf : Bool) (role : Role) (texts : List ℕ) → HasFewerSeparators 2 texts →
+    Fails (AnswersLine finders (if tlsf then LassoTlsf role else Lasso role) texts) missing_text
+lasso_given_missing finders true role texts fewer = lasso_tlsf_missing role texts fewer
+lasso_given_missing finders false role texts fewer = lasso_missing role texts fewer
 
 verify_missing : (order : Order) (role : Role) (texts : List ℕ) → HasFewerSeparators 1 texts →
     Fails (AnswersVerify order role texts) missing_text
@@ -173,20 +174,20 @@ shrink_tlsf_missing role texts fewer = two_needed (λ parts. Then (ReadsSpecific
 abbrev chosen_line : (tlsf moore : Bool) → (specified automaton : Line) → Line
 chosen_line tlsf moore specified automaton = if tlsf then (if moore then Refused else specified) else automaton
 
-chosen_missing : (solvers : Solvers) (tlsf moore : Bool) (specified automaton : Line) (texts : List ℕ) →
-    chosen_line tlsf moore specified automaton ≢ Refused → Fails (AnswersLine solvers specified texts) missing_text →
-    Fails (AnswersLine solvers automaton texts) missing_text →
-    Fails (AnswersLine solvers (chosen_line tlsf moore specified automaton) texts) missing_text
-chosen_missing solvers true true specified automaton texts allowed one other = absurd (allowed refl)
-chosen_missing solvers true false specified automaton texts allowed one other = one
-chosen_missing solvers false moore specified automaton texts allowed one other = other
+chosen_missing : (finders : Finders) (tlsf moore : Bool) (specified automaton : Line) (texts : List ℕ) →
+    chosen_line tlsf moore specified automaton ≢ Refused → Fails (AnswersLine finders specified texts) missing_text →
+    Fails (AnswersLine finders automaton texts) missing_text →
+    Fails (AnswersLine finders (chosen_line tlsf moore specified automaton) texts) missing_text
+chosen_missing finders true true specified automaton texts allowed one other = absurd (allowed refl)
+chosen_missing finders true false specified automaton texts allowed one other = one
+chosen_missing finders false moore specified automaton texts allowed one other = other
 
 agree_missing : (texts : List ℕ) → HasFewerSeparators 1 texts → Fails (AnswersAgree texts) missing_text
 agree_missing texts fewer = two_needed (λ parts. Then (ReadsSpecificationText parts.0) (λ spec.
     ComparesText spec parts.1)) texts fewer
 
-pub texts_needed : (solvers : Solvers) → NeedsItsTexts solvers
-texts_needed solvers = (
+pub texts_needed : (finders : Finders) → NeedsItsTexts finders
+texts_needed finders = (
   λ given texts outcome allowed fewer answers. tests_missing IsClosed (codes "closed") texts fewer outcome answers,
   (
     λ given texts outcome allowed fewer answers. tests_missing IsValid (codes "valid") texts fewer outcome answers,
@@ -195,16 +196,16 @@ texts_needed solvers = (
       (
         λ given texts outcome allowed fewer answers. sim_missing texts fewer outcome answers,
         (
-          λ given texts outcome allowed fewer answers. lasso_given_missing solvers (given tlsf_flag)
+          λ given texts outcome allowed fewer answers. lasso_given_missing finders (given tlsf_flag)
               (role_given given) texts
               fewer outcome answers,
           (
-            λ given texts outcome allowed fewer answers. chosen_missing solvers (given tlsf_flag)
+            λ given texts outcome allowed fewer answers. chosen_missing finders (given tlsf_flag)
                 (given moore_flag) (VerifyTlsf (role_given given)) (Verify (order_given given) (role_given given)) texts
                 allowed (verify_tlsf_missing (role_given given) texts fewer)
                 (verify_missing (order_given given) (role_given given) texts fewer) outcome answers,
             (
-              λ given texts outcome allowed fewer answers. chosen_missing solvers (given tlsf_flag)
+              λ given texts outcome allowed fewer answers. chosen_missing finders (given tlsf_flag)
                   (given moore_flag) (ShrinkTlsf (role_given given)) (Shrink (order_given given) (role_given given))
                   texts
                   allowed (shrink_tlsf_missing (role_given given) texts fewer)
@@ -220,7 +221,7 @@ texts_needed solvers = (
                       (
                         λ given texts outcome allowed fewer answers. absurd fewer,
                         (
-                          λ given texts outcome allowed fewer answers. synth_given_missing solvers (given tlsf_flag)
+                          λ given texts outcome allowed fewer answers. synth_given_missing finders (given tlsf_flag)
                               (given moore_flag) (synth_given given) texts allowed
                               (subst (λ (n : ℕ). HasFewerSeparators (n - 1) texts) (synth_counted (given cert_flag))
                               fewer) outcome answers,

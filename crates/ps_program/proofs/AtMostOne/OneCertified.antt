@@ -29,7 +29,7 @@ use Rattle.ps_program.specs.Laws.Determined.{IsReplaying}
 use Rattle.ps_program.specs.Outcomes.{printed}
 use Rattle.ps_program.specs.Program.{AnswersInput, AnswersWhole}
 use Rattle.ps_program.specs.Replies.{Reply}
-use Rattle.ps_program.specs.Solvers.{Solvers}
+use Rattle.ps_program.specs.Finders.{Finders}
 use Rattle.ps_program.specs.StageFaults.{stage_line}
 use Rattle.ps_program.specs.Commands.Synthesis.{AnswersBy, AnswersReport, AnswersSynth, synthesis_reply}
 use Rattle.ps_program.specs.Texts.{CutsInTwo}
@@ -244,19 +244,20 @@ report_one files refusals outcomes games certificates circuits apart solver repl
 
 module _ (files : OneFile) (refusals : OneRefusal) (outcomes : OneOutcome) (games : OneFileGame)
     (certificates : OneCertificate) (circuits : OneWinnersCircuit)
-    (apart : CircuitOrNone) (solvers : Solvers) (replaying : IsReplaying solvers.replay) (asked : SynthLine)
+    (apart : CircuitOrNone) (finders : Finders) (replaying : IsReplaying finders.solvers.replay) (asked : SynthLine)
     (cert : asked.cert ≡ true) where
-  synth_one : (texts : List ℕ) → IsOne (AnswersSynth solvers asked texts)
+  synth_one : (texts : List ℕ) → IsOne (AnswersSynth finders.solvers asked texts)
   synth_one texts x y h k = then_one (CutsInTwo texts) (λ (parts : List ℕ × List ℕ). AnswersReport
-      (once_fed parts.1 solvers.replay) asked parts.0) (cut_one texts) (λ parts. search (rules, report_one)) x y
-      (subst (λ b. AnswersBy b solvers asked texts x) cert h) (subst (λ b. AnswersBy b solvers asked texts y) cert k)
+      (once_fed parts.1 finders.solvers.replay) asked parts.0) (cut_one texts) (λ parts. search (rules, report_one)) x y
+      (subst (λ b. AnswersBy b finders.solvers asked texts x) cert h)
+      (subst (λ b. AnswersBy b finders.solvers asked texts y) cert k)
 
   outcome_of : (input : List ℕ) → IsLine (first_line input) (line.Synth asked) → (a : Reply) →
-      AnswersInput solvers input a →
-      (x : Result Reply (List ℕ)) × AnswersSynth solvers asked (behind_line input) x × (a ≡ printed x)
+      AnswersInput finders input a →
+      (x : Result Reply (List ℕ)) × AnswersSynth finders.solvers asked (behind_line input) x × (a ≡ printed x)
   outcome_of input is_line a (l, is_other, (x, answers, e)) =
       grind (arith, is_line_one (first_line input) l (line.Synth asked) is_other is_line)
 
   pub certified_one : (input : List ℕ) → IsLine (first_line input) (line.Synth asked) → (a b : Reply) →
-      AnswersWhole solvers input a → AnswersWhole solvers input b → a ≡ b
+      AnswersWhole finders input a → AnswersWhole finders input b → a ≡ b
   certified_one input is_line a b h k = grind (arith, outcome_of, synth_one)

@@ -3,12 +3,11 @@ use Rattle.std.proofs.Common.{◌≡◌, ◌⊎◌, ◌∙◌, ℕ, List, Result
 use Rattle.std.proofs.Common.{sym}
 use Rattle.ps_text.specs.Answers.{Found}
 use Rattle.ps_circuit.specs.Circuits.{CircuitData}
-use Rattle.ps_solver.specs.Solvers.{SolverData, answers_now}
 use Rattle.ps_simulate.specs.declared.role.Role.{Role}
 use Rattle.ps_simulate.specs.declared.role.Role.TheVariants.{Controller, Environment}
 use Rattle.ps_specification.specs.Faults.{IsSpecificationFault}
 use Rattle.ps_specification.specs.Promises.{IsAnswerTo, KeepsSpecification}
-use Rattle.ps_specification.specs.Translating.{MayGive}
+use Rattle.ps_specification.specs.Proposing.{ProposerData}
 use Rattle.ps_specification.specs.declared.fault.SpecificationFault.{SpecificationFault}
 use Rattle.ps_specification.specs.declared.fault.SpecificationFault.TheVariants as specification
 use Rattle.ps_tlsf.specs.Reading.{answer_of}
@@ -50,10 +49,10 @@ module _ (apart : NotBothPlayers) (text : List ℕ) where
       (subst (λ (spec : Specification). IsAnswerTo spec Environment c)
       (one_spec text k.spec h.spec k.reads h.reads) h.answers))
 
-  module _ (gives : MayGive) (solver : SolverData) where
+  module _ (proposer : ProposerData) where
     -- a text that is refused has only the fault of its first error
     refused_line : (found : Found TlsfCause) (fault : SpecificationFault) (line : List ℕ) →
-        answer_of text ≡ Err found → IsSpecificationFault gives (answers_now solver) text fault →
+        answer_of text ≡ Err found → IsSpecificationFault proposer text fault →
         specification_line fault ≡ Some line →
         Some line ≡ specification_line (specification.Text found.cause found.offset)
     refused_line found (specification.Text cause offset) line refused h told =
@@ -63,14 +62,13 @@ module _ (apart : NotBothPlayers) (text : List ℕ) where
     refused_line found specification.NotTranslated line refused h told =
         let same = sym h.reads ∙ refused in cc
     refused_line found specification.NotJudged line refused h told = let same = sym h.reads ∙ refused in cc
-    refused_line found (specification.Synthesis fault) line refused h told = let same = sym h.reads ∙ refused in cc
     refused_line found specification.OutOfMemory line refused h told = cc
 
     abbrev Alike : Result Reply (List ℕ) → Result Reply (List ℕ) → Type 0
     Alike x y = IsFaultReply (printed x) ⊎ IsFaultReply (printed y) ⊎ AgreeInRole text (printed x) (printed y)
 
-    alike : (x y : Result Reply (List ℕ)) → AnswersSynthTlsf gives solver text x →
-        AnswersSynthTlsf gives solver text y → Alike x y
+    alike : (x y : Result Reply (List ℕ)) → AnswersSynthTlsf proposer text x →
+        AnswersSynthTlsf proposer text y → Alike x y
     alike x y (inl (line, h, e)) k = inl (line, ap printed e)
     alike x y (inr (winner, h, e)) (inl (line, k, f)) = inr (inl (line, ap printed f))
     alike x y (inr (winner, h, e)) (inr (other, k, f)) =
@@ -86,14 +84,14 @@ module _ (apart : NotBothPlayers) (text : List ℕ) where
         }))
 
     refused_one : (found : Found TlsfCause) → answer_of text ≡ Err found → (x : Result Reply (List ℕ)) →
-        AnswersSynthTlsf gives solver text x → IsRefusedAs found x
-    refused_one found refused x (inl (line, (fault, h, sure, told), e)) =
+        AnswersSynthTlsf proposer text x → IsRefusedAs found x
+    refused_one found refused x (inl (line, (fault, h, told), e)) =
         (line, e, refused_line found fault line refused h told)
     refused_one found refused x (inr (winner, h, e)) = absurd (let same = sym h.reads ∙ refused in cc)
 
     -- two results are equal, or the text is that of a specification, and the two are alike
-    pub synth_tlsf_one_or : (x y : Result Reply (List ℕ)) → AnswersSynthTlsf gives solver text x →
-        AnswersSynthTlsf gives solver text y →
+    pub synth_tlsf_one_or : (x y : Result Reply (List ℕ)) → AnswersSynthTlsf proposer text x →
+        AnswersSynthTlsf proposer text y →
         (x ≡ y) ⊎ (((spec : Specification) × ReadsSpecificationText text (Ok spec)) × Alike x y)
     synth_tlsf_one_or x y h k = one_or_alike text x y (Alike x y) (alike x y h k)
         (λ found refused. refused_one found refused x h) (λ found refused. refused_one found refused y k)

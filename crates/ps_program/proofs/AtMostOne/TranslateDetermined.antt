@@ -28,7 +28,6 @@ module _ (gives : MayGive) (text : List ℕ) where
       (let inside : (record { cause = cause; offset = offset }) ≡ found = cc in inside)
   refused_line found specification.NotTranslated line refused h told = let same = sym h.reads ∙ refused in cc
   refused_line found specification.NotJudged line refused h told = let same = sym h.reads ∙ refused in cc
-  refused_line found (specification.Synthesis fault) line refused h told = let same = sym h.reads ∙ refused in cc
   refused_line found specification.OutOfMemory line refused h told = cc
 
   abbrev Alike : Result Reply (List ℕ) → Result Reply (List ℕ) → Type 0

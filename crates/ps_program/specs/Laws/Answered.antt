@@ -1,19 +1,19 @@
 -- For each command except `verify`, `shrink`, `agree`, `translate` and `synth --tlsf`, and under conditions on the
 -- solvers, each input has an answer: some reply (the printed bytes and the exit status) meets the definition of an
 -- answer.
--- - `HasReply solvers input`: some reply is an answer to the input
+-- - `HasReply finders input`: some reply is an answer to the input
 -- - `IsPlainLine line`: the line is of one of the other commands, and calls no solver
 -- - `HasSomeLine`: each first line has a meaning as a `Line`
--- - `HasSomeAnswer solvers`: each input has an answer, if its first line is plain (`IsPlainLine`)
+-- - `HasSomeAnswer finders`: each input has an answer, if its first line is plain (`IsPlainLine`)
 -- - `MayCertify solver`: for each game, some valid certificate is a possible answer of the solver
 -- - `MayReplay solver`: once the solver was given the text of a certificate, the result of parsing this text is a
 --   possible answer of the solver, even if the certificate is wrong
--- - `HasSomeSolved solvers`: if `MayCertify` holds for the built-in solver, each input with the command `solve` or
+-- - `HasSomeSolved finders`: if `MayCertify` holds for the built-in solver, each input with the command `solve` or
 --   `cert` has an answer
 -- - `OfEachSynthesis solver asked text P`: P holds of the game, the certificate and the circuit of each answer that the
 --   command `synth` may print
 -- - `FitsInWords s`: the numbers in the texts of a game, a certificate and a circuit fit in 64 bits
--- - `HasSomeSynthesis solvers`: an input with the command `synth` has an answer under two conditions. `MayCertify` or
+-- - `HasSomeSynthesis finders`: an input with the command `synth` has an answer under two conditions. `MayCertify` or
 --   `MayReplay` holds for the solver that `synth` calls. `IsPrinted` holds for each valid certificate that the solver
 --   may return, and for the winner's circuit that it gives
 use Rattle.std.specs.Prelude.{◌≡◌, ⊤, ℕ, Bool, true, false, List, Some, Result, Ok}
@@ -36,12 +36,13 @@ use Rattle.ps_program.specs.CommandLine.{IsLine}
 use Rattle.ps_program.specs.Cut.{behind_line, first_line}
 use Rattle.ps_program.specs.Program.{AnswersInput}
 use Rattle.ps_program.specs.Replies.{Reply}
+use Rattle.ps_program.specs.Finders.{Finders}
 use Rattle.ps_program.specs.Solvers.{Solvers}
 use Rattle.ps_program.specs.Commands.Synthesis.{IsPrinted}
 use Rattle.ps_program.specs.Texts.{CutsInTwo}
 
-abbrev pub HasReply : Solvers → List ℕ → Type 0
-HasReply solvers input = (reply : Reply) × AnswersInput solvers input reply
+abbrev pub HasReply : Finders → List ℕ → Type 0
+HasReply finders input = (reply : Reply) × AnswersInput finders input reply
 
 -- ---- commands that call no solver
 
@@ -60,9 +61,9 @@ IsPlainLine line = ⊥
 abbrev pub HasSomeLine : Type 0
 HasSomeLine = (first_line : List ℕ) → (line : Line) × IsLine first_line line
 
-abbrev pub HasSomeAnswer : Solvers → Type 0
-HasSomeAnswer solvers =
-    (input : List ℕ) (line : Line) → IsLine (first_line input) line → IsPlainLine line → HasReply solvers input
+abbrev pub HasSomeAnswer : Finders → Type 0
+HasSomeAnswer finders =
+    (input : List ℕ) (line : Line) → IsLine (first_line input) line → IsPlainLine line → HasReply finders input
 
 -- ---- commands that call a solver
 
@@ -81,9 +82,9 @@ IsSolved (Solve compact) = ⊤
 IsSolved (Cert order compact) = ⊤
 IsSolved line = ⊥
 
-abbrev pub HasSomeSolved : Solvers → Type 0
-HasSomeSolved solvers = MayCertify solvers.built_in → (input : List ℕ) (line : Line) →
-    IsLine (first_line input) line → IsSolved line → HasReply solvers input
+abbrev pub HasSomeSolved : Finders → Type 0
+HasSomeSolved finders = MayCertify finders.solvers.built_in → (input : List ℕ) (line : Line) →
+    IsLine (first_line input) line → IsSolved line → HasReply finders input
 
 -- P holds for the automaton's game, each valid certificate that this solver may return for the game, and the winner's
 -- circuit that the certificate gives
@@ -116,6 +117,6 @@ MaySynthesise true solvers asked texts = MayReplay solvers.replay
     × ((text certificate : List ℕ) → CutsInTwo texts (Ok (text, certificate)) →
     IsPrintedBy (once_fed certificate solvers.replay) asked text)
 
-abbrev pub HasSomeSynthesis : Solvers → Type 0
-HasSomeSynthesis solvers = (input : List ℕ) (asked : SynthLine) → IsLine (first_line input) (Synth asked) →
-    MaySynthesise asked.cert solvers asked (behind_line input) → HasReply solvers input
+abbrev pub HasSomeSynthesis : Finders → Type 0
+HasSomeSynthesis finders = (input : List ℕ) (asked : SynthLine) → IsLine (first_line input) (Synth asked) →
+    MaySynthesise asked.cert finders.solvers asked (behind_line input) → HasReply finders input

@@ -13,10 +13,10 @@
 -- - `AgreeAsLosing Loses a b`: both answers show a stimulus on which the circuit loses
 -- - `AgreeAsSmaller Winning c a b`: both answers print a circuit that wins and is not larger than the circuit
 -- - `AgreeInLoser named given a b`: both answers report a cycle that the same player loses
--- - `HasOneAnswer solvers`: any two answers to the same input are equal, or the command allows several answers; then
+-- - `HasOneAnswer finders`: any two answers to the same input are equal, or the command allows several answers; then
 --   the two agree as `Agree` states, or the command calls a solver and one of the two answers reports a fault
--- - `HasOneCertified solvers`: with a given certificate, `synth` has one answer if its solver only parses it
--- - `NeedsItsTexts solvers`: a command that is not refused and has fewer texts than it needs has one answer: a text is
+-- - `HasOneCertified finders`: with a given certificate, `synth` has one answer if its solver only parses it
+-- - `NeedsItsTexts finders`: a command that is not refused and has fewer texts than it needs has one answer: a text is
 --   missing
 use Rattle.std.specs.Prelude.{◌≡◌, ◌≢◌, ◌<◌, ◌⊎◌, ◌+◌, ◌-◌, ℕ, Bool, true, false, List, Option, Result, Ok, Err, filter}
 use Rattle.std.specs.Prelude.{length}
@@ -48,7 +48,7 @@ use Rattle.ps_program.specs.Commands.Judging.{ReadsSolved, Loses, LosesCycle, cy
 use Rattle.ps_program.specs.Program.{AnswersLine, AnswersWhole}
 use Rattle.ps_program.specs.Replies.{Reply, fault_reply, text_reply}
 use Rattle.ps_program.specs.Commands.Shrinking.{IsSmallerReply}
-use Rattle.ps_program.specs.Solvers.{Solvers}
+use Rattle.ps_program.specs.Finders.{Finders}
 use Rattle.ps_program.specs.Commands.Synthesis.{synthesis_reply}
 use Rattle.ps_program.specs.Commands.SynthesisTlsf.{winner_reply}
 use Rattle.ps_program.specs.Commands.Verifying.{ReadsVerified, loses_reply}
@@ -228,17 +228,18 @@ AgreeOrFault line texts a b = IsFaultReply a ⊎ IsFaultReply b ⊎ Agree line t
 
 -- Any two answers to the same input are equal, unless the input's command allows several answers (`IsUndetermined`).
 -- If the command allows several answers, any two answers agree, except for a solver's faults (`AgreeOrFault`).
-abbrev pub HasOneAnswer : Solvers → Type 0
-HasOneAnswer solvers = (input : List ℕ) (a b : Reply) → AnswersWhole solvers input a → AnswersWhole solvers input b
+abbrev pub HasOneAnswer : Finders → Type 0
+HasOneAnswer finders = (input : List ℕ) (a b : Reply) → AnswersWhole finders input a → AnswersWhole finders input b
     → (a ≡ b) ⊎ ((line : Line) × IsLine (first_line input) line × IsUndetermined line (behind_line input) ×
     AgreeOrFault line (behind_line input) a b)
 
 -- if `synth` is given a certificate, and its solver only returns the result of parsing that certificate, there is one
 -- answer
-abbrev pub HasOneCertified : Solvers → Type 0
-HasOneCertified solvers = IsReplaying solvers.replay → (asked : SynthLine) → asked.cert ≡ true → (input : List ℕ) →
+abbrev pub HasOneCertified : Finders → Type 0
+HasOneCertified finders = IsReplaying finders.solvers.replay → (asked : SynthLine) → asked.cert ≡ true →
+    (input : List ℕ) →
     IsLine (first_line input) (Synth asked)
-    → (a b : Reply) → AnswersWhole solvers input a → AnswersWhole solvers input b → a ≡ b
+    → (a b : Reply) → AnswersWhole finders input a → AnswersWhole finders input b → a ≡ b
 
 -- the number of texts that a command reads with the given flags
 abbrev pub text_count : Usage → (Text → Bool) → ℕ
@@ -246,8 +247,8 @@ text_count usage given = length usage.texts + length (filter (λ each. given eac
 
 -- a command with fewer texts than it needs has one answer, which reports the missing text; flags that exclude each
 -- other are refused before any text is read
-abbrev pub NeedsItsTexts : Solvers → Type 0
-NeedsItsTexts solvers =
+abbrev pub NeedsItsTexts : Finders → Type 0
+NeedsItsTexts finders =
     AllByRecursion (λ usage. (given : Text → Bool) (texts : List ℕ) (outcome : Result Reply (List ℕ)) →
     usage.line given ≢ Refused → HasFewerSeparators (text_count usage given - 1) texts →
-    AnswersLine solvers (usage.line given) texts outcome → outcome ≡ Err missing_text) commands
+    AnswersLine finders (usage.line given) texts outcome → outcome ≡ Err missing_text) commands

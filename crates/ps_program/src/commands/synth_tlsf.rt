@@ -9,23 +9,15 @@ ghost use Rattle.ps_synthesis.specs.Printing.{PrintsCircuit};
 
 use crate::answer::{Answer, Refusal};
 use crate::printing::print_circuit;
-use ps_machine::Solver;
 use ps_simulate::Role;
-use ps_specification::{Translator, Winner, synthesise_specification};
+use ps_specification::{Proposer, Winner, synthesise_specification};
 use std::alloc::{AllocError, Global};
 
 /// The circuit for the specification of a text, judged by it. Fails with the fault of synthesis.
-pub fn synth_tlsf<T: Translator, S: Solver>(
-    alloc: Global,
-    text: &[u8],
-    translator: &T,
-    solver: &mut S,
-) -> Result<Answer, Refusal>
-    ensures answer { Gives reply_of (AnswersSynthTlsf (T.may_give translator.now) (S.known solver.old) text.now)
-        result }
-    ensures kept { (S.known solver.new).is_sure ≡ (S.known solver.old).is_sure }
+pub fn synth_tlsf<P: Proposer>(alloc: Global, text: &[u8], proposer: &P) -> Result<Answer, Refusal>
+    ensures { Gives reply_of (AnswersSynthTlsf (P.known proposer.now) text.now) result }
 {
-    let winner = synthesise_specification(alloc, text, translator, solver)?;
+    let winner = synthesise_specification(alloc, text, proposer)?;
     Ok(print_winner(alloc, &winner)?)
 }
 

@@ -6,4 +6,4 @@ pub returns : goal.returns
 returns g c = circuits_verified
     (automaton_one c.one_answer-2.ensures c.refusal_is_one.ensures.one c.refusal_is_one.ensures.apart)
     (circuit_one c.one_answer.ensures) c.judgement_is_one.ensures.apart c.witness_wins.ensures
-    g.S.KnownSolvers.solvers.built_in
+    g.F.KnownFinders.finders.solvers.built_in

@@ -1,4 +1,4 @@
-use Rattle.ps_program.specs.Solvers.{Solvers}
+use Rattle.ps_program.specs.Finders.{Finders}
 use Rattle.ps_program.proofs.AtLeastOne.SomeAnswer.{plain_some, solved_some, synthesis_some}
 use Rattle.ps_program.proofs.AtLeastOne.SomeLaws.{Below}
 use Rattle.ps_program.proofs.AtLeastOne.SomeLine.{is_line_some}
@@ -6,7 +6,7 @@ use Rattle.ps_program.proofs.laws.some_answer.Goals as goal
 
 pub returns : goal.returns
 returns g c =
-    let solvers : Solvers = g.S.KnownSolvers.solvers in
+    let finders : Finders = g.F.KnownFinders.finders in
     let below : Below = record {
       some_game = c.some_answer.ensures;
       game_sound = c.read_game_is_game.ensures;
@@ -37,7 +37,7 @@ returns g c =
     } in
     record {
       line = is_line_some;
-      answer = plain_some below solvers;
-      solved = solved_some below solvers;
-      synthesis = synthesis_some below solvers;
+      answer = plain_some below finders;
+      solved = solved_some below finders;
+      synthesis = synthesis_some below finders;
     }

@@ -1,20 +1,21 @@
 use Rattle.std.proofs.Common.{subst, ℕ, List}
 use Rattle.ps_program.specs.Program.{AnswersInput, Writes}
 use Rattle.ps_program.specs.Replies.{reply_of}
-use Rattle.ps_program.specs.Solvers.{Solvers, solvers_of}
+use Rattle.ps_program.specs.Finders.{Finders, finders_of}
 use Rattle.ps_program.specs.Streams.{sink_state}
 use Rattle.ps_program.proofs.ProgramLemmas.{replies_answer}
 use Rattle.psyn.proofs.run.run_by.Goals as goal
 
 pub returns-in-Ok-answer_to-clause-answered : goal.returns-in-Ok-answer_to-clause-answered
 returns-in-Ok-answer_to-clause-answered g c =
-    let solvers : Solvers = solvers_of (g.S.Solver.known c.args.built_in.now) (g.T.Solver.known c.args.replay.now) in
+    let finders : Finders = finders_of (g.S.Solver.known c.args.built_in.now) (g.T.Solver.known c.args.replay.now)
+    (g.P.Proposer.known c.args.proposer.now) (g.U.Translator.may_give c.args.translator.now) in
     let state = sink_state g.W.Sink.contents g.W.Sink.has_failed g.W.Sink.has_stalled g.W.Sink.is_flushed in
     let answer = c.in-Ok-answer_to.answer in
     let read = c.in-Ok.ensures.read in (
       reply_of answer,
-      replies_answer solvers _ _ c.in-Ok.input.items _ read.0 read.1 read.2
-          (subst (λ (input : List ℕ). AnswersInput solvers input (reply_of answer)) c.as_slice.ensures.value
+      replies_answer finders _ _ c.in-Ok.input.items _ read.0 read.1 read.2
+          (subst (λ (input : List ℕ). AnswersInput finders input (reply_of answer)) c.as_slice.ensures.value
           c.in-Ok-answer_to.ensures.answer),
       subst (λ (text : List ℕ). Writes (state c.args.writer.now) (state c.write_reply.new.writer)
           (record { text = text; status = answer.status }) c.write_reply.result)
