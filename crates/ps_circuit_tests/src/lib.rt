@@ -9,6 +9,8 @@ mod lanes;
 #[cfg(test)]
 mod machines;
 #[cfg(test)]
+mod parts;
+#[cfg(test)]
 mod problems;
 #[cfg(test)]
 mod solvers;
