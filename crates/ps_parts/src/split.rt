@@ -55,8 +55,8 @@ pub enum Extent {
     Many,
     /// The same, but parts with the same automaton are one, as `Merging` tells.
     Merged,
-    /// Into a part for each operand of a conjunction, also inside `G`, but that those which depend on finitely many letters
-    /// are one.
+    /// Into a part for each operand of a conjunction, also inside `G`, but that those which depend on finitely many
+    /// letters are one.
     Each,
 }
 
@@ -199,7 +199,7 @@ impl<M: Merging + Drop> Split<M> {
             return self.each(depth - 1, world, form, is_negated);
         }
         if self.way.extent == Extent::Each
-            && let Some(inner) = globally_many(world, form)?
+            && let Some(inner) = globally_many(world, form)
         {
             return self.globally_each(depth - 1, world, inner, is_negated);
         }
@@ -238,8 +238,9 @@ impl<M: Merging + Drop> Split<M> {
         Ok(made)
     }
 
-    /// Like `function_at`, of a conjunction: its bounded operands are a part, and so are those of the form `G f` where f
-    /// speaks of one letter; each other operand is a part of its own.
+    /// Like `function_at`, of a conjunction: its bounded operands are a part, as are some of the form `G f` where f
+    /// speaks of one letter, each of which shares a proposition with one before it; each other operand is a part of its
+    /// own.
     #[cycle(function)]
     fn each(
         &mut self,
@@ -254,7 +255,9 @@ impl<M: Merging + Drop> Split<M> {
         for operand in &world.forms.operands(form)? {
             if world.forms.class(*operand).is_bounded() {
                 bounded = world.forms.both(bounded, *operand)?;
-            } else if let Some(inner) = globally_instant(world, *operand)? {
+            } else if let Some(inner) = globally_instant(world, *operand)?
+                && is_near(&world.forms, instant, inner)?
+            {
                 instant = world.forms.both(instant, inner)?;
             } else {
                 let one = self.function_at(depth, world, *operand, is_negated)?;
@@ -268,8 +271,8 @@ impl<M: Merging + Drop> Split<M> {
         world.diagrams.both(made, rest)
     }
 
-    /// Like `function_at`, of `G f` where f is a conjunction: `G` of each operand is a part, but that those which speak of
-    /// one letter are one.
+    /// Like `function_at`, of `G f` where f is a conjunction: `G` of each operand is a part, but that some which speak
+    /// of one letter are one, each of which shares a proposition with one before it.
     #[cycle(function)]
     fn globally_each(
         &mut self,
@@ -281,7 +284,7 @@ impl<M: Merging + Drop> Split<M> {
         let mut made = diagrams::TRUE;
         let mut instant = TRUE;
         for operand in &world.forms.operands(inner)? {
-            if is_instant(&world.forms, *operand)? {
+            if is_instant(&world.forms, *operand)? && is_near(&world.forms, instant, *operand)? {
                 instant = world.forms.both(instant, *operand)?;
             } else {
                 let kept = world.forms.release(FALSE, *operand)?;
@@ -405,14 +408,13 @@ fn is_many(world: &Progression, form: Form) -> bool {
     matches!(world.forms.node(form), NormalNode::And(..)) && !world.forms.class(form).is_bounded()
 }
 
-/// The conjunction f if a formula is `G f`, and f is a conjunction that speaks of several letters.
-fn globally_many(world: &Progression, form: Form) -> Result<Option<Form>, Stop> {
-    let Some(inner) = globally(&world.forms, form) else {
-        return Ok(None);
-    };
-    let is_many = matches!(world.forms.node(inner), NormalNode::And(..))
-        && !is_instant(&world.forms, inner)?;
-    Ok(if is_many { Some(inner) } else { None })
+/// The conjunction f if a formula is `G f`, and f is a conjunction.
+fn globally_many(world: &Progression, form: Form) -> Option<Form> {
+    let inner = globally(&world.forms, form)?;
+    match world.forms.node(inner) {
+        NormalNode::And(..) => Some(inner),
+        _ => None,
+    }
 }
 
 /// The formula f if a formula is `G f`, and f speaks of one letter.
@@ -430,6 +432,22 @@ fn globally(forms: &Forms, form: Form) -> Option<Form> {
         NormalNode::Release(FALSE, f) => Some(f),
         _ => None,
     }
+}
+
+/// Whether a formula shares a proposition with another one, or that is true.
+fn is_near(forms: &Forms, other: Form, form: Form) -> Result<bool, Stop> {
+    Ok(other == TRUE || propositions(forms, other)? & propositions(forms, form)? != 0)
+}
+
+/// The propositions of a formula, one bit for each.
+fn propositions(forms: &Forms, form: Form) -> Result<u64, Stop> {
+    let mut found = 0;
+    for each in &forms.below(form)? {
+        if let NormalNode::Proposition(p) | NormalNode::Negated(p) = forms.node(*each) {
+            found |= 1u64.checked_shl(p).unwrap_or(0);
+        }
+    }
+    Ok(found)
 }
 
 /// Whether a formula speaks of one letter: it has no temporal operator.

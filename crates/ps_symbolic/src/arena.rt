@@ -1,7 +1,7 @@
 //! The product of all automata, as functions of bits and letters.
 //!
-//! A state is the truth of all bits; in the first one, all are false. A letter is the truth of all propositions. Each bit
-//! has a function for its next truth, and each colour one for its edges. The diagrams test a variable for each
+//! A state is the truth of all bits; in the first one, all are false. A letter is the truth of all propositions. Each
+//! bit has a function for its next truth, and each colour one for its edges. The diagrams test a variable for each
 //! proposition, and two for each bit: now, and (one behind) in the next state. Before them come those of the memory.
 
 use crate::automata::{Automata, End, Question};
@@ -205,14 +205,16 @@ impl Arena {
         view: Place,
         question: Question,
     ) -> Result<Diagram, Stop> {
-        let mut answers = self.answers(automata, view.place, question)?;
-        if automata
-            .list
-            .get(view.place)
-            .is_some_and(|each| each.changes().is_forgotten)
-        {
-            return self.in_each(&answers);
+        if let Some(aim) = aim_of(automata, view.place) {
+            return match question {
+                Question::Marked => {
+                    let world = &automata.world.diagrams;
+                    self.transfer.copied(world, &mut self.diagrams, aim)
+                }
+                _ => Ok(diagrams::FALSE),
+            };
         }
+        let mut answers = self.answers(automata, view.place, question)?;
         for bit in 0..view.bits {
             let variable = self.variables.get(view.item.saturating_add(bit));
             self.halve(variable, &mut answers)?;
@@ -238,15 +240,6 @@ impl Arena {
             answers.push(copied)?;
         }
         Ok(answers)
-    }
-
-    /// The letters with the answer yes in each state.
-    fn in_each(&mut self, answers: &[Diagram]) -> Result<Diagram, Stop> {
-        let mut made = diagrams::TRUE;
-        for answer in answers {
-            made = self.diagrams.both(made, *answer)?;
-        }
-        Ok(made)
     }
 
     /// Makes one answer of each two that differ in a bit. Where there is one alone, the bit does not matter.
@@ -275,6 +268,14 @@ impl Arena {
             start = self.diagrams.both(start, literal)?;
         }
         Ok(start)
+    }
+}
+
+/// The aim of a part that forgets its states.
+fn aim_of(automata: &Automata, place: usize) -> Option<Diagram> {
+    match automata.list.get(place) {
+        Some(automaton) if automaton.changes().is_forgotten => Some(automaton.aim),
+        _ => None,
     }
 }
 

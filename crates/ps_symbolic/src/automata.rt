@@ -1,7 +1,8 @@
 //! The parts of a formula, each with the states of its automaton.
 //!
 //! A part that has failed, or that is met, may decide the play, whatever the others do: then the state is none, and the
-//! edge that leads there is won or lost. All other states get a number each, from 0, in the order in which they are met.
+//! edge that leads there is won or lost. All other states get a number each, from 0, in the order in which they are
+//! met. An automaton has at most 4,096 states; the steps are those of the diagrams of what is owed.
 
 use ps_keys::{KeyList, mixed};
 use ps_parts::diagrams::{self, Diagram, Diagrams, Literal, View};
@@ -39,6 +40,10 @@ pub(crate) enum Question {
     Bit(u32),
     /// Whether the letter is marked.
     Marked,
+    /// Whether the letter is marked, also where the automaton comes to an end.
+    Recurs,
+    /// Whether it comes to the state with a number without a mark.
+    Comes(u32),
     /// Whether the automaton has failed, where that is a state.
     Failed,
     /// Whether the automaton comes to such an end.
@@ -58,6 +63,8 @@ pub(crate) struct Automaton {
     /// Whether it has failed in some run.
     may_fail: bool,
     changes: Changes,
+    /// What is marked if the states are forgotten.
+    pub(crate) aim: Diagram,
 }
 
 /// How a part is changed.
@@ -69,7 +76,7 @@ pub(crate) struct Changes {
     pub(crate) is_assumed: bool,
     /// Whether the part is taken as false.
     pub(crate) is_denied: bool,
-    /// Whether its states are forgotten: a letter is marked where it is marked in each state.
+    /// Whether its states are forgotten: it then holds if letters of its aim recur.
     pub(crate) is_forgotten: bool,
 }
 
@@ -140,6 +147,7 @@ impl Automata {
             support: 0,
             may_fail: false,
             changes: Changes::NONE,
+            aim: diagrams::FALSE,
         })?;
         Ok(())
     }
@@ -158,7 +166,8 @@ impl Automata {
         Ok(())
     }
 
-    /// Takes the parts as true or false that are to be, and explores the automata of the parts on which the skeleton depends.
+    /// Takes the parts as true or false that are to be, and explores the automata of the parts on which the skeleton
+    /// depends.
     pub(crate) fn prepare(&mut self) -> Result<(), Stop> {
         self.skeleton = self.whole;
         for place in 0..self.list.len() {
@@ -205,6 +214,19 @@ impl Automata {
         let high = self.fixed(place, true)?;
         let (less, more) = if is_harm { (high, low) } else { (low, high) };
         Ok(low != high && self.world.diagrams.is_within(less, more)?)
+    }
+
+    /// Lets a part forget its states, if it may; gives whether it does.
+    pub(crate) fn forget(&mut self, place: usize, other: Diagram) -> Result<bool, Stop> {
+        let Some(automaton) = self.list.get_mut(place) else {
+            return Ok(false);
+        };
+        if !automaton.can_be_forgotten() {
+            return Ok(false);
+        }
+        automaton.find_aim(&mut self.world, other)?;
+        automaton.changes.is_forgotten = automaton.aim != diagrams::FALSE;
+        Ok(automaton.changes.is_forgotten)
     }
 
     /// Explores the automata of the parts on which the skeleton depends.
@@ -256,6 +278,11 @@ impl Automaton {
     /// How the part is changed.
     pub(crate) fn changes(&self) -> Changes {
         self.changes
+    }
+
+    /// Lets the part have its states.
+    pub(crate) fn remember(&mut self) {
+        self.changes.is_forgotten = false;
     }
 
     /// Changes the part.
@@ -363,8 +390,12 @@ impl Automaton {
     fn answer(&self, question: Question, outcome: Outcome) -> bool {
         let end = self.end_at(outcome.state);
         match question {
-            Question::Ended(given) => end == given && !self.changes.is_forgotten,
-            Question::Marked if self.changes.is_forgotten => end == End::Won || outcome.is_marked,
+            Question::Ended(given) => end == given,
+            Question::Recurs => outcome.is_marked,
+            Question::Comes(code) => {
+                let place = self.states.find(outcome.state as u64);
+                !outcome.is_marked && place == Some(code as usize)
+            }
             _ if end != End::Open => false,
             Question::Marked => outcome.is_marked,
             Question::Failed => outcome.state == FAILED,

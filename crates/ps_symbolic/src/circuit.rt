@@ -1,7 +1,7 @@
 //! The circuit of functions.
 //!
-//! Its inputs are the propositions of the other player, its outputs those of its own, in the order of the specification.
-//! A bit of the turn or the state is a latch if the outputs depend on it, now or later.
+//! Its inputs are the propositions of the other player, its outputs those of its own, in the order of the
+//! specification. A bit of the turn or the state is a latch if the outputs depend on it, now or later.
 
 use crate::arena::{MEMORY, turn_now};
 use crate::functions::Functions;

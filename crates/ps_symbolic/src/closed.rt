@@ -1,7 +1,8 @@
 //! The closed loop of chosen functions: what they reach, and whether they win there.
 //!
 //! Functions are first chosen for the first state alone. If they reach states at which they do not meet the moves, the
-//! first of those matter too, and all are chosen again. The number of such repairs is limited.
+//! first of those matter too, and all that no longer fit are chosen again. There are at most 256 such repairs; after
+//! some, more states are taken to matter than were reached.
 //!
 //! The states after some states are found bit by bit; a variable is projected as soon as no later bit needs it (Burch,
 //! Clarke, Long, "Symbolic Model Checking with Partitioned Transition Relations", 1991).
@@ -55,6 +56,7 @@ pub(crate) struct Closed {
 pub(crate) fn win(alloc: Global, functions: &mut Functions) -> Result<Diagram, Stop> {
     functions.care = functions.start;
     for repair in 0..REPAIRS {
+        functions.renew(alloc)?;
         functions.choose()?;
         let mut closed = Closed::new(alloc, functions.start);
         let bad = closed.first_bad(functions);

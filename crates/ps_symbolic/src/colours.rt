@@ -1,8 +1,9 @@
 //! What recurs in a play: its colours.
 //!
-//! The parts that hold if an edge is marked again and again have a colour each, their marked edges. A part that holds if
-//! its automaton never fails has none if its failure decides the play. Else its colour is having failed; parts of which
-//! it does not matter which have failed share one.
+//! The parts that hold if an edge is marked again and again have a colour each, their marked edges. A part that holds
+//! if its automaton never fails has none if its failure decides the play. Else its colour is having failed; parts of
+//! which it does not matter which have failed share one. There are at most 64 colours (Emerson, Lei, "Modalities for
+//! Model Checking: Branching Time Logic Strikes Back", 1987: conditions on what recurs).
 
 use crate::automata::{Automata, Automaton, End};
 use ps_keys::KeyMap;

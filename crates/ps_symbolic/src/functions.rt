@@ -1,12 +1,13 @@
 //! Functions for the winner's outputs and the next turn, chosen one after another.
 //!
-//! For each function there are two bounds: where it must be true, so that the moves that are left are met by some choice
-//! of all that comes later, and where it may be. Outside the states that matter both leave it free. A variable that can be
-//! left out is: first bits of automata, those far away before others, then propositions, then bits of the turn. Last a
-//! small function between the bounds is taken (Coudert, Madre, "A Unified Framework for the Formal Verification of
-//! Sequential Circuits", 1990).
+//! For each function there are two bounds: where it must be true, so that the moves that are left are met by some
+//! choice of all that comes later, and where it may be. Outside the states that matter both leave it free. A variable
+//! that can be left out is: first bits of automata, those far away before others, then propositions, then bits of the
+//! turn. Last a small function between the bounds is taken (Coudert, Madre, "A Unified Framework for the Formal
+//! Verification of Sequential Circuits", 1990).
 //!
-//! What comes later is projected once, from the last function to the first; each function then puts in the earlier ones.
+//! What comes later is projected once, from the last function to the first; each function then puts in the earlier
+//! ones.
 
 use crate::arena::{Bit, MEMORY, turn_next, turn_now};
 use crate::game::{Game, Turn};
@@ -23,7 +24,7 @@ use std::alloc::Global;
 pub(crate) struct Unknown {
     pub(crate) variable: u32,
     /// The moves, where all that comes later is projected.
-    projected: Diagram,
+    pub(crate) projected: Diagram,
     /// Its function, as soon as it is chosen.
     pub(crate) function: Diagram,
 }
@@ -284,7 +285,8 @@ impl Functions {
         })
     }
 
-    /// Bounds without the variables that can be left out: those that the lower bound can do without below the upper one.
+    /// Bounds without the variables that can be left out: those that the lower bound can do without below the upper
+    /// one.
     pub(crate) fn without_variables(
         &mut self,
         bounds: Bounds,

@@ -1,11 +1,11 @@
 //! The game, solved by nested fixpoints along the Zielonka tree.
 //!
-//! A player wins from a state with a node of the tree if, from there on, an edge is taken that leaves the colours of the
-//! node and does well for a node above it, or else just colours of the node recur, and the player wins by them. Where the
-//! player wins by all colours of the node, this is a greatest fixpoint: for each child, the player wins until an edge
-//! leaves the child's colours and leads to the fixpoint. Else it is a least one, for some child. At a leaf a step is
-//! made. (Hausmann, Lehaut, Piterman, "Symbolic Solution of Emerson-Lei Games for Reactive Synthesis", 2024, whose marks
-//! are those of states.) First the states are found from which the player is never lost.
+//! A player wins from a state with a node of the tree if, from there on, an edge is taken that leaves the colours of
+//! the node and does well for a node above it, or else just colours of the node recur, and the player wins by them.
+//! Where the player wins by all colours of the node, this is a greatest fixpoint: for each child, the player wins until
+//! an edge leaves the child's colours and leads to the fixpoint. Else it is a least one, for some child. At a leaf a
+//! step is made. (Hausmann, Lehaut, Piterman, "Symbolic Solution of Emerson-Lei Games for Reactive Synthesis", 2024,
+//! whose marks are those of states.) First the states are found from which the player is never lost.
 //!
 //! What a node gives depends on itself and on what is won by leaving it, so it is computed once for each. The steps are
 //! those of the diagrams' budget.

@@ -1,6 +1,7 @@
 //! And-gates, each once.
 //!
-//! A diagram becomes a choice for each of its nodes; nodes that are shared become gates that are shared.
+//! A diagram becomes a choice for each of its nodes (Bryant, "Graph-Based Algorithms for Boolean Function
+//! Manipulation", 1986); nodes that are shared become gates that are shared. There are at most 1,048,576 gates.
 
 use ps_circuit::{Gate, Literal};
 use ps_keys::{KeyList, KeyMap};

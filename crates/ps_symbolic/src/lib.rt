@@ -13,13 +13,14 @@
 //!    functions of bits and letters in decision diagrams (`arena`). What the winner of a play depends on are the
 //!    *colours* that recur (`colours`).
 //! 3. The game is solved for any Boolean combination of recurring colours, by nested fixpoints along its Zielonka tree
-//!    (`tree`, `game`).
-//!    The winner first gives up what it does not need (`strengthening`).
-//! 4. The winner's moves are a relation between bits, letters and a memory (`relation`). From it functions are chosen, one
-//!    after another (`functions`), until they win from all that they reach (`closed`).
+//!    (`tree`, `game`). The winner first gives up what it does not need (`strengthening`, `aims`).
+//! 4. The winner's moves are a relation between bits, letters and a memory (`relation`). From it functions are chosen,
+//!    one after another (`functions`), until they win from all that they reach (`closed`, `renewal`). They are made
+//!    smaller there (`shrinking`).
 //! 5. The functions become gates and latches (`gates`, `circuit`).
 #![tactic(auto)]
 
+mod aims;
 mod arena;
 mod automata;
 mod circuit;
@@ -30,6 +31,7 @@ mod game;
 mod gates;
 mod order;
 mod relation;
+mod renewal;
 mod shrinking;
 mod strengthening;
 mod synthesis;

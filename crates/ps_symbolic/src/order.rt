@@ -1,7 +1,7 @@
 //! An order in which bits and propositions that belong together stand near one another.
 //!
-//! Each automaton draws its propositions and bits to their common centre of gravity; each of them goes to the mean of the
-//! centres that draw it, again and again (FORCE: Aloul, Markov, Sakallah, "FORCE: A Fast and Easy-To-Implement
+//! Each automaton draws its propositions and bits to their common centre of gravity; each of them goes to the mean of
+//! the centres that draw it, again and again (FORCE: Aloul, Markov, Sakallah, "FORCE: A Fast and Easy-To-Implement
 //! Variable-Ordering Heuristic", 2003). The number of rounds is fixed.
 
 use ps_parts::stop::Stop;

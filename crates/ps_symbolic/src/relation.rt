@@ -7,7 +7,8 @@
 //! turn, which is free where the play is won for good. An edge that leaves the colours of a child gives the turn to the
 //! next child.
 //!
-//! What nodes give is computed again here, from what the game has kept, down to each leaf.
+//! What nodes give is computed again here, from what the game has kept, down to each leaf. There are at most 65,536
+//! turns; the steps are those of the diagrams' budget.
 
 use crate::arena::{MEMORY, turn_next, turn_now};
 use crate::game::{DEPTH, Game};
@@ -192,7 +193,8 @@ impl Relation {
         Ok(())
     }
 
-    /// Records the moves of a frame by whose colours the player loses: for each state those by the first child that serves.
+    /// Records the moves of a frame by whose colours the player loses: for each state those by the first child that
+    /// serves.
     #[cycle(record)]
     fn record_one(
         &mut self,

@@ -1,8 +1,8 @@
 //! Fewer latches and gates, where only reached states matter.
 //!
 //! At the states that the closed loop reaches, and the edges that do not end the play, each function is replaced by a
-//! smaller one that agrees there. An output may depend on those before it, and what a latch is in the next state on all.
-//! The outputs come first, and then the latches that are needed; a latch that is needed anyway is left out last.
+//! smaller one that agrees there. An output may depend on those before it, and what a latch is in the next state on
+//! all. The outputs come first, and then the latches that are needed; a latch that is needed anyway is left out last.
 
 use crate::arena::{Bit, MEMORY};
 use crate::functions::{Bounds, Functions, Unknown};
@@ -29,8 +29,8 @@ impl Functions {
         Ok(())
     }
 
-    /// Makes the functions of the outputs smaller, which may depend on those before them. Gives the edges from some states
-    /// at which the outputs are those of the functions.
+    /// Makes the functions of the outputs smaller, which may depend on those before them. Gives the edges from some
+    /// states at which the outputs are those of the functions.
     fn shrink_outputs(&mut self, states: Diagram) -> Result<Diagram, Stop> {
         let mut edges = states;
         for place in 0..self.unknowns.len() {

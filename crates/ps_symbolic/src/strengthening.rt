@@ -1,22 +1,23 @@
 //! Conditions that are harder for the winner, and easier to play.
 //!
 //! A part whose truth can only harm the winner is taken as true: so no circuit leans on an assumption that it does not
-//! need, and an environment breaks few guarantees. A part that can only be of use must not fail, though the other player
-//! could be at fault later. If nothing else helps, parts that can only be of use are taken as false, so that the other
-//! player has to be at fault. A part that can only be of use, and waits for something, forgets what
-//! it waits for: `G (r -> F g)` becomes `G F g`. Both are kept where the winner still wins. Such parts are tried all at
+//! need, and an environment breaks few guarantees. A part that can only be of use must not fail, though the other
+//! player could be at fault later. If nothing else helps, parts that can only be of use are taken as false, so that the
+//! other player has to be at fault. A part that can only be of use, and waits for something, forgets what it waits for:
+//! `G (r -> F g)` becomes `G F g` (`aims`). All this is kept where the winner still wins. Such parts are tried all at
 //! once, then by halves.
 //!
 //! A part that holds in each play that does well by the other parts, whoever plays how, is left out.
 //!
 //! What wins so wins by the whole condition: each word that the winner then meets is one of those that it wins.
-//! All tries together take their steps from one budget.
+//! All tries together take their steps from one budget, each a part of what is left; there are at most 400.
 
 use crate::automata::{Automata, Changes, End};
 use crate::synthesis::{Player, game_of};
-use ps_parts::stop::Stop;
+use ps_parts::diagrams::{self, Diagram};
+use ps_parts::stop::{Stop, index};
 use ps_simulate::Role;
-use ps_tlsf::Specification;
+use ps_tlsf::{Side, Specification};
 use std::alloc::Global;
 
 /// The most tries.
@@ -27,6 +28,12 @@ const HALVES: u32 = 10;
 
 /// The least budget of a try.
 const FEWEST: u32 = 100_000;
+
+/// The parts of the budget of which a try has one.
+const SHARE: u32 = 4;
+
+/// The same of a short try.
+const SMALL_SHARE: u32 = 40;
 
 /// What is done to a part.
 #[derive(Clone, Copy, PartialEq, Eq)]
@@ -59,6 +66,10 @@ pub(crate) struct Strengthening {
     pub(crate) steps: u32,
     /// Those of them that are not for further tries.
     reserve: u32,
+    /// The steps of a try are one of so many parts of those that are left.
+    share: u32,
+    /// Whether a try passed its budget.
+    is_cut: bool,
     /// The tries that are left.
     tries: u32,
     /// The parts that may be changed.
@@ -74,6 +85,8 @@ impl Strengthening {
             role: Role::Controller,
             steps,
             reserve: 0,
+            share: SHARE,
+            is_cut: false,
             tries: TRIES,
             places: Vec::new(alloc),
         }
@@ -82,22 +95,161 @@ impl Strengthening {
     /// Finds the winner of a specification, and changes the automata.
     pub(crate) fn run(&mut self, specification: &Specification) -> Result<Role, Stop> {
         self.automata.prepare()?;
-        if !self.wins_by_less(specification)? {
+        if !self.is_decided(specification)? {
             self.decide(specification)?;
-            self.reserve = self.steps / 3 * 2;
-            self.list(Change::Assume)?;
-            self.change_halves(specification, Change::Assume)?;
         }
+        self.share = SHARE;
         self.reserve = self.steps / 3 * 2;
+        self.automata.prepare()?;
+        self.list(Change::Assume)?;
+        self.change_halves(specification, Change::Assume)?;
         for change in [Change::Forbid, Change::Forget] {
             self.automata.prepare()?;
             self.list(change)?;
+            if change == Change::Forget {
+                self.find_aims(specification)?;
+            }
             self.sort_by_shape()?;
             self.change_shapes(specification, change)?;
         }
         self.leave_out(specification)?;
         self.automata.prepare()?;
         Ok(self.role)
+    }
+
+    /// Whether the winner is found by a condition that is easier to play: in short tries, or else in longer ones.
+    fn is_decided(&mut self, specification: &Specification) -> Result<bool, Stop> {
+        for share in [SMALL_SHARE, SHARE] {
+            self.share = share;
+            self.is_cut = false;
+            if self.wins_by_less(specification)? || self.wins_by_all(specification)? {
+                return Ok(true);
+            }
+            if !self.is_cut {
+                break;
+            }
+        }
+        Ok(false)
+    }
+
+    /// Whether the controller wins without assumptions, or else without those that are recurrences if nothing fails.
+    fn wins_by_less(&mut self, specification: &Specification) -> Result<bool, Stop> {
+        self.role = Role::Controller;
+        self.automata.prepare()?;
+        self.list(Change::Assume)?;
+        if self.try_listed(specification, Change::Assume)? {
+            return Ok(true);
+        }
+        self.keep_recurrences();
+        if self.places.is_empty() {
+            return Ok(false);
+        }
+        self.set(Change::Assume, self.all_listed(), true);
+        if self.wins_by(specification, Role::Controller, Change::Forbid)? {
+            return Ok(true);
+        }
+        self.list_assumed()?;
+        self.set(Change::Assume, self.all_listed(), false);
+        Ok(false)
+    }
+
+    /// Whether a player wins where nothing fails, or the controller by the fault of the environment.
+    fn wins_by_all(&mut self, specification: &Specification) -> Result<bool, Stop> {
+        for (role, change) in [
+            (Role::Controller, Change::Forbid),
+            (Role::Controller, Change::Deny),
+            (Role::Environment, Change::Forbid),
+        ] {
+            if self.wins_by(specification, role, change)? {
+                return Ok(true);
+            }
+        }
+        Ok(false)
+    }
+
+    /// Finds who wins by the whole condition.
+    fn decide(&mut self, specification: &Specification) -> Result<(), Stop> {
+        self.role = Role::Controller;
+        self.share = SHARE;
+        if self.forget_all(specification)? {
+            if self.try_play_or_cut(specification)? {
+                return Ok(());
+            }
+            self.remember_all();
+        }
+        if !self.play(specification, self.steps / 2)? {
+            self.role = Role::Environment;
+        }
+        Ok(())
+    }
+
+    /// Whether a player wins if all parts are changed that may be.
+    fn wins_by(
+        &mut self,
+        specification: &Specification,
+        role: Role,
+        change: Change,
+    ) -> Result<bool, Stop> {
+        self.role = role;
+        self.automata.prepare()?;
+        self.list(change)?;
+        if change == Change::Deny {
+            self.keep_like_first()?;
+        }
+        self.try_listed(specification, change)
+    }
+
+    /// Changes the parts that are listed, if there are some and the winner still wins: where states are forgotten, or
+    /// else as they are.
+    fn try_listed(&mut self, specification: &Specification, change: Change) -> Result<bool, Stop> {
+        if self.places.is_empty() {
+            return Ok(false);
+        }
+        self.set(change, self.all_listed(), true);
+        if self.forget_all(specification)? {
+            if self.try_play_or_cut(specification)? {
+                return Ok(true);
+            }
+            self.remember_all();
+        }
+        let is_won = self.try_play_or_cut(specification)?;
+        if !is_won {
+            self.set(change, self.all_listed(), false);
+        }
+        Ok(is_won)
+    }
+
+    /// Lets all parts forget their states that may; gives whether there are some.
+    fn forget_all(&mut self, specification: &Specification) -> Result<bool, Stop> {
+        self.automata.prepare()?;
+        let other = self.others(specification)?;
+        let is_harm = self.role == Role::Environment;
+        let mut is_any = false;
+        for place in 0..self.automata.list.len() {
+            if self.automata.is_only(place, is_harm)? {
+                is_any |= self.automata.forget(place, other)?;
+            }
+        }
+        Ok(is_any)
+    }
+
+    /// Lets no part forget its states.
+    fn remember_all(&mut self) {
+        for automaton in self.automata.list.iter_mut() {
+            automaton.remember();
+        }
+    }
+
+    /// Whether the player who is to win does, in a try.
+    fn try_play_or_cut(&mut self, specification: &Specification) -> Result<bool, Stop> {
+        let steps = (self.steps / self.share.max(1)).max(FEWEST);
+        match self.play(specification, steps) {
+            Err(Stop::Limit) => {
+                self.is_cut = true;
+                Ok(false)
+            }
+            other => other,
+        }
     }
 
     /// Leaves out recurrences that the other parts imply.
@@ -148,67 +300,6 @@ impl Strengthening {
         }
     }
 
-    /// Whether the controller wins without assumptions, or else without those that are recurrences if nothing fails.
-    fn wins_by_less(&mut self, specification: &Specification) -> Result<bool, Stop> {
-        self.list(Change::Assume)?;
-        if self.try_listed(specification, Change::Assume)? {
-            return Ok(true);
-        }
-        self.keep_recurrences();
-        if self.places.is_empty() {
-            return Ok(false);
-        }
-        self.set(Change::Assume, self.all_listed(), true);
-        if self.wins_by(specification, Role::Controller, Change::Forbid)? {
-            return Ok(true);
-        }
-        self.list_assumed()?;
-        self.set(Change::Assume, self.all_listed(), false);
-        Ok(false)
-    }
-
-    /// Finds who wins by the whole condition: by one that is easier to play, if that is enough.
-    fn decide(&mut self, specification: &Specification) -> Result<(), Stop> {
-        for (role, change) in [
-            (Role::Controller, Change::Forbid),
-            (Role::Controller, Change::Deny),
-            (Role::Environment, Change::Forbid),
-        ] {
-            if self.wins_by(specification, role, change)? {
-                return Ok(());
-            }
-        }
-        self.role = Role::Controller;
-        if !self.play(specification, self.steps / 2)? {
-            self.role = Role::Environment;
-        }
-        Ok(())
-    }
-
-    /// Whether a player wins if all parts are changed that may be.
-    fn wins_by(
-        &mut self,
-        specification: &Specification,
-        role: Role,
-        change: Change,
-    ) -> Result<bool, Stop> {
-        self.role = role;
-        self.automata.prepare()?;
-        self.list(change)?;
-        if change == Change::Deny {
-            self.keep_like_first()?;
-        }
-        self.try_listed(specification, change)
-    }
-
-    /// Changes the parts that are listed, if there are some and the winner still wins.
-    fn try_listed(&mut self, specification: &Specification, change: Change) -> Result<bool, Stop> {
-        if self.places.is_empty() {
-            return Ok(false);
-        }
-        self.try_change(specification, change, self.all_listed())
-    }
-
     /// Lists the parts that are taken as true.
     fn list_assumed(&mut self) -> Result<(), Stop> {
         self.places.clear();
@@ -239,6 +330,34 @@ impl Strengthening {
             }
         }
         Ok(())
+    }
+
+    /// Finds aims of the parts that are listed.
+    fn find_aims(&mut self, specification: &Specification) -> Result<(), Stop> {
+        let other = self.others(specification)?;
+        for place in &self.places {
+            if let Some(automaton) = self.automata.list.get_mut(*place) {
+                automaton.find_aim(&mut self.automata.world, other)?;
+            }
+        }
+        Ok(())
+    }
+
+    /// The propositions that the other player sets, in the store of the automata.
+    fn others(&mut self, specification: &Specification) -> Result<Diagram, Stop> {
+        let side = match self.role {
+            Role::Controller => Side::Inputs,
+            Role::Environment => Side::Outputs,
+        };
+        let mut cube = diagrams::TRUE;
+        for (place, proposition) in specification.propositions.iter().enumerate() {
+            if proposition.side == side {
+                let variable = index(place)?;
+                let one = self.automata.world.diagrams.variable(variable)?;
+                cube = self.automata.world.diagrams.both(cube, one)?;
+            }
+        }
+        Ok(cube)
     }
 
     /// Lists only those that are recurrences.
@@ -389,11 +508,7 @@ impl Strengthening {
             return Ok(false);
         }
         self.set(change, range, true);
-        let steps = (self.steps / 4).max(FEWEST);
-        let is_won = match self.play(specification, steps) {
-            Err(Stop::Limit) => false,
-            other => other?,
-        };
+        let is_won = self.try_play_or_cut(specification)?;
         if !is_won {
             self.set(change, range, false);
         }

@@ -2,8 +2,8 @@
 //!
 //! The root is the set of all colours. The children of a set are its greatest subsets that satisfy the condition if it
 //! does not, and do not if it does (Zielonka, "Infinite Games on Finitely Coloured Graphs with Applications to Automata
-//! on Infinite Trees", 1998). Equal sets are one node: what is below a set depends on nothing else. The number of nodes is
-//! limited.
+//! on Infinite Trees", 1998). Equal sets are one node: what is below a set depends on nothing else. There are at
+//! most 3,000 nodes.
 
 use ps_keys::KeyList;
 use ps_parts::diagrams::{self, Diagram, Diagrams, View};
