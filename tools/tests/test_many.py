@@ -298,6 +298,16 @@ class Circuits(Many):
         with open(os.path.join(self.room, "out", "a1.aig"), "rb") as file:
             self.assertTrue(binary.ascii_form(file.read()).startswith(b"aag "))
 
+    def test_a_list_writes_nothing_outside_the_folder(self):
+        os.mkdir(os.path.join(self.room, "out"))
+        path = os.path.join(self.room, "specs", "a1.tlsf")
+        self.file("specs/deep/it.runs", f"../a2.tlsf\n{path}\nb.tlsf\n".encode())
+        before = set(os.listdir(self.room)) | set(os.listdir(os.path.join(self.room, "specs")))
+        self.assertEqual(len(self.said("each", "--quiet", "-o", "out", "synth", "specs/deep/it.runs")[0]), 3)
+        after = set(os.listdir(self.room)) | set(os.listdir(os.path.join(self.room, "specs")))
+        self.assertEqual(after, before)
+        self.assertEqual(sorted(os.listdir(os.path.join(self.room, "out"))), ["a1.aag", "a2.aag", "b.aag"])
+
     def test_names_that_meet_are_refused(self):
         self.assertEqual(self.said("each", "-o", "no", "synth", "spec")[1], ["psyn: -o PREFIX: there is no folder no"])
         self.assertEqual(

@@ -104,10 +104,17 @@ def of_list(command, kinds, path):
                 f"{title_of(path)}:{row}: {command.name} reads {words.counted(kinds, 'file')}, "
                 f"and here {'stands' if len(names) == 1 else 'stand'} {len(names)}"
             )
-        found.append(Run(tuple(os.path.join(folder, name) for name in names), settings, names[0]))
+        found.append(Run(tuple(os.path.join(folder, name) for name in names), settings, place_of(names[0])))
     if not found:
         raise Refused(f"{title_of(path)}: this list names no file")
     return found
+
+
+def place_of(name):
+    """The path of a file from the folder of its list; of a file that is not below this folder, its name alone."""
+    place = os.path.normpath(name)
+    is_below = not os.path.isabs(place) and place.split(os.sep)[0] != os.pardir
+    return place if is_below else os.path.basename(place)
 
 
 def parted(command, line, place):

@@ -43,7 +43,8 @@ class Worker:
         os.close(writing)
 
     def serve(self, work, writing, bound):
-        """The child's whole life: it sends what came of the run."""
+        """The child's whole life: it sends what came of the run, and ends with status 0 if all of it is sent."""
+        status = FAULT
         try:
             apart(0)
             bound()
@@ -53,13 +54,14 @@ class Worker:
             said = pickle.dumps(measured(work, self.run))
             while said:
                 said = said[os.write(writing, said[:STEP]) :]
+            status = 0
         except Stopped:
             pass
         except BaseException:
             # A bug of the tool, which is told as one that no process of its own has.
             sys.excepthook(*sys.exc_info())
         finally:
-            os._exit(FAULT)
+            os._exit(status)
 
     def read(self):
         """Reads what the process has sent, and returns whether more can follow."""
@@ -72,7 +74,7 @@ class Worker:
         status = os.waitpid(self.number, 0)[1]
         self.number = None
         self.close()
-        if self.said:
+        if status == 0:
             return pickle.loads(self.said)
         if signals.pending:
             return None
